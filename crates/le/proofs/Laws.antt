@@ -1,0 +1,88 @@
+-- Laws of numbers in bytes, each over the width.
+use Prim.Native.Nat.{ℕ, zero, suc, _+_, _-_, _*_, _/_, _%_, _^_, _≤_, _<_}
+use native.Mathlib.Omega.{arith}
+use native.Mathlib.Nat.{zero-add, add-zero, suc-add, mul-assoc, pow-succ', div-one, div-div-eq-div-mul, mod-add-div}
+use mathlib.Core.Path.{_≡_, refl, ap, sym, _∙_}
+use mathlib.Core.List.{List, [], _∷_, _++_}
+use lib.ListN.{length, take, drop, getD, drop-of-length-le, length-drop}
+use lib.Seq.{take-nil, take-all, getD-drop}
+use Rattle.le.specs.Le.{val, numberAt, le}
+
+times-next : (n k : ℕ) → 256 ^ suc n * k ≡ 256 * (256 ^ n * k)
+times-next n k = ap (λ p. p * k) (pow-succ' 256 n) ∙ mul-assoc 256 (256 ^ n) k
+
+-- n bytes and then m bytes, also where the bytes end before that
+pub val-split : (n m : ℕ) (l : List ℕ) → val (take (n + m) l) ≡ val (take n l) + 256 ^ n * val (take m (drop n l))
+unfolding val
+val-split zero m l = rw (zero-add m) (omega arith)
+val-split (suc n) m [] = rw (suc-add n m, take-nil m) (omega arith)
+val-split (suc n) m (b ∷ l) =
+    rw (suc-add n m) (omega (arith, val-split n m l, times-next n (val (take m (drop n l)))))
+
+pub val-one : (l : List ℕ) → val (take 1 l) ≡ getD l 0 0
+unfolding val
+val-one [] = refl
+val-one (b ∷ l) = omega arith
+
+-- the part of bytes from a place on, as code lends it
+abbrev pub rest : List ℕ → ℕ → List ℕ
+rest l at = take (length l - at) (drop at l)
+
+pub rest-drop : (l : List ℕ) (at : ℕ) → rest l at ≡ drop at l
+rest-drop l at = take-all (length l - at) (drop at l) (simp length-drop (omega arith))
+
+-- a number at a place is made of its halves
+pub numberAt-halves : (w : ℕ) (l : List ℕ) (at : ℕ) {low high : ℕ} → low ≡ numberAt w (rest l at) 0 → high ≡ numberAt w (rest l at) w → low + 256 ^ w * high ≡ numberAt (w + w) l at
+unfolding numberAt
+numberAt-halves w l at e f = rw (e, f, rest-drop l at) (sym (val-split w w (drop at l)))
+
+-- the same number, in the part that starts at its place
+pub numberAt-rest : (w : ℕ) (l : List ℕ) (at : ℕ) → numberAt w (rest l at) 0 ≡ numberAt w l at
+unfolding numberAt
+numberAt-rest w l at = rw (rest-drop l at)
+
+pub numberAt-four : (l : List ℕ) → getD l 0 0 + 256 * getD l 1 0 + 65536 * getD l 2 0 + 16777216 * getD l 3 0 ≡ numberAt 4 l 0
+unfolding numberAt val
+numberAt-four [] = refl
+numberAt-four (a ∷ []) = omega arith
+numberAt-four (a ∷ b ∷ []) = omega arith
+numberAt-four (a ∷ b ∷ c ∷ []) = omega arith
+numberAt-four (a ∷ b ∷ c ∷ d ∷ l) = omega arith
+
+pub numberAt-byte : (l : List ℕ) (at : ℕ) → numberAt 1 l at ≡ getD l at 0
+unfolding numberAt
+numberAt-byte l at = val-one (drop at l) ∙ getD-drop at l 0 0 ∙ ap (λ k. getD l k 0) (add-zero at)
+
+pub numberAt-past : (w : ℕ) (l : List ℕ) (at : ℕ) → length l ≤ at → numberAt w l at ≡ 0
+unfolding numberAt val
+numberAt-past w l at h = rw (drop-of-length-le l {i = at} h, take-nil w)
+
+le-more : (n y k : ℕ) → le n (y + 256 ^ n * k) ≡ le n y
+unfolding le
+le-more zero y k = refl
+le-more (suc n) y k =
+    let lowest : (y + 256 ^ suc n * k) % 256 ≡ y % 256 = omega (arith, times-next n k) in
+    let others : (y + 256 ^ suc n * k) / 256 ≡ y / 256 + 256 ^ n * k = omega (arith, times-next n k) in
+    rw (lowest, others, le-more n (y / 256) k)
+
+-- the w lowest bytes are those of the remainder
+pub le-remainder : (w x : ℕ) → le w (x % 256 ^ w) ≡ le w x
+le-remainder w x = sym (le-more w (x % 256 ^ w) (x / 256 ^ w)) ∙ ap (le w) (mod-add-div x (256 ^ w))
+
+pub le-split : (n m x : ℕ) → le (n + m) x ≡ le n x ++ le m (x / 256 ^ n)
+unfolding le
+le-split zero m x = rw (zero-add m, div-one x)
+le-split (suc n) m x = rw (suc-add n m, le-split n m (x / 256), pow-succ' 256 n, div-div-eq-div-mul x 256 (256 ^ n))
+
+-- the bytes of a number are those of its halves
+pub le-halves : (w x : ℕ) → le (w + w) x ≡ le w (x % 256 ^ w) ++ le w (x / 256 ^ w)
+le-halves w x = rw (le-remainder w x) (le-split w w x)
+
+pub length-le : (w x : ℕ) → length (le w x) ≡ w
+unfolding le
+length-le zero x = refl
+length-le (suc w) x = ap suc (length-le w (x / 256))
+
+pub le-byte : (b : ℕ) → b < 256 → le 1 b ≡ b ∷ []
+unfolding le
+le-byte b h = ap (λ k. k ∷ []) (omega arith)

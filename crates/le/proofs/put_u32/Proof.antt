@@ -1,0 +1,52 @@
+-- `le::put_u32`: nothing past the end, else the two halves into the part that starts at the place.
+use Rattle.le.proofs.Stores.{put-past, put-halves}
+use borrow.Author.Needs.{needs}
+use Rattle.le.proofs.put_u32.Statement.{statement}
+use Rattle.le.proofs.put_u32.Tie as tie
+
+returns : tie.Need-returns
+returns c = put-past 4 (c .before .before .args .out .now) (c .before .before .args .at) (c .before .before .args .x) (search needs)
+
+sub-rest : tie.Need-sub-rest
+sub-rest c = search needs
+
+part-rest-start : tie.Need-part-rest-start
+part-rest-start c = search needs
+
+part-rest-end : tie.Need-part-rest-end
+part-rest-end c = search needs
+
+cast-put-u16 : tie.Need-cast-put-u16
+cast-put-u16 c = search needs
+
+put-u16-requires : tie.Need-put-u16-requires
+put-u16-requires c κs = search needs
+
+cast-put-u16-2 : tie.Need-cast-put-u16-2
+cast-put-u16-2 c = search needs
+
+put-u16-requires-2 : tie.Need-put-u16-requires-2
+put-u16-requires-2 c κs = search needs
+
+same-length : tie.Need-same-length
+same-length c = search needs
+
+returns-2 : tie.Need-returns-2
+returns-2 c =
+    let b = c .before .before .before .before .before .before .before .before .before .before in
+    put-halves 2 (b .args .out .now) (b .args .at) (b .args .x) (c .before .before .before .before .before .put-u16 .ensures) (c .before .before .put-u162 .ensures)
+
+pub put-u32-spec : {M : Type 1} → statement M
+put-u32-spec =
+    tie.close
+    (tie.spec
+    returns
+    sub-rest
+    part-rest-start
+    part-rest-end
+    cast-put-u16
+    put-u16-requires
+    cast-put-u16-2
+    put-u16-requires-2
+    same-length
+    returns-2)

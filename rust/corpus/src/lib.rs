@@ -1,0 +1,26 @@
+//! Seeded generators of Cast files and of the inputs built on them.
+//!
+//! * [`valid`] makes files that every rule accepts, [`large`] makes big ones.
+//! * [`mutate`] damages a valid file and, where one fault decides, says which
+//!   refusal must follow.
+//! * [`plans`], [`trims`] and [`lookups`] make inputs of the writer, the
+//!   trimmer and the property lookup.
+//!
+//! Everything is a function of a seed: the same seed gives the same bytes on
+//! every machine.
+
+#![forbid(unsafe_code)]
+
+pub mod expect;
+pub mod format;
+pub mod large;
+pub mod lookups;
+pub mod mutate;
+pub mod plans;
+pub mod rng;
+pub mod rows;
+pub mod tree;
+pub mod trims;
+pub mod valid;
+
+pub use rng::Rng;

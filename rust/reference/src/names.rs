@@ -1,0 +1,37 @@
+//! Property names.
+
+pub(crate) const MAX_NAME: usize = 32;
+
+/// 1 to 32 bytes, none of them zero and none `A` to `Z`.
+pub fn name_ok(name: &[u8]) -> bool {
+    (1..=MAX_NAME).contains(&name.len()) && name_bytes_ok(name)
+}
+
+pub(crate) fn name_bytes_ok(name: &[u8]) -> bool {
+    name.iter().all(|&b| b != 0 && !b.is_ascii_uppercase())
+}
+
+/// The number in a name of the pattern `prefix%d`: one to three digits after the prefix, no leading
+/// zero unless it is `0`.
+pub fn numbered(prefix: &[u8], name: &[u8]) -> Option<u32> {
+    let digits = name.strip_prefix(prefix)?;
+    let shape = match digits {
+        [b'0'] => true,
+        [b'1'..=b'9', rest @ ..] => rest.len() <= 2 && rest.iter().all(u8::is_ascii_digit),
+        _ => false,
+    };
+    let value = |n: u32, digit: &u8| n * 10 + u32::from(digit - b'0');
+    shape.then(|| digits.iter().fold(0, value))
+}
+
+/// A short stand-in for a name: its length and first seven bytes. Unequal keys are unequal names,
+/// and up to seven bytes equal keys are equal names.
+pub(crate) const fn key(name: &[u8]) -> u64 {
+    let mut key = name.len() as u64;
+    let mut i = 0;
+    while i < name.len() && i < 7 {
+        key = key << 8 | name[i] as u64;
+        i += 1;
+    }
+    key
+}

@@ -1,0 +1,36 @@
+//! The cases that the program `crates/vectors` runs, and the answers that it must print.
+//!
+//! A case is a frame on the program's standard input (the layout is in `crates/vectors/src/frame.rt`), and a line on its
+//! standard output: the function's number, then the answer and a checksum of each lent buffer. The inputs come from
+//! `corpus`, the answers from `reference`. The functions' numbers are listed in [`function`].
+
+#![forbid(unsafe_code)]
+
+mod frame;
+mod numbers;
+
+use frame::Cases;
+
+/// The functions by number, as `crates/vectors` knows them.
+pub mod function {
+    pub const U16_AT: u32 = 1;
+    pub const U32_AT: u32 = 2;
+    pub const U64_AT: u32 = 3;
+    pub const PUT_U16: u32 = 4;
+    pub const PUT_U32: u32 = 5;
+    pub const PUT_U64: u32 = 6;
+}
+
+/// The whole of standard input, the whole of standard output, and the number of cases.
+pub struct Vectors {
+    pub stdin: Vec<u8>,
+    pub stdout: Vec<u8>,
+    pub cases: usize,
+}
+
+/// All cases, the same at every call.
+pub fn make() -> Vectors {
+    let mut cases = Cases::default();
+    numbers::add(&mut cases);
+    cases.finish()
+}
