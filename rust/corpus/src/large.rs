@@ -1,7 +1,7 @@
 //! Valid files near the limits, for measurements.
 
 use crate::format::{
-    BONE, B, F, FILE, I, L, MATERIAL, MAX_FILE, MAX_NODES, MAX_PROPERTIES, MESH, MODEL, ROOT,
+    B, BONE, F, FILE, H, I, L, MATERIAL, MAX_FILE, MAX_NODES, MAX_PROPERTIES, MESH, MODEL, ROOT,
     SKELETON, V2, V3,
 };
 use crate::rng::Rng;
@@ -12,10 +12,11 @@ use crate::valid::unknown;
 pub type Maker = (&'static str, fn(&mut Rng) -> File);
 
 /// All makers of this module.
-pub const ALL: [Maker; 11] = [
+pub const ALL: [Maker; 12] = [
     ("many vertices", many_vertices),
     ("many small faces", many_small_faces),
     ("many wide faces", many_wide_faces),
+    ("many short faces", many_short_faces),
     ("huge string", huge_string),
     ("many strings", many_strings),
     ("most short properties", most_short_properties),
@@ -35,7 +36,8 @@ fn in_model(node: Node) -> File {
 /// A mesh with positions, normals, a layer of each sort, weights and faces.
 pub fn many_vertices(rng: &mut Rng) -> File {
     let vertices = 200_000;
-    let mut random = |code, name, size| Property::array(code, name, rng.bytes(size * vertices));
+    let mut random =
+        |code, name, size: usize| Property::array(code, name, rng.bytes(size * vertices));
     let mut properties = vec![
         random(V3, "vp", 12),
         random(V3, "vn", 12),
@@ -68,6 +70,14 @@ pub fn many_wide_faces(rng: &mut Rng) -> File {
         vec![0; 36],
         Property::array(I, "f", numbers_data(4, &numbers)),
     )
+}
+
+/// Faces of two bytes an index, with as many vertices as they can tell apart.
+pub fn many_short_faces(rng: &mut Rng) -> File {
+    let vertices = 1 << 16;
+    let indices = (MAX_FILE - 300 - 12 * vertices) / 6 * 3;
+    let faces = Property::array(H, "f", rng.bytes(2 * indices));
+    mesh_of(vec![0; 12 * vertices], faces)
 }
 
 fn mesh_of(positions: Vec<u8>, faces: Property) -> File {

@@ -11,6 +11,24 @@
 
 #![forbid(unsafe_code)]
 
+/// An enum whose cases have names, with the list `ALL` of its cases.
+macro_rules! named {
+    ($(#[$doc:meta])* $enum:ident: $($variant:ident $name:literal),* $(,)?) => {
+        $(#[$doc])*
+        #[derive(Clone, Copy, Debug, PartialEq, Eq, PartialOrd, Ord, Hash)]
+        pub enum $enum { $($variant),* }
+
+        /// Every case, in order.
+        pub const ALL: &[$enum] = &[$($enum::$variant),*];
+
+        impl $enum {
+            pub fn name(self) -> &'static str {
+                match self { $($enum::$variant => $name),* }
+            }
+        }
+    };
+}
+
 pub mod expect;
 pub mod format;
 pub mod large;

@@ -164,6 +164,30 @@ impl File {
         self.rows(|node| node.kind == kind)
     }
 
+    /// The file without the nodes of these rows and what lies below them.
+    pub fn without(&self, removed: &[usize]) -> File {
+        fn keep(nodes: &[Node], row: &mut usize, removed: &[usize]) -> Vec<Node> {
+            let mut out = Vec::new();
+            for node in nodes {
+                let stays = !removed.contains(row);
+                *row += 1;
+                let children = keep(&node.children, row, removed);
+                if stays {
+                    let node = Node {
+                        children,
+                        ..node.clone()
+                    };
+                    out.push(node);
+                }
+            }
+            out
+        }
+        File {
+            roots: keep(&self.roots, &mut 0, removed),
+            ..self.clone()
+        }
+    }
+
     pub fn encode(&self) -> Encoded {
         let mut out = Encoded::default();
         let root_count = self.root_count.unwrap_or(self.roots.len() as u32);

@@ -2,35 +2,43 @@
 
 use crate::kinds::{BONE, FILE, MATERIAL, MESH};
 use crate::table::{hash, KIND, ROW, TABLE_ROWS};
+use std::ops::Range;
 
-/// The nodes that links may reach, sorted.
+/// The kinds that links reach.
+const REACHED: [u32; 4] = [MATERIAL, MESH, BONE, FILE];
+
+/// The hashes of the nodes of these kinds, sorted within each kind.
 pub(crate) struct Targets {
-    nodes: [(u32, u64); TABLE_ROWS],
-    count: usize,
+    hashes: [u64; TABLE_ROWS],
+    kinds: [Range<usize>; REACHED.len()],
 }
 
 impl Targets {
     pub fn new(rows: &[u32]) -> Targets {
-        let mut nodes = [(0, 0); TABLE_ROWS];
-        let mut count = 0;
-        for row in rows.chunks_exact(ROW) {
-            if matches!(row[KIND], MATERIAL | MESH | BONE | FILE) {
-                nodes[count] = (row[KIND], hash(row));
-                count += 1;
+        let mut hashes = [0; TABLE_ROWS];
+        let mut end = 0;
+        let kinds = REACHED.map(|kind| {
+            let start = end;
+            for row in rows.chunks_exact(ROW).filter(|row| row[KIND] == kind) {
+                hashes[end] = hash(row);
+                end += 1;
             }
-        }
-        nodes[..count].sort_unstable();
-        Targets { nodes, count }
+            hashes[start..end].sort_unstable();
+            start..end
+        });
+        Targets { hashes, kinds }
     }
 
     /// 0 where exactly one node has the kind and hash, else 16 or 17.
     pub fn resolve(&self, kind: u32, hash: u64) -> u32 {
-        let nodes = &self.nodes[..self.count];
-        let target = (kind, hash);
-        let first = nodes.partition_point(|&node| node < target);
-        if nodes.get(first) != Some(&target) {
+        let Some(index) = REACHED.iter().position(|&reached| reached == kind) else {
+            return 16;
+        };
+        let hashes = &self.hashes[self.kinds[index].clone()];
+        let first = hashes.partition_point(|&other| other < hash);
+        if hashes.get(first) != Some(&hash) {
             16
-        } else if nodes.get(first + 1) == Some(&target) {
+        } else if hashes.get(first + 1) == Some(&hash) {
             17
         } else {
             0

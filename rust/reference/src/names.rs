@@ -24,12 +24,14 @@ pub fn numbered(prefix: &[u8], name: &[u8]) -> Option<u32> {
     shape.then(|| digits.iter().fold(0, value))
 }
 
+pub(crate) const KEY_BYTES: usize = 7;
+
 /// A short stand-in for a name: its length and first seven bytes. Unequal keys are unequal names,
 /// and up to seven bytes equal keys are equal names.
 pub(crate) const fn key(name: &[u8]) -> u64 {
     let mut key = name.len() as u64;
     let mut i = 0;
-    while i < name.len() && i < 7 {
+    while i < name.len() && i < KEY_BYTES {
         key = key << 8 | name[i] as u64;
         i += 1;
     }

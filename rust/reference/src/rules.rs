@@ -1,7 +1,7 @@
 //! The property rules of the known kinds, in one table.
 
 use crate::kinds::*;
-use crate::names::{key, numbered};
+use crate::names::{key, numbered, KEY_BYTES};
 use crate::types::*;
 
 /// What is judged of a listed property beyond its type and its being single or an array.
@@ -213,7 +213,7 @@ impl Rule {
         if self.numbered {
             numbered(self.name, name).is_some()
         } else {
-            self.key == key && self.name == name
+            self.key == key && (name.len() <= KEY_BYTES || self.name == name)
         }
     }
 

@@ -57,7 +57,7 @@ fn the_whole_walk_comes_before_the_rules() {
     assert_refused(&file, 12, 84);
 }
 
-/// A mesh with 13 at its second `x`, 14 for want of f, 15 at vn.
+/// A mesh with these properties alone.
 fn mesh(props: Vec<Prop>) -> Node {
     node(b"mesh", 0, props, vec![])
 }

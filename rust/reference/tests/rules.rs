@@ -272,7 +272,8 @@ fn thirteen_a_name_twice() {
         node.props = props;
         let node = node.clone();
         let bytes = file(&[tree]);
-        let end = place(&bytes, &node.bytes()) as usize + node.bytes().len();
+        let header = place(&bytes, &node.bytes()) as usize;
+        let end = header + 24 + node.props.iter().map(|p| p.bytes.len()).sum::<usize>();
         let size = node.props.last().unwrap().bytes.len();
         assert_refused(&bytes, 13, (end - 2 * size) as u32);
     }

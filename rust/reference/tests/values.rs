@@ -273,6 +273,32 @@ fn bone_parents() {
 }
 
 #[test]
+fn names_near_a_listed_one_are_free() {
+    for name in [
+        "speculas",
+        "specula",
+        "speculara",
+        "emissiva",
+        "roughnesz",
+        "roughnass",
+        "albed",
+        "albedoo",
+        "diffusf",
+        "extra",
+        "extra00",
+        "extra1000",
+        "extr0",
+        "extrb0",
+        "nn",
+        "tt",
+    ] {
+        let mut tree = everything();
+        tree.find(b"matl").props.push(zeros("d", name, 3));
+        assert_eq!(accepted(&file(&[tree])).0.links, 21);
+    }
+}
+
+#[test]
 fn unknown_nodes_are_not_read() {
     let mut inside = node(
         b"mesh",

@@ -52,7 +52,9 @@ impl Cases {
 
 /// What a lent buffer of bytes holds at first.
 pub fn filled(len: usize, seed: u32) -> Vec<u8> {
-    (0..len as u32).map(|i| (seed % 256 + 37 * (i % 256)) as u8).collect()
+    (0..len as u32)
+        .map(|i| (seed % 256 + 37 * (i % 256)) as u8)
+        .collect()
 }
 
 /// The checksum of what a buffer of bytes holds at last.

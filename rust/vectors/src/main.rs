@@ -7,6 +7,11 @@ fn main() -> io::Result<()> {
     let program = Path::new(env!("CARGO_MANIFEST_DIR")).join("../../crates/vectors");
     fs::write(program.join("stdin"), &made.stdin)?;
     fs::write(program.join("stdout"), &made.stdout)?;
-    println!("{} cases, {} bytes in, {} bytes out", made.cases, made.stdin.len(), made.stdout.len());
+    println!(
+        "{} cases, {} bytes in, {} bytes out",
+        made.cases,
+        made.stdin.len(),
+        made.stdout.len()
+    );
     Ok(())
 }

@@ -24,7 +24,9 @@ fn number_at(bytes: &[u8], at: u64, width: usize) -> u64 {
 
 /// The lowest `width` bytes of a number from a place on, as far as they fit.
 fn put(out: &mut [u8], at: u64, number: u64, width: usize) {
-    let Ok(start) = usize::try_from(at) else { return };
+    let Ok(start) = usize::try_from(at) else {
+        return;
+    };
     let bytes = number.to_le_bytes();
     for (to, from) in out.iter_mut().skip(start).zip(&bytes[..width]) {
         *to = *from;
@@ -39,14 +41,26 @@ pub fn add(cases: &mut Cases) {
         for (function, width) in [(U16_AT, 2), (U32_AT, 4), (U64_AT, 8)] {
             let x = place(&mut rng, len);
             let answer = number_at(&bytes, x, width);
-            let case = Case { function, first: &bytes, x, ..Case::default() };
+            let case = Case {
+                function,
+                first: &bytes,
+                x,
+                ..Case::default()
+            };
             cases.add(&case, &[answer]);
         }
         for (function, width) in [(PUT_U16, 2), (PUT_U32, 4), (PUT_U64, 8)] {
             let (x, y, seed) = (place(&mut rng, len), rng.next_u64(), rng.next_u32());
             let mut out = filled(len, seed);
             put(&mut out, x, y, width);
-            let case = Case { function, first: &bytes, seed, x, y, ..Case::default() };
+            let case = Case {
+                function,
+                first: &bytes,
+                seed,
+                x,
+                y,
+                ..Case::default()
+            };
             cases.add(&case, &[checksum(&out)]);
         }
     }

@@ -6,10 +6,21 @@ use std::{fs, path::Path};
 fn the_committed_cases_are_current() {
     let program = Path::new(env!("CARGO_MANIFEST_DIR")).join("../../crates/vectors");
     let made = vectors::make();
-    println!("{} cases, {} bytes in, {} bytes out", made.cases, made.stdin.len(), made.stdout.len());
-    assert!(made.stdin.len() + made.stdout.len() < 2 << 20, "two megabytes are enough");
+    println!(
+        "{} cases, {} bytes in, {} bytes out",
+        made.cases,
+        made.stdin.len(),
+        made.stdout.len()
+    );
+    assert!(
+        made.stdin.len() + made.stdout.len() < 2 << 20,
+        "two megabytes are enough"
+    );
     for (name, bytes) in [("stdin", &made.stdin), ("stdout", &made.stdout)] {
         let committed = fs::read(program.join(name)).expect("the file is there");
-        assert!(committed == *bytes, "{name} is not what `cargo run --release -p vectors` makes");
+        assert!(
+            committed == *bytes,
+            "{name} is not what `cargo run --release -p vectors` makes"
+        );
     }
 }

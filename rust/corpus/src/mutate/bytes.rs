@@ -1,8 +1,9 @@
 //! Damage of the encoded bytes.
 
-use crate::format::{is_known, KINDS};
+use crate::format::KINDS;
 use crate::rng::Rng;
 use crate::tree::Encoded;
+use crate::valid::unknown;
 
 pub(super) fn byte_change(rng: &mut Rng, mut bytes: Vec<u8>) -> Vec<u8> {
     let at = rng.below(bytes.len());
@@ -118,11 +119,10 @@ fn put_header(rng: &mut Rng, bytes: &mut [u8], at: usize, size: u32) {
     let Some(header) = bytes.get_mut(at..at + 24) else {
         return;
     };
-    let mut kind = rng.pick(&KINDS).0;
-    if rng.chance(20) {
-        kind ^= 1;
-        debug_assert!(!is_known(kind));
-    }
+    let kind = match rng.chance(20) {
+        true => unknown::kind(rng),
+        false => rng.pick(&KINDS).0,
+    };
     let size = match rng.chance(70) {
         true => size,
         false => rng.below(size as usize + 2) as u32,

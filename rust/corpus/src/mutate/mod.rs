@@ -14,25 +14,9 @@ use crate::format::MAX_FILE;
 use crate::rng::Rng;
 use crate::tree::{Encoded, File};
 
-/// Declares the kinds of damage with their names.
-macro_rules! damages {
-    ($($variant:ident $name:literal),* $(,)?) => {
-        /// A kind of damage.
-        #[derive(Clone, Copy, Debug, PartialEq, Eq, PartialOrd, Ord, Hash)]
-        pub enum Damage { $($variant),* }
-
-        /// Every kind of damage.
-        pub const ALL: &[Damage] = &[$(Damage::$variant),*];
-
-        impl Damage {
-            pub fn name(self) -> &'static str {
-                match self { $(Damage::$variant => $name),* }
-            }
-        }
-    };
-}
-
-damages! {
+named! {
+    /// A kind of damage.
+    Damage:
     ByteChange "byte change",
     BitFlip "bit flip",
     FieldChange "header field",
@@ -82,6 +66,7 @@ damages! {
     DanglingLink "dangling link",
     DoubledTarget "doubled target",
     TwoFaults "two faults",
+    ManyFaults "several faults",
 }
 
 /// Where a fault lies, before the tree is encoded.
@@ -126,7 +111,8 @@ pub fn damage(rng: &mut Rng, file: &File, damage: Damage) -> Option<Damaged> {
         Damage::Splice => (bytes::splice(rng, encoded.bytes), None),
         Damage::RandomBytes => (bytes::random(rng), None),
         Damage::RandomNodes => (bytes::random_nodes(rng), None),
-        _ => (two_faults(rng, file)?, None),
+        Damage::ManyFaults => (many_faults(rng, file)?, None),
+        _ => return two_faults(rng, file),
     };
     Some(Damaged { bytes, answer })
 }
@@ -207,7 +193,8 @@ fn edit(damage: Damage) -> Option<Edit> {
         | Damage::Splice
         | Damage::RandomBytes
         | Damage::RandomNodes
-        | Damage::TwoFaults => return None,
+        | Damage::TwoFaults
+        | Damage::ManyFaults => return None,
     })
 }
 
@@ -229,30 +216,74 @@ fn resolve(encoded: &Encoded, place: Place) -> usize {
     }
 }
 
-/// Two edits of one tree, now and then a byte on top: which of the faults
-/// speaks depends on the order of the refusals.
-fn two_faults(rng: &mut Rng, file: &File) -> Option<Vec<u8>> {
-    let mut file = file.clone();
-    for _ in 0..2 {
-        let mut done = false;
-        for _ in 0..20 {
-            let kind = *rng.pick(ALL);
-            let Some(edit) = edit(kind).filter(|_| kind != Damage::ManyNodes) else {
-                continue;
-            };
-            let mut edited = file.clone();
-            if edit(rng, &mut edited).is_some() {
-                file = edited;
-                done = true;
-                break;
-            }
-        }
-        if !done {
-            return None;
+/// Faults of 13 to 17, which all come after those of the walk.
+fn is_rule(kind: Damage) -> bool {
+    (Damage::NameTwice..=Damage::DoubledTarget).contains(&kind)
+}
+
+/// Edits the tree by some kind that `wanted` takes.
+fn some_edit(rng: &mut Rng, file: &mut File, wanted: impl Fn(Damage) -> bool) -> Option<Fault> {
+    for _ in 0..40 {
+        let kind = *rng.pick(ALL);
+        let wanted = wanted(kind) && kind != Damage::ManyNodes;
+        let Some(edit) = edit(kind).filter(|_| wanted) else {
+            continue;
+        };
+        let mut edited = file.clone();
+        if let Some(fault) = edit(rng, &mut edited) {
+            *file = edited;
+            return Some(fault);
         }
     }
+    None
+}
+
+/// Two edits of one tree: which of the faults speaks depends on the order of
+/// the refusals.
+fn two_faults(rng: &mut Rng, file: &File) -> Option<Damaged> {
+    let mut file = file.clone();
+    let first_is_rule = rng.chance(85);
+    let second_is_rule = rng.chance(60);
+    // A doubled target moves the rows after it.
+    let is_fixed = |kind| kind != Damage::DoubledTarget;
+    let first = some_edit(rng, &mut file, |kind| {
+        is_rule(kind) == first_is_rule && is_fixed(kind)
+    })?;
+    let second = some_edit(rng, &mut file, |kind| {
+        is_rule(kind) == second_is_rule && is_fixed(kind)
+    })?;
+    let fault = match (first_is_rule, second_is_rule) {
+        (true, false) => second,
+        (true, true) => earlier(first, second),
+        _ => None,
+    };
+    Some(finish(&file, fault))
+}
+
+/// Of two faults of 13 to 17 in different rows, the one that speaks.
+fn earlier(first: Fault, second: Fault) -> Fault {
+    let key = |(number, place): (u32, Place)| match place {
+        Place::Node(row) | Place::Property(row, _) => Some((number > 15, row)),
+        _ => None,
+    };
+    let (first, second) = (first?, second?);
+    let (first_key, second_key) = (key(first)?, key(second)?);
+    match first_key.1 == second_key.1 {
+        true => None,
+        false if first_key < second_key => Some(first),
+        false => Some(second),
+    }
+}
+
+/// Three to six edits of one tree, now and then a byte on top.
+fn many_faults(rng: &mut Rng, file: &File) -> Option<Vec<u8>> {
+    let mut file = file.clone();
+    let rules_only = rng.chance(65);
+    for _ in 0..rng.range(3, 6) {
+        some_edit(rng, &mut file, |kind| is_rule(kind) || !rules_only)?;
+    }
     let bytes = file.bytes();
-    match rng.chance(15) {
+    match rng.chance(10) {
         true => Some(bytes::byte_change(rng, bytes)),
         false => Some(bytes),
     }

@@ -2,12 +2,10 @@
 
 use super::{Fault, Place};
 use crate::expect::links;
-use crate::format::{
-    children, is_known, KINDS, L, MATERIAL, MAX_NODES, MAX_PROPERTIES, MESH, MODEL, ROOT,
-};
+use crate::format::{children, BONE, KINDS, L, MATERIAL, MAX_NODES, MAX_PROPERTIES, MESH, ROOT};
 use crate::rng::Rng;
 use crate::tree::{File, Node, Property};
-use crate::valid::{unknown, LINKED};
+use crate::valid::unknown;
 
 fn known_kind(rng: &mut Rng) -> u32 {
     rng.pick(&KINDS).0
@@ -49,7 +47,7 @@ fn at_top(rng: &mut Rng, file: &mut File, kind: u32) -> Option<Fault> {
         }
     };
     file.node_mut(row).kind = kind;
-    (row < MAX_NODES).then_some(Some((6, Place::Node(row))))
+    Some(Some((6, Place::Node(row))))
 }
 
 pub(super) fn unknown_at_top(rng: &mut Rng, file: &mut File) -> Option<Fault> {
@@ -142,7 +140,7 @@ pub(super) fn doubled_target(rng: &mut Rng, file: &mut File) -> Option<Fault> {
     let (kind, hash) = (link.kind, link.hash);
     let is_target = |node: &Node| node.kind == kind && node.hash == hash;
     let target = *file.rows(is_target).first()?;
-    if file.nodes().len() >= MAX_NODES || !LINKED.contains(&kind) {
+    if file.nodes().len() >= MAX_NODES {
         return None;
     }
     let parents = file.parents();
@@ -152,15 +150,14 @@ pub(super) fn doubled_target(rng: &mut Rng, file: &mut File) -> Option<Fault> {
     let kinds: Vec<u32> = file.nodes().iter().map(|node| node.kind).collect();
     let homes = (0..kinds.len()).filter(|row| children(kinds[*row]).contains(&kind));
     // A Bone goes to its own Skeleton, where its p stays right.
-    let homes: Vec<usize> = match double.position("p") {
-        Some(_) if kind != crate::format::FILE => vec![parents[target]?],
+    let homes: Vec<usize> = match kind {
+        BONE => vec![parents[target]?],
         _ => homes.collect(),
     };
     let home = *rng.pick_any(&homes)?;
     let siblings = file.siblings_mut(Some(home));
     let at = rng.below(siblings.len() + 1);
     siblings.insert(at, double);
-    debug_assert!(is_known(MODEL));
     let mut links = all_links(file).into_iter();
     let first = links.find(|link| link.kind == kind && link.hash == hash)?;
     Some(Some((17, Place::Property(first.row, first.index))))

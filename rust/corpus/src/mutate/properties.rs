@@ -203,11 +203,13 @@ pub(super) fn wrong_type(rng: &mut Rng, file: &mut File) -> Option<Fault> {
     if rule.types.contains(&code) {
         return None;
     }
-    if code == S || property.code == S {
-        property.length = 1;
-    }
+    let length = match code == S || property.code == S {
+        true => 1,
+        false => property.length.min(64) as usize,
+    };
     property.code = code;
-    property.data = data(rng, &Profile::TINY, code, property.length.min(64) as usize);
+    property.length = length as u32;
+    property.data = data(rng, &Profile::TINY, code, length);
     Some(Some((13, Place::Property(row, index))))
 }
 

@@ -20,14 +20,19 @@ fn row_of(rng: &mut Rng, file: &File, kind: u32) -> Option<usize> {
     rng.pick_any(&file.rows_of(kind)).copied()
 }
 
+/// Lengths stay below this, also after a fault that claims more.
+const LONGEST: usize = 300_000;
+
 /// A property of `length` elements of any content.
 fn elements(rng: &mut Rng, code: u16, name: &str, length: usize) -> Property {
-    let data = data(rng, &Profile::TINY, code, length);
-    Property::new(code, name.as_bytes(), length, data)
+    let mut property = Property::new(code, name.as_bytes(), 0, Vec::new());
+    resize(rng, &mut property, length);
+    property
 }
 
 /// Gives the property another number of elements.
 fn resize(rng: &mut Rng, property: &mut Property, length: usize) {
+    let length = length.min(LONGEST);
     property.length = length as u32;
     property.data = data(rng, &Profile::TINY, property.code, length);
 }
@@ -64,7 +69,13 @@ pub(super) fn missing_partner(rng: &mut Rng, file: &mut File) -> Option<Fault> {
     let weights = ["wb", "wv", "mi"].map(str::as_bytes);
     let kept = |property: &Property| !weights.contains(&property.name.as_slice());
     node.properties.retain(kept);
-    let sets: [&[&str]; 5] = [&["wb"], &["wv"], &["wb", "wv"], &["wb", "mi"], &["wv", "mi"]];
+    let sets: [&[&str]; 5] = [
+        &["wb"],
+        &["wv"],
+        &["wb", "wv"],
+        &["wb", "mi"],
+        &["wv", "mi"],
+    ];
     for name in *rng.pick(&sets) {
         let code = *rng.pick(&N);
         let property = match *name {
@@ -146,7 +157,7 @@ pub(super) fn weight_length(rng: &mut Rng, file: &mut File) -> Option<Fault> {
     let turn = (1 << 32) / (1u64 << vertices.trailing_zeros().min(31));
     let other = match rng.chance(50) {
         // The product is right only when it wraps.
-        true if vertices > 0 && vertices % 2 == 0 => mi.wrapping_add(turn as u32),
+        true if vertices > 0 && vertices.is_multiple_of(2) => mi.wrapping_add(turn as u32),
         _ => mi ^ 1,
     };
     let index = node.position("mi")?;
@@ -197,7 +208,7 @@ pub(super) fn face_length(rng: &mut Rng, file: &mut File) -> Option<Fault> {
     let faces = &mut node.properties[index];
     let mut numbers = faces.numbers();
     match rng.chance(50) && !numbers.is_empty() {
-        true => numbers.truncate(numbers.len() - rng.range(1, 2)),
+        true => numbers.truncate(numbers.len().saturating_sub(rng.range(1, 2))),
         false => numbers.extend(vec![0; rng.range(1, 2)]),
     }
     faces.set_numbers(&numbers);
@@ -229,9 +240,30 @@ pub(super) fn flag_value(rng: &mut Rng, file: &mut File) -> Option<Fault> {
 
 /// Strings that are in some list, or nearly.
 const STRINGS: [&str; 24] = [
-    "", "linear", "linea", "linear ", "Linear", "quaternion", "quaternions", "pt", "or", "sc",
-    "os", "rq", "tx", "vb", "VB", "v", "additive", "absolute", "relative", "relativ", "x", "X",
-    "xy", "z\n",
+    "",
+    "linear",
+    "linea",
+    "linear ",
+    "Linear",
+    "quaternion",
+    "quaternions",
+    "pt",
+    "or",
+    "sc",
+    "os",
+    "rq",
+    "tx",
+    "vb",
+    "VB",
+    "v",
+    "additive",
+    "absolute",
+    "relative",
+    "relativ",
+    "x",
+    "X",
+    "xy",
+    "z\n",
 ];
 
 /// A string outside of the list of its name.
@@ -275,18 +307,12 @@ pub(super) fn curve_type(rng: &mut Rng, file: &mut File) -> Option<Fault> {
     let kv = &mut node.properties[index];
     kv.code = code;
     let length = kv.length as usize;
-    resize(rng, kv, length.min(4_096));
+    resize(rng, kv, length);
     at(row, index)
 }
 
 /// Another length for one of two arrays that must be equally long.
-fn unequal(
-    rng: &mut Rng,
-    file: &mut File,
-    kind: u32,
-    left: &str,
-    right: &str,
-) -> Option<Fault> {
+fn unequal(rng: &mut Rng, file: &mut File, kind: u32, left: &str, right: &str) -> Option<Fault> {
     let row = row_of(rng, file, kind)?;
     let node = file.node_mut(row);
     let (left, right) = (node.position(left)?, node.position(right)?);

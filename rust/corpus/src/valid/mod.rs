@@ -5,10 +5,23 @@ pub mod properties;
 mod shape;
 pub mod unknown;
 
-use crate::format::{BONE, FILE, INSTANCE, MAX_FILE, MESH, SKELETON};
+use crate::format::{
+    BLEND_SHAPE, BONE, CONSTRAINT, FILE, IK_HANDLE, INSTANCE, MATERIAL, MAX_FILE, MESH, SKELETON,
+};
 use crate::rng::Rng;
 use crate::tree::{File, Node};
 use properties::{Context, Targets};
+
+/// The kinds that links lead to.
+pub const LINKED: [u32; 4] = [MATERIAL, MESH, BONE, FILE];
+
+/// Kinds with a required link, and where it leads.
+pub const NEEDS: [(u32, u32); 4] = [
+    (BLEND_SHAPE, MESH),
+    (IK_HANDLE, BONE),
+    (CONSTRAINT, BONE),
+    (INSTANCE, FILE),
+];
 
 /// Typical sizes of the generated files.
 #[derive(Clone, Copy, Debug)]
@@ -162,24 +175,3 @@ fn fill(rng: &mut Rng, context: &Context, node: &mut Node) {
         fill(rng, &context, child);
     }
 }
-
-/// A valid file with at least one node of each of these kinds, if the profile
-/// has room for them; gives up after some draws.
-pub fn file_with(rng: &mut Rng, profile: &Profile, kinds: &[u32]) -> Option<File> {
-    (0..50).map(|_| file(rng, profile)).find(|file| {
-        let nodes = file.nodes();
-        let has = |kind: &u32| nodes.iter().any(|node| node.kind == *kind);
-        kinds.iter().all(has)
-    })
-}
-
-/// The kinds that links lead to.
-pub const LINKED: [u32; 4] = [crate::format::MATERIAL, MESH, BONE, FILE];
-
-/// Kinds with a required link, and where it leads.
-pub const NEEDS: [(u32, u32); 4] = [
-    (crate::format::BLEND_SHAPE, MESH),
-    (crate::format::IK_HANDLE, BONE),
-    (crate::format::CONSTRAINT, BONE),
-    (INSTANCE, FILE),
-];

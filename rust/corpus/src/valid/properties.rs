@@ -2,8 +2,8 @@
 
 use super::{names, Profile, LINKED};
 use crate::format::{
-    curve_types, element_size, rules, Holds, Rule, BLEND_SHAPE, BONE, CURVE, MAX_PROPERTIES, MESH,
-    S, TYPES,
+    curve_types, element_size, rules, Holds, Rule, B, BLEND_SHAPE, BONE, CURVE, H, I,
+    MAX_PROPERTIES, MESH, S, TYPES,
 };
 use crate::rng::Rng;
 use crate::tree::{numbers_data, Node, Property};
@@ -83,12 +83,7 @@ pub fn properties(rng: &mut Rng, context: &Context, kind: u32) -> Vec<Property> 
 }
 
 /// A property with a name that the kind does not list.
-pub fn free_property(
-    rng: &mut Rng,
-    profile: &Profile,
-    kind: u32,
-    taken: &[Property],
-) -> Property {
+pub fn free_property(rng: &mut Rng, profile: &Profile, kind: u32, taken: &[Property]) -> Property {
     let name = names::free(rng, kind, taken);
     let code = *rng.pick(&TYPES);
     let length = match code {
@@ -224,8 +219,8 @@ fn mesh(rng: &mut Rng, context: &Context) -> Vec<Property> {
     let vertices = rng.skewed(profile.vertices);
     let has_mi = rng.chance(profile.optional + 10);
     let has_weights = has_mi && rng.chance(60);
-    let mi_code = *rng.pick(&[crate::format::B, crate::format::H, crate::format::I]);
-    let mi = influences(rng, mi_code, has_weights, vertices);
+    let mi_code = *rng.pick(&[B, H, I]);
+    let mi = influences(rng, context, mi_code, has_weights, vertices);
     let weights = match has_weights {
         true => mi as usize * vertices,
         false => 0,
@@ -254,9 +249,19 @@ pub fn number(name: &str, code: u16, number: u32) -> Property {
 }
 
 /// A value for mi; small where arrays of mi times V follow.
-fn influences(rng: &mut Rng, code: u16, has_weights: bool, vertices: usize) -> u32 {
+fn influences(
+    rng: &mut Rng,
+    context: &Context,
+    code: u16,
+    has_weights: bool,
+    vertices: usize,
+) -> u32 {
     if has_weights && vertices > 0 {
-        return rng.skewed(4) as u32;
+        let wide = vertices < 4 && context.profile.bytes > 10_000 && rng.chance(5);
+        return match wide {
+            true => rng.range(128, 255) as u32,
+            false => rng.skewed(4) as u32,
+        };
     }
     let most = match element_size(code) {
         Some(1) => 0xFF,
@@ -271,7 +276,7 @@ fn influences(rng: &mut Rng, code: u16, has_weights: bool, vertices: usize) -> u
 
 /// The face buffer of a mesh of `vertices`.
 pub fn faces(rng: &mut Rng, most: usize, vertices: usize) -> Property {
-    let code = *rng.pick(&[crate::format::B, crate::format::H, crate::format::I]);
+    let code = *rng.pick(&[B, H, I]);
     let size = element_size(code).unwrap_or(4);
     let reach = vertices.min(1 << (8 * size));
     let count = match reach {

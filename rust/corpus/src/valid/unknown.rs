@@ -2,7 +2,7 @@
 
 use super::properties::{text, Targets};
 use super::{names, Profile};
-use crate::format::{is_known, BONE, FILE, KINDS, MATERIAL, MESH, ROOT};
+use crate::format::{is_known, BONE, FILE, KINDS, MATERIAL, MESH, ROOT, S};
 use crate::rng::Rng;
 use crate::tree::{File, Node, Property};
 
@@ -28,7 +28,18 @@ pub fn kind(rng: &mut Rng) -> u32 {
 pub fn fill(rng: &mut Rng, profile: &Profile, targets: &Targets, node: &mut Node) {
     node.claimed.properties = Some(count(rng));
     node.claimed.children = Some(count(rng));
-    node.rest = body(rng, profile, targets);
+    if rng.chance(15) {
+        // As many properties as the header tells, with which a known node
+        // would be right too.
+        let name = names::any(rng);
+        let property = Property::new(S, &name, 1, text(rng, profile.string));
+        node.rest = Node::with(node.kind, vec![property], Vec::new())
+            .bytes()
+            .split_off(24);
+        node.claimed.properties = Some(1);
+    } else {
+        node.rest = body(rng, profile, targets);
+    }
 }
 
 fn count(rng: &mut Rng) -> u32 {
@@ -40,7 +51,7 @@ fn count(rng: &mut Rng) -> u32 {
 
 /// A body of any bytes, often such that look like parts of a file.
 pub fn body(rng: &mut Rng, profile: &Profile, targets: &Targets) -> Vec<u8> {
-    match rng.below(8) {
+    match rng.below(7) {
         0 | 1 => Vec::new(),
         2 => {
             // A node with a hash that links elsewhere lead to.
@@ -55,15 +66,8 @@ pub fn body(rng: &mut Rng, profile: &Profile, targets: &Targets) -> Vec<u8> {
             bytes.truncate(rng.range(0, 24));
             bytes
         }
-        4 => {
-            let name = names::any(rng);
-            let property = Property::new(0x73, &name, 1, text(rng, profile.string));
-            let mut node = Node::with(ROOT, vec![property], Vec::new());
-            node.hash = rng.next_u64();
-            node.bytes().split_off(24)
-        }
-        5 => File::new(0, vec![Node::new(ROOT)]).bytes(),
-        6 => vec![*rng.pick(&[0, 0xFF, b'c']); rng.skewed(profile.body)],
+        4 => File::new(0, vec![Node::new(ROOT)]).bytes(),
+        5 => vec![*rng.pick(&[0, 0xFF, b'c']); rng.skewed(profile.body)],
         _ => {
             let size = rng.skewed(profile.body);
             rng.bytes(size)
