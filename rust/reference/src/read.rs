@@ -71,7 +71,7 @@ pub fn read(file: &[u8], table: &mut [u32]) -> Reading {
 
 /// A known node's body is its properties.
 pub(crate) fn own_bytes(row: &[u32]) -> u32 {
-    NODE_HEADER as u32 + row[BODY_END] - row[BODY_START]
+    NODE_HEADER as u32 + (row[BODY_END] - row[BODY_START])
 }
 
 fn refused(number: u32, place: u32) -> Reading {

@@ -2,7 +2,7 @@
 
 use crate::kinds::{known, ROOT};
 use crate::property::body_exact;
-use crate::read::MAX_FILE;
+use crate::read::{own_bytes, MAX_FILE};
 use crate::table::*;
 use crate::walk::{FILE_HEADER, NODE_HEADER};
 use crate::Refusal;
@@ -123,7 +123,7 @@ fn parent_right(plan: &[u32], index: usize) -> bool {
 fn sizes(plan: &[u32]) -> [u32; TABLE_ROWS] {
     let mut sizes = [0; TABLE_ROWS];
     for (index, row) in plan.chunks_exact(ROW).enumerate().rev() {
-        sizes[index] += NODE_HEADER as u32 + row[BODY_END] - row[BODY_START];
+        sizes[index] += own_bytes(row);
         if row[PARENT] != NO_PARENT {
             sizes[row[PARENT] as usize] += sizes[index];
         }

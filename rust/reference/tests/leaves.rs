@@ -89,6 +89,7 @@ fn kinds() {
     }
     assert!(!known(0));
     assert!(!may_stand(None, kind(b"wagn")));
+    assert!(!may_stand(Some(kind(b"wagn")), kind(b"wagn")));
     let file = kind(b"file");
     let parents = numbers.iter().filter(|&&p| may_stand(Some(p), file));
     assert_eq!(

@@ -296,3 +296,29 @@ fn thirteen_a_name_twice() {
         assert_refused(&bytes, 13, place(&bytes, &again.bytes));
     }
 }
+
+#[test]
+fn thirteen_the_first_name_again_at_the_last_property() {
+    let names: Vec<String> = (0..63).map(|n| format!("free{n}")).collect();
+    let mut props: Vec<Prop> = names.iter().map(|name| zeros("b", name, 1)).collect();
+    let again = zeros("h", "free0", 1);
+    props.push(again.clone());
+    let bytes = file(&[node(b"root", 0, props, vec![])]);
+    assert_refused(&bytes, 13, place(&bytes, &again.bytes));
+}
+
+#[test]
+fn a_byte_that_differs_from_a_listed_name_in_its_high_bit_is_free() {
+    for (kind, name, _, _, _) in LINES {
+        let mut tree = everything();
+        for at in 0..name.len() {
+            let mut near = name.as_bytes().to_vec();
+            near[at] |= 0x80;
+            let bytes = raw(0x64, &near, 2, &[0; 16]);
+            let name = format!("near {name}");
+            tree.find(kind).props.push(Prop { name, bytes });
+            accepted(&file(&[tree.clone()]));
+            tree.find(kind).props.pop();
+        }
+    }
+}

@@ -271,3 +271,22 @@ fn twenty_five_and_twenty_six_length() {
     assert_eq!((written.number, written.length), (0, 16_777_216));
     assert_eq!(accepted(&out).0.own_unknown, 24 + longest);
 }
+
+/// The source's zeros are never written to, so its pages are never there.
+#[test]
+fn bodies_at_the_end_of_a_source_of_nearly_2_to_the_32() {
+    let last = 0xFFFF_FFFF;
+    let source = vec![0; last as usize];
+    let plan = [
+        [R, 0, 0, NONE, last, last, 0, 1],
+        [U, 0, 0, 0, last - 15, last - 12, 0, 0],
+    ]
+    .concat();
+    let mut out = vec![0xEE; 70];
+    let written = write(&plan, &source, 0, &mut out);
+    assert_eq!((written.number, written.length), (0, 67));
+    let (reading, rows) = accepted(&out[..67]);
+    assert_eq!((reading.own_known, reading.own_unknown), (24, 27));
+    assert_eq!(rows[1][4..6], [64, 67]);
+    assert_eq!(out[67..], [0xEE; 3]);
+}
