@@ -3,8 +3,8 @@ use crate::buffers;
 use crate::frame::Frame;
 use crate::print;
 
-// 1 to 6: numbers of 2, 4 and 8 bytes, read from the first block at x; written (y's lowest bytes) at x into a buffer
-// that holds the first block.
+// 1 to 6: numbers of 2, 4 and 8 bytes, read from the first block at x; y's lowest bytes written at x into a buffer as
+// long as the first block, filled from the seed.
 pub fn numbers(f: Frame, bytes: &[u8]) {
     let at = f.x as usize;
     let function = f.function;
