@@ -3,9 +3,8 @@ use Prim.Native.Nat.{ℕ, suc, _+_, _-_, _/_, _%_, _^_, _≤_}
 use native.Mathlib.Omega.{arith}
 use native.Mathlib.Nat.{zero-add, add-zero}
 use mathlib.Core.Path.{_≡_, refl, ap, sym, _∙_}
-use mathlib.Core.List.{List, [], _∷_, _++_}
-use mathlib.Core.List.{append-nil}
-use lib.ListN.{length, take, drop, set, take-append-drop, length-set, length-drop, drop-of-length-le}
+use mathlib.Core.List.{List, [], _∷_, _++_, append-nil}
+use lib.ListN.{length, take, drop, set, take-append-drop, length-drop, drop-of-length-le}
 use lib.Seq.{sets, set-out, take-set-le, drop-set-add}
 use borrow.Rule.Slice.PartMut.{putMid}
 use Rattle.le.specs.Le.{le}

@@ -1,9 +1,8 @@
 //! The cases that the program `crates/vectors` runs, and the answers that it must print.
 //!
 //! A case is a frame on the program's standard input (the layout is in `crates/vectors/src/frame.rt`), and a line on its
-//! standard output: the function's number, then the answer and a checksum of each lent buffer. The inputs are seeded. The
-//! answers have another source than the code under test: for numbers in bytes, the standard library. The functions'
-//! numbers are listed in [`function`].
+//! standard output: the function's number, then the answer and a checksum of each lent buffer. The inputs come from
+//! `corpus`, the answers from `reference`. The functions' numbers are listed in [`function`].
 
 #![forbid(unsafe_code)]
 

@@ -3,6 +3,7 @@
 use crate::frame::{checksum, filled, Case, Cases};
 use crate::function::{PUT_U16, PUT_U32, PUT_U64, U16_AT, U32_AT, U64_AT};
 use corpus::Rng;
+use reference::{number_at, put_number};
 
 /// Places in and about `len` bytes, and some that no sum with a width may pass.
 fn place(rng: &mut Rng, len: usize) -> u64 {
@@ -13,26 +14,6 @@ fn place(rng: &mut Rng, len: usize) -> u64 {
     }
 }
 
-/// The number of the `width` bytes at a place, where a byte past the end counts as zero.
-fn number_at(bytes: &[u8], at: u64, width: usize) -> u64 {
-    let start = usize::try_from(at).map_or(bytes.len(), |at| at.min(bytes.len()));
-    let there = &bytes[start..bytes.len().min(start + width)];
-    let mut whole = [0; 8];
-    whole[..there.len()].copy_from_slice(there);
-    u64::from_le_bytes(whole)
-}
-
-/// The lowest `width` bytes of a number from a place on, as far as they fit.
-fn put(out: &mut [u8], at: u64, number: u64, width: usize) {
-    let Ok(start) = usize::try_from(at) else {
-        return;
-    };
-    let bytes = number.to_le_bytes();
-    for (to, from) in out.iter_mut().skip(start).zip(&bytes[..width]) {
-        *to = *from;
-    }
-}
-
 pub fn add(cases: &mut Cases) {
     let mut rng = Rng::new(1);
     for _ in 0..300 {
@@ -40,7 +21,7 @@ pub fn add(cases: &mut Cases) {
         let bytes = rng.bytes(len);
         for (function, width) in [(U16_AT, 2), (U32_AT, 4), (U64_AT, 8)] {
             let x = place(&mut rng, len);
-            let answer = number_at(&bytes, x, width);
+            let answer = number_at(&bytes, x as usize, width);
             let case = Case {
                 function,
                 first: &bytes,
@@ -52,7 +33,7 @@ pub fn add(cases: &mut Cases) {
         for (function, width) in [(PUT_U16, 2), (PUT_U32, 4), (PUT_U64, 8)] {
             let (x, y, seed) = (place(&mut rng, len), rng.next_u64(), rng.next_u32());
             let mut out = filled(len, seed);
-            put(&mut out, x, y, width);
+            put_number(&mut out, x as usize, y, width);
             let case = Case {
                 function,
                 first: &bytes,
