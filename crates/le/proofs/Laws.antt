@@ -1,11 +1,11 @@
 -- Laws of numbers in bytes, each over the width.
 use Prim.Native.Nat.{ℕ, zero, suc, _+_, _-_, _*_, _/_, _%_, _^_, _≤_, _<_}
 use native.Mathlib.Omega.{arith}
-use native.Mathlib.Nat.{zero-add, add-zero, suc-add, mul-assoc, pow-succ', div-one, div-div-eq-div-mul, mod-add-div}
+use native.Mathlib.Nat.{zero-add, add-zero, suc-add, mul-assoc, pow-succ', div-one, div-div-eq-div-mul, mod-add-div, one-le-pow, mod-eq-of-lt, add-mul-mod-self-left}
 use mathlib.Core.Path.{_≡_, refl, ap, sym, _∙_}
 use mathlib.Core.List.{List, [], _∷_, _++_}
 use lib.ListN.{length, take, drop, getD, drop-of-length-le, length-drop}
-use lib.Seq.{take-nil, take-all, getD-drop}
+use lib.Seq.{take-nil, take-all, getD-drop, drop-drop}
 use Rattle.le.specs.Le.{val, numberAt, le}
 
 times-next : (n k : ℕ) → 256 ^ suc n * k ≡ 256 * (256 ^ n * k)
@@ -18,6 +18,14 @@ val-split zero m l = rw (zero-add m) (omega arith)
 val-split (suc n) m [] = rw (suc-add n m, take-nil m) (omega arith)
 val-split (suc n) m (b ∷ l) =
     rw (suc-add n m) (omega (arith, val-split n m l, times-next n (val (take m (drop n l)))))
+
+-- w bytes are a number below 256 ^ w
+pub val-lt : (w : ℕ) (l : List ℕ) → ((i : ℕ) → getD l i 0 < 256) → val (take w l) < 256 ^ w
+unfolding val
+val-lt zero l h = omega arith
+val-lt (suc w) [] h = one-le-pow (suc w) 256 (omega arith)
+val-lt (suc w) (b ∷ l) h =
+    omega (arith, pow-succ' 256 w, val-lt w l (λ i. h (suc i)), h 0)
 
 pub val-one : (l : List ℕ) → val (take 1 l) ≡ getD l 0 0
 unfolding val
@@ -36,10 +44,18 @@ pub numberAt-halves : (w : ℕ) (l : List ℕ) (at : ℕ) {low high : ℕ} → l
 unfolding numberAt
 numberAt-halves w l at e f = rw (e, f, rest-drop l at) (sym (val-split w w (drop at l)))
 
--- the same number, in the part that starts at its place
-pub numberAt-rest : (w : ℕ) (l : List ℕ) (at : ℕ) → numberAt w (rest l at) 0 ≡ numberAt w l at
+-- the same number, in a part
+pub numberAt-rest : (w : ℕ) (l : List ℕ) (at k : ℕ) → numberAt w (rest l at) k ≡ numberAt w l (at + k)
 unfolding numberAt
-numberAt-rest w l at = rw (rest-drop l at)
+numberAt-rest w l at k = rw (rest-drop l at, drop-drop k at l)
+
+-- fewer bytes at a place are the remainder of more
+pub numberAt-short : (w v : ℕ) (l : List ℕ) (at : ℕ) → ((i : ℕ) → getD l i 0 < 256) → numberAt (w + v) l at % 256 ^ w ≡ numberAt w l at
+unfolding numberAt
+numberAt-short w v l at h =
+    ap (λ n. n % 256 ^ w) (val-split w v (drop at l))
+    ∙ add-mul-mod-self-left (val (take w (drop at l))) (256 ^ w) (val (take v (drop w (drop at l))))
+    ∙ mod-eq-of-lt (val-lt w (drop at l) (λ i. rw (getD-drop at l i 0) (h (at + i))))
 
 pub numberAt-four : (l : List ℕ) → getD l 0 0 + 256 * getD l 1 0 + 65536 * getD l 2 0 + 16777216 * getD l 3 0 ≡ numberAt 4 l 0
 unfolding numberAt val

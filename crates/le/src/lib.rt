@@ -1,7 +1,7 @@
 // Little-endian numbers of 2, 4 and 8 bytes at any place of any bytes. A byte past the end reads as zero, and is not
 // written.
 ghost use mathlib.Core.Path.{_≡_};
-ghost use Prim.Native.Nat.{_≤_, _<_};
+ghost use Prim.Native.Nat.{_≤_, _<_, min};
 ghost use lib.Seq.{sets};
 ghost use Rattle.le.specs.Le.{numberAt, le};
 ghost use lib.ListN.{length};
@@ -85,6 +85,24 @@ pub fn u64_at(bytes: &[u8], at: usize) -> u64
     let low = wide64(u32_at(rest, 0));
     let high = wide64(u32_at(rest, 4));
     low + 4294967296 * high
+}
+
+// The number of `width` bytes at a place, of at most four.
+pub fn number_at(bytes: &[u8], at: usize, width: u32) -> u32
+    ensures { λ r. ⌜ r ≡ numberAt (min width 4) (now (bytes .entry)) at ⌝ }
+{
+    if bytes.len() <= at {
+        return 0;
+    }
+    let first = wide(bytes[at]);
+    let four = u32_at(bytes, at);
+    match width {
+        0 => 0,
+        1 => first,
+        2 => four % 65536,
+        3 => four % 16777216,
+        _ => four,
+    }
 }
 
 // Writes one byte, where its place is there.

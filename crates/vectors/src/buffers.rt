@@ -1,7 +1,5 @@
 // What a lent buffer holds at first, and the checksum of what it holds at last.
 
-ghost use Prim.Native.Nat.{_<_};
-
 // Bytes that go up by 37 from the seed on, modulo 256.
 pub fn fill(out: &mut [u8], seed: u32) {
     let mut v = seed % 256;
@@ -13,18 +11,47 @@ pub fn fill(out: &mut [u8], seed: u32) {
     }
 }
 
-fn wide(b: u8) -> u64
-    ensures { λ r. ⌜ r < 256 ⌝ }
-{
-    b as u64
+// Numbers of 4 bytes each, one after the other.
+pub fn numbers(out: &mut [u32], bytes: &[u8]) {
+    let mut i: usize = 0;
+    while i < out.len() {
+        out[i] = le::u32_at(bytes, i * 4);
+        i += 1;
+    }
 }
 
-// The checksum of bytes: times 16777619 plus the next byte, modulo 2^32, from 2166136261 on.
+// A checksum begins with 2166136261, and takes each number in turn: times 16777619 plus the number, modulo 2^32.
+const EMPTY: u64 = 2166136261;
+
+fn with(sum: u64, number: u64) -> u64 {
+    (sum % 4294967296 * 16777619 + number % 4294967296) % 4294967296
+}
+
 pub fn checksum(bytes: &[u8]) -> u64 {
-    let mut sum: u64 = 2166136261;
-    let mut i = 0;
+    let mut sum = EMPTY;
+    let mut i: usize = 0;
     while i < bytes.len() {
-        sum = (sum * 16777619 + wide(bytes[i])) % 4294967296;
+        sum = with(sum, bytes[i] as u64);
+        i += 1;
+    }
+    sum
+}
+
+pub fn numbers_checksum(numbers: &[u32]) -> u64 {
+    let mut sum = EMPTY;
+    let mut i: usize = 0;
+    while i < numbers.len() {
+        sum = with(sum, numbers[i] as u64);
+        i += 1;
+    }
+    sum
+}
+
+pub fn places_checksum(places: &[usize]) -> u64 {
+    let mut sum = EMPTY;
+    let mut i: usize = 0;
+    while i < places.len() {
+        sum = with(sum, places[i] as u64);
         i += 1;
     }
     sum

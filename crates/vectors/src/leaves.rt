@@ -1,10 +1,10 @@
-// The leaves of the format, each by its number.
+// Numbers in bytes, each function by its number.
 use crate::buffers;
 use crate::frame::Frame;
 use crate::print;
 
 // 1 to 6: numbers of 2, 4 and 8 bytes, read from the first block at x; y's lowest bytes written at x into a buffer as
-// long as the first block, filled from the seed.
+// long as the first block, filled from the seed. 7: the number of y bytes at x.
 pub fn numbers(f: Frame, bytes: &[u8]) {
     let at = f.x as usize;
     let function = f.function;
@@ -12,6 +12,7 @@ pub fn numbers(f: Frame, bytes: &[u8]) {
         1 => print::next(le::u16_at(bytes, at) as u64),
         2 => print::next(le::u32_at(bytes, at) as u64),
         3 => print::next(le::u64_at(bytes, at)),
+        7 => print::next(le::number_at(bytes, at, (f.y % 4294967296) as u32) as u64),
         _ => written(function, at, f.y, f.seed, bytes.len()),
     }
 }

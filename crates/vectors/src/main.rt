@@ -1,9 +1,11 @@
 // Runs framed cases from standard input, and prints a line for each: the function's number, then its answer and a
 // checksum of each buffer that it was lent. frame.rt has the layout of a case.
 mod buffers;
+mod format;
 mod frame;
 mod leaves;
 mod print;
+mod rows;
 
 use crate::frame::Frame;
 
@@ -45,8 +47,20 @@ fn run(f: Frame, payload: &[u8]) {
         return;
     }
     print::number(f.function as u64);
-    if f.function < 10 {
-        leaves::numbers(f, &payload[..first]);
-    }
+    dispatch(f, &payload[..first], &payload[first..n]);
     io::write_all(1, b"\n");
+}
+
+fn dispatch(f: Frame, first: &[u8], second: &[u8]) {
+    if f.function < 10 {
+        leaves::numbers(f, first);
+        return;
+    }
+    if f.function < 19 {
+        format::one(f, first, second);
+        return;
+    }
+    if f.function < 30 {
+        rows::one(f, first, second);
+    }
 }

@@ -150,6 +150,35 @@ pub fn lookup(rng: &mut Rng, file: &File, kind: Lookup) -> Option<Case> {
     Some(case)
 }
 
+/// Changes one thing that the lookup is given; its answer may be the same.
+pub fn change(rng: &mut Rng, case: &mut Case) {
+    case.answer = None;
+    let start = case.row.saturating_mul(8);
+    match rng.below(6) {
+        // The body's start, its end or the count, by one or by any amount.
+        0 | 1 => {
+            if let Some(number) = case.table.get_mut(start.saturating_add(rng.range(4, 6))) {
+                *number = match rng.chance(60) {
+                    true => number.wrapping_add(*rng.pick(&[1, u32::MAX])),
+                    false => rng.edge_u32(),
+                };
+            }
+        }
+        2 => {
+            let at = rng.below(case.bytes.len());
+            if let Some(byte) = case.bytes.get_mut(at) {
+                *byte ^= 1 << rng.below(8);
+            }
+        }
+        3 => case.bytes.truncate(rng.below(case.bytes.len() + 1)),
+        4 => match case.name.pop() {
+            Some(last) if rng.chance(50) => case.name.push(last ^ 1),
+            _ => {}
+        },
+        _ => case.row = case.row.wrapping_add(*rng.pick(&[1, usize::MAX, 1 << 61])),
+    }
+}
+
 /// The data of the node's first property of this name, or 43.
 fn find(
     node: &Node,

@@ -1,7 +1,7 @@
 //! Lookup of a property by name: refusals 40 to 43.
 
 use crate::property::{Property, MAX_PROPERTIES};
-use crate::table::{BODY_END, BODY_START, PROPERTIES, ROW};
+use crate::table::{self, BODY_END, BODY_START, PROPERTIES};
 
 #[derive(Clone, Copy, Debug, Default, PartialEq, Eq)]
 pub struct Found {
@@ -30,7 +30,7 @@ pub fn lookup(bytes: &[u8], table: &[u32], row: usize, name: &[u8]) -> Found {
 }
 
 fn find(bytes: &[u8], table: &[u32], row: usize, name: &[u8]) -> Result<(usize, usize), u32> {
-    let row = table.chunks_exact(ROW).nth(row).ok_or(40u32)?;
+    let row = table::row(table, row).ok_or(40u32)?;
     let start = row[BODY_START] as usize;
     let body = bytes.get(start..row[BODY_END] as usize).ok_or(41u32)?;
     if row[PROPERTIES] > MAX_PROPERTIES {

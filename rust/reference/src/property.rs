@@ -99,6 +99,39 @@ pub fn step(body: &[u8], at: usize) -> Step {
     }
 }
 
+/// Where the first properties of a body start.
+#[derive(Clone, Debug, Default, PartialEq, Eq)]
+pub struct Index {
+    /// 0, 9, 10 or 11.
+    pub number: u32,
+    /// After the last property, or where the refused one starts; 0 on 9.
+    pub at: usize,
+    /// Of the properties stepped past.
+    pub starts: Vec<usize>,
+}
+
+/// Steps past the first `count` properties of a body. A count over 64 is 9, and none is read.
+pub fn index(body: &[u8], count: u32) -> Index {
+    let mut index = Index::default();
+    if count > MAX_PROPERTIES {
+        index.number = 9;
+        return index;
+    }
+    for _ in 0..count {
+        match Property::parse(body, index.at) {
+            Ok(property) => {
+                index.starts.push(index.at);
+                index.at = property.next();
+            }
+            Err(number) => {
+                index.number = number;
+                break;
+            }
+        }
+    }
+    index
+}
+
 /// Whether exactly `count` properties, at most 64, fill the body.
 pub fn body_exact(body: &[u8], count: u32) -> bool {
     if count > MAX_PROPERTIES {

@@ -3,7 +3,7 @@
 use crate::bytes::u32_at;
 use crate::check::check;
 use crate::kinds::known;
-use crate::table::{clear, BODY_END, BODY_START, KIND, ROW, TABLE_NUMBERS};
+use crate::table::{clear, is_whole, BODY_END, BODY_START, KIND, ROW};
 use crate::walk::{walk, NODE_HEADER};
 use crate::Refusal;
 
@@ -29,7 +29,7 @@ pub struct Reading {
 /// Reads a file into the table's first 8,192 numbers: its rows, then zeros; on refusal zeros alone.
 /// A shorter table stays as it is.
 pub fn read(file: &[u8], table: &mut [u32]) -> Reading {
-    if table.len() < TABLE_NUMBERS {
+    if !is_whole(table) {
         return refused(1, 0);
     }
     if file.len() > MAX_FILE {

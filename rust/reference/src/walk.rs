@@ -3,7 +3,7 @@
 use crate::bytes::u32_at;
 use crate::kinds::{known, may_stand};
 use crate::property::{Property, MAX_PROPERTIES};
-use crate::table::{clear, BODY_START, NO_PARENT, ROW, TABLE_NUMBERS, TABLE_ROWS};
+use crate::table::{clear, is_whole, BODY_START, NO_PARENT, ROW, TABLE_NUMBERS, TABLE_ROWS};
 use crate::Refusal;
 
 pub(crate) const FILE_HEADER: usize = 16;
@@ -25,7 +25,7 @@ struct Open {
 /// Answers number, place and node count, and puts the rows. Neither the file's length nor anything
 /// of 13 to 17 is judged; places and rows are those of files below 4 GiB.
 pub fn walk(file: &[u8], table: &mut [u32]) -> (u32, u32, u32) {
-    if table.len() < TABLE_NUMBERS {
+    if !is_whole(table) {
         return (1, 0, 0);
     }
     match nodes(file, table) {

@@ -166,3 +166,53 @@ fn exact_bodies() {
     assert!(!body_exact(&one, u32::MAX));
     assert!(!body_exact(&raw(0x61, b"x", 0, &[]), 1));
 }
+
+#[test]
+fn indexes() {
+    let one = raw(0x62, b"x", 3, &[0; 3]);
+    let wrong = raw(0x61, b"x", 0, &[]);
+    let indexed = |body: &[u8], count| {
+        let index = index(body, count);
+        (index.number, index.at, index.starts)
+    };
+    assert_eq!(indexed(&[], 0), (0, 0, vec![]));
+    assert_eq!(indexed(&[], 1), (10, 0, vec![]));
+    assert_eq!(indexed(&one.repeat(3), 2), (0, 24, vec![0, 12]));
+    assert_eq!(indexed(&one.repeat(3)[..35], 3), (10, 24, vec![0, 12]));
+    let body = [one.clone(), wrong, one.clone()].concat();
+    assert_eq!(indexed(&body, 1), (0, 12, vec![0]));
+    assert_eq!(indexed(&body, 3), (11, 12, vec![0]));
+    assert_eq!(index(&one.repeat(65), 64).starts.len(), 64);
+    assert_eq!(indexed(&one.repeat(65), 65), (9, 0, vec![]));
+    assert_eq!(indexed(&[], u32::MAX), (9, 0, vec![]));
+}
+
+#[test]
+fn rows_and_tables() {
+    let numbers = [1, 2, 3, 4, 5, 6, 7, 8];
+    for length in [0, 7, 8, 9, 15, 16, 17, 8191, 8192, 8193] {
+        let table: Vec<u32> = (0..length as u32).map(|number| number | 1 << 31).collect();
+        assert_eq!(is_whole(&table), length >= 8192);
+        let far = [1 << 61, (1 << 61) + 1, usize::MAX / 8, usize::MAX];
+        for at in (0..length / 8 + 2).chain(far) {
+            let mut put = table.clone();
+            put_row(&mut put, at, &numbers);
+            if at < length / 8 {
+                assert_eq!(row(&table, at).unwrap(), &table[at * 8..at * 8 + 8]);
+                assert_eq!(row(&put, at), Some(&numbers));
+                put[at * 8..at * 8 + 8].copy_from_slice(&table[at * 8..at * 8 + 8]);
+            } else {
+                assert_eq!(row(&table, at), None);
+            }
+            assert_eq!(put, table);
+        }
+        let mut cleared = table.clone();
+        clear(&mut cleared);
+        if length < 8192 {
+            assert_eq!(cleared, table);
+        } else {
+            assert!(cleared[..8192].iter().all(|&number| number == 0));
+            assert_eq!(cleared[8192..], table[8192..]);
+        }
+    }
+}

@@ -59,6 +59,11 @@ pub fn filled(len: usize, seed: u32) -> Vec<u8> {
 
 /// The checksum of what a buffer of bytes holds at last.
 pub fn checksum(bytes: &[u8]) -> u64 {
-    let step = |sum: u32, &byte: &u8| sum.wrapping_mul(16_777_619).wrapping_add(byte.into());
-    bytes.iter().fold(2_166_136_261, step).into()
+    checksum_of(bytes.iter().map(|&byte| byte.into()))
+}
+
+/// The checksum of numbers, each by its lowest 32 bits.
+pub fn checksum_of(numbers: impl IntoIterator<Item = u64>) -> u64 {
+    let step = |sum: u32, number: u64| sum.wrapping_mul(16_777_619).wrapping_add(number as u32);
+    numbers.into_iter().fold(2_166_136_261, step).into()
 }

@@ -7,7 +7,13 @@
 #![forbid(unsafe_code)]
 
 mod frame;
+mod kinds;
+mod lookups;
+mod names;
 mod numbers;
+mod properties;
+mod table;
+mod types;
 
 use frame::Cases;
 
@@ -19,6 +25,19 @@ pub mod function {
     pub const PUT_U16: u32 = 4;
     pub const PUT_U32: u32 = 5;
     pub const PUT_U64: u32 = 6;
+    pub const NUMBER_AT: u32 = 7;
+
+    pub const SIZE_OF: u32 = 10;
+    pub const NAME_OK: u32 = 11;
+    pub const SAME: u32 = 12;
+    pub const NUMBERED: u32 = 13;
+    pub const KNOWN: u32 = 14;
+    pub const MAY_STAND: u32 = 15;
+    pub const STEP: u32 = 16;
+    pub const INDEX: u32 = 17;
+    pub const EXACT: u32 = 18;
+    pub const TABLE: u32 = 19;
+    pub const LOOKUP: u32 = 20;
 }
 
 /// The whole of standard input, the whole of standard output, and the number of cases.
@@ -32,5 +51,11 @@ pub struct Vectors {
 pub fn make() -> Vectors {
     let mut cases = Cases::default();
     numbers::add(&mut cases);
+    types::add(&mut cases);
+    names::add(&mut cases);
+    kinds::add(&mut cases);
+    properties::add(&mut cases);
+    table::add(&mut cases);
+    lookups::add(&mut cases);
     cases.finish()
 }

@@ -1,7 +1,7 @@
 //! Little-endian numbers at any place, read and written.
 
 use crate::frame::{checksum, filled, Case, Cases};
-use crate::function::{PUT_U16, PUT_U32, PUT_U64, U16_AT, U32_AT, U64_AT};
+use crate::function::{NUMBER_AT, PUT_U16, PUT_U32, PUT_U64, U16_AT, U32_AT, U64_AT};
 use corpus::Rng;
 use reference::{number_at, put_number};
 
@@ -44,5 +44,29 @@ pub fn add(cases: &mut Cases) {
             };
             cases.add(&case, &[checksum(&out)]);
         }
+    }
+    number_of_any_width(cases);
+}
+
+/// A width over four is taken as four.
+fn number_of_any_width(cases: &mut Cases) {
+    let mut rng = Rng::new(7);
+    for _ in 0..300 {
+        let len = rng.below(20);
+        let bytes = rng.bytes(len);
+        let x = place(&mut rng, len);
+        let y = match rng.below(8) {
+            0 => *rng.pick(&[0x100, 0xFFFF, 0x1_0004, u32::MAX]),
+            _ => rng.below(7) as u32,
+        };
+        let answer = number_at(&bytes, x as usize, y.min(4) as usize);
+        let case = Case {
+            function: NUMBER_AT,
+            first: &bytes,
+            x,
+            y: y.into(),
+            ..Case::default()
+        };
+        cases.add(&case, &[answer]);
     }
 }

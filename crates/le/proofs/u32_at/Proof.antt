@@ -1,5 +1,7 @@
 -- `le::u32_at`: 0 past the end, four bytes where they are there, else the two halves.
-use mathlib.Core.Path.{sym, _∙_}
+use mathlib.Core.Path.{sym, ap, _∙_}
+use native.Mathlib.Nat.{add-zero}
+use Rattle.le.specs.Le.{numberAt}
 use Rattle.le.proofs.Laws.{numberAt-past, numberAt-rest, numberAt-halves}
 use borrow.Author.Needs.{needs}
 use Rattle.le.proofs.u32_at.Statement.{statement}
@@ -23,7 +25,7 @@ first-four-requires c κs = search needs
 returns-2 : tie.Need-returns-2
 returns-2 c =
     let b = c .before .before .before .before .before in
-    c .first-four .ensures ∙ numberAt-rest 4 (b .args .bytes .now) (b .args .at)
+    c .first-four .ensures ∙ numberAt-rest 4 (b .args .bytes .now) (b .args .at) 0 ∙ ap (numberAt 4 (b .args .bytes .now)) (add-zero (b .args .at))
 
 u16-at-requires : tie.Need-u16-at-requires
 u16-at-requires c κs = search needs

@@ -1,4 +1,4 @@
--- `vectors::run`: the first block is there.
+-- `vectors::run`: both blocks are there.
 use lib.Seq.{length-take-le}
 use mathlib.Core.Path.{sym}
 use borrow.Author.Needs.{needs}
@@ -20,11 +20,20 @@ cast-number c = search needs
 number-requires : tie.Need-number-requires
 number-requires c κs = search needs
 
-slice-aggregate-numbers : tie.Need-slice-aggregate-numbers
-slice-aggregate-numbers c = let b = c .before .before .before .before .before .before .before .before .before in sym (length-take-le (b .args .f .first) (b .args .payload .now) (search needs))
+slice-aggregate-dispatch : tie.Need-slice-aggregate-dispatch
+slice-aggregate-dispatch c = let b = c .before .before .before .before .before .before .before in sym (length-take-le (b .args .f .first) (b .args .payload .now) (search needs))
 
-numbers-requires : tie.Need-numbers-requires
-numbers-requires c κs = search needs
+sub-dispatch : tie.Need-sub-dispatch
+sub-dispatch c = search needs
+
+part-dispatch-start : tie.Need-part-dispatch-start
+part-dispatch-start c = search needs
+
+part-dispatch-end : tie.Need-part-dispatch-end
+part-dispatch-end c = search needs
+
+dispatch-requires : tie.Need-dispatch-requires
+dispatch-requires c κs = search needs
 
 slice-aggregate-write-all : tie.Need-slice-aggregate-write-all
 slice-aggregate-write-all c = search needs
@@ -44,8 +53,11 @@ run-spec =
     returns
     cast-number
     number-requires
-    slice-aggregate-numbers
-    numbers-requires
+    slice-aggregate-dispatch
+    sub-dispatch
+    part-dispatch-start
+    part-dispatch-end
+    dispatch-requires
     slice-aggregate-write-all
     write-all-requires
     returns-2)

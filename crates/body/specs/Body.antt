@@ -1,0 +1,62 @@
+-- The properties of a body: document 01's 9 to 11 in the reader, its 23 in the writer and its 42 in the lookup all go by
+-- these definitions.
+use Prim.Native.Nat.{ℕ, zero, suc}
+use mathlib.Core.Bool.{Bool, true, false, cond, _&&_}
+use mathlib.Core.List.{List, [], _∷_, _++_}
+use lib.Dec.{eqb, ltb}
+use lib.ListN.{length, replicate}
+use lib.Seq.{sets}
+use Rattle.names.specs.Names.{same}
+use Rattle.props.specs.declared.Step.{Step}
+use Rattle.props.specs.declared.Step.the-variants.{Past, Refused}
+use Rattle.props.specs.Step.{stepAt, nameAt}
+use Rattle.body.specs.declared.Passed.{Passed}
+use Rattle.body.specs.declared.Index.{Index}
+
+-- how a walk over properties ended: the refusal's number (0 for none), the place (just past the last property, or the
+-- refused property's), and where those that were passed start
+pub record Walked : Type 0 where
+  pub number : ℕ
+  pub at : ℕ
+  pub starts : List ℕ
+
+abbrev pub stop : ℕ → ℕ → Walked
+stop n at = record { number = n; at = at; starts = [] }
+
+abbrev pub after : ℕ → Walked → Walked
+after at w = record { number = w .number; at = w .at; starts = at ∷ w .starts }
+
+-- past the property at a place, and on from there; or refused there
+abbrev pub byStep : ℕ → (ℕ → Walked) → Step → Walked
+byStep at on (Past start next) = after at (on (next .at))
+byStep at on (Refused n) = stop n at
+
+-- so many properties from a place on
+unfoldable pub pass : List ℕ → ℕ → ℕ → Walked
+pass s zero at = stop 0 at
+pass s (suc k) at = byStep at (pass s k) (stepAt s at)
+
+-- "known node with over 64 properties", or 10 and 11 of the first property that has them
+unfoldable pub properties : List ℕ → ℕ → Walked
+properties s k = cond (ltb 64 k) (stop 9 0) (pass s k 0)
+
+-- the body "is exactly its count (at most 64) of properties by the rules of 9 to 11"
+unfoldable pub exactly : List ℕ → ℕ → Bool
+exactly s k = eqb (properties s k .number) 0 && eqb (properties s k .at) (length s)
+
+-- the walk's end alone
+abbrev pub answerOf : Walked → Passed
+answerOf w = record { number = w .number; at = w .at }
+
+-- where each property starts, and then where the walk ended: one that was passed lies from its place to the next
+abbrev pub places : Walked → List ℕ
+places w = w .starts ++ (w .at ∷ [])
+
+-- the walk's end with the places, in 65 numbers, zeros after them
+abbrev pub indexOf : Walked → Index
+indexOf w = record { number = w .number; count = length (w .starts); starts = sets (replicate 65 0) 0 (places w) }
+
+-- the first of the properties at these places that has the name; their number where none has
+unfoldable pub firstNamed : List ℕ → List ℕ → List ℕ → ℕ
+firstNamed s name [] = 0
+firstNamed s name (at ∷ more) = cond (same (nameAt s at) name) 0 (suc (firstNamed s name more))

@@ -1,0 +1,108 @@
+// The properties of a body: so many from its start on, where each starts, and the first of a name.
+ghost use mathlib.Core.Path.{_≡_};
+ghost use Prim.Native.Nat.{_≤_};
+ghost use lib.ListN.{length};
+ghost use Rattle.body.specs.Body.{pass, properties, exactly, answerOf, indexOf, firstNamed};
+
+// How a walk over properties ended: with number 0 just past the last, with another refused at a property.
+pub struct Passed {
+    pub number: u32,
+    pub at: usize,
+}
+
+// Walks over so many properties, at most 64.
+pub fn pass(body: &[u8], count: u32) -> Passed
+    ensures { λ r. ⌜ r ≡ answerOf (properties (now (body .entry)) count) ⌝ }
+{
+    if 64 < count {
+        return Passed { number: 9, at: 0 };
+    }
+    let mut at: usize = 0;
+    let mut left = count;
+    while 0 < left {
+        let cursor = props::Cursor { at };
+        match cursor.step(body) {
+            props::Step::Past { data: _, next } => {
+                at = next.at;
+                left -= 1;
+            }
+            props::Step::Refused(number) => {
+                return Passed { number, at };
+            }
+        }
+    }
+    Passed { number: 0, at }
+}
+
+// Whether the body is exactly so many properties, at most 64.
+pub fn exact(body: &[u8], count: u32) -> bool
+    ensures { λ r. ⌜ r ≡ exactly (now (body .entry)) count ⌝ }
+{
+    let p = pass(body, count);
+    let number = p.number;
+    let at = p.at;
+    (number == 0) & (at == body.len())
+}
+
+// Where each property that was passed starts, and then where the walk ended; zeros after that.
+pub struct Index {
+    pub number: u32,
+    pub count: usize,
+    pub starts: [usize; 65],
+}
+
+// Walks over so many properties, at most 64, and notes where they start.
+pub fn index_of(body: &[u8], count: u32) -> Index
+    ensures { λ r. ⌜ (r ≡ indexOf (properties (now (body .entry)) count)) × (r .count ≤ 64) ⌝ }
+{
+    let mut starts = [0usize; 65];
+    if 64 < count {
+        return Index {
+            number: 9,
+            count: 0,
+            starts,
+        };
+    }
+    let mut at: usize = 0;
+    let mut i: usize = 0;
+    let mut left = count;
+    while 0 < left {
+        starts[i] = at;
+        let cursor = props::Cursor { at };
+        match cursor.step(body) {
+            props::Step::Past { data: _, next } => {
+                at = next.at;
+                i += 1;
+                left -= 1;
+            }
+            props::Step::Refused(number) => {
+                return Index {
+                    number,
+                    count: i,
+                    starts,
+                };
+            }
+        }
+    }
+    starts[i] = at;
+    Index {
+        number: 0,
+        count: i,
+        starts,
+    }
+}
+
+// The first of the properties that start at these places which has the name; their number where none has.
+pub fn find(body: &[u8], starts: &[usize], name: &[u8]) -> usize
+    ensures { λ r. ⌜ (r ≡ firstNamed (now (body .entry)) (now (name .entry)) (now (starts .entry))) × (r ≤ length (now (starts .entry))) ⌝ }
+{
+    let mut i: usize = 0;
+    while i < starts.len() {
+        let at = starts[i];
+        if names::same(props::name_at(body, at), name) {
+            return i;
+        }
+        i += 1;
+    }
+    i
+}

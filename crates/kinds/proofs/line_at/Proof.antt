@@ -1,0 +1,40 @@
+-- `kinds::line_at`: the table is the definition's lines, each as the row of its numbers.
+use Prim.Native.Nat.{ℕ}
+use mathlib.Core.Path.{sym}
+use mathlib.Core.List.{List, [], _∷_, map}
+use lib.ListN.{getD, List·getD-map}
+use borrow.Author.Needs.{needs}
+use Rattle.kinds.specs.declared.Line.{Line}
+use Rattle.kinds.specs.Kinds.{lines, lineAt, underEither}
+use Rattle.kinds.proofs.line_at.Statement.{statement}
+use Rattle.kinds.proofs.line_at.Tie as tie
+
+abbrev row : Line → List ℕ
+row l = l .kind ∷ l .parent ∷ l .other ∷ []
+
+abbrev line : List ℕ → Line
+line r = underEither (getD r 0 0) (getD r 1 0) (getD r 2 0)
+
+mul-l : tie.Need-mul-l
+mul-l c = search needs
+
+array-copy-out-l : tie.Need-array-copy-out-l
+array-copy-out-l c = search needs
+
+array-read-kind : tie.Need-array-read-kind
+array-read-kind c = search needs
+
+array-read-parent : tie.Need-array-read-parent
+array-read-parent c = search needs
+
+array-read-other : tie.Need-array-read-other
+array-read-other c = search needs
+
+returns : tie.Need-returns
+unfolding lines lineAt
+returns c = sym (List·getD-map line (map row lines) (c .before .args .i) [])
+
+pub line-at-spec : {M : Type 1} → statement M
+line-at-spec =
+    tie.close
+    (tie.spec mul-l array-copy-out-l array-read-kind array-read-parent array-read-other returns)

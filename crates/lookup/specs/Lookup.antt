@@ -1,0 +1,47 @@
+-- Document 01: "Lookup of a property by name in any bytes and any table: a query that finds the name, else answers 43;
+-- before that 40 row not wholly in the table, 41 and 42 as 22 and 23, over the bytes given and for any kind. Of two
+-- equal names the first is found."
+use Prim.Native.Nat.{ℕ, _+_, _-_}
+use mathlib.Core.Bool.{cond}
+use mathlib.Core.List.{List, []}
+use lib.Dec.{ltb, eqb}
+use lib.ListN.{length, take, drop, getD}
+use Rattle.props.specs.Step.{dataAt}
+use Rattle.body.specs.Body.{properties, exactly, places, firstNamed}
+use Rattle.table.specs.Table.{hasRow, rowAt}
+use Rattle.lookup.specs.declared.Found.{Found}
+use Rattle.lookup.specs.declared.Found.the-variants.{At, Refused}
+
+-- 42: the body is not exactly so many properties. 43: none has the name. Else the first one's data, up to the next place.
+unfoldable pub inBody : List ℕ → ℕ → List ℕ → Found
+inBody s k name =
+    let w = properties s k in
+    let i = firstNamed s name (w .starts) in
+    cond (exactly s k)
+    (cond (eqb i (length (w .starts))) (Refused 43)
+    (At (dataAt s (getD (places w) i 0)) (getD (places w) (i + 1) 0)))
+    (Refused 42)
+
+-- the same place, where the body starts at an offset
+abbrev pub shifted : ℕ → Found → Found
+shifted from (At start end) = At (from + start) (from + end)
+shifted from (Refused n) = Refused n
+
+unfoldable pub lookupOf : List ℕ → List ℕ → ℕ → List ℕ → Found
+lookupOf bs t row name =
+    let r = rowAt t row in
+    cond (hasRow t row)
+    (cond (ltb (r .end) (r .start)) (Refused 41)
+    (cond (ltb (length bs) (r .end)) (Refused 41)
+    (shifted (r .start) (inBody (take (r .end - r .start) (drop (r .start) bs)) (r .properties) name))))
+    (Refused 40)
+
+-- an answer's number: 0 where the property is found
+abbrev pub numberOf : Found → ℕ
+numberOf (At start end) = 0
+numberOf (Refused n) = n
+
+-- "It hands back the data's part of the file; an empty part on refusal."
+abbrev pub partOf : List ℕ → Found → List ℕ
+partOf bs (At start end) = take (end - start) (drop start bs)
+partOf bs (Refused n) = []

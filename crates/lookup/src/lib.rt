@@ -1,0 +1,84 @@
+// A property by name: in any bytes, by any table and any row.
+ghost use mathlib.Core.Path.{_≡_};
+ghost use Prim.Native.Nat.{_≤_};
+ghost use lib.ListN.{length};
+ghost use Rattle.lookup.specs.Lookup.{inBody, shifted, lookupOf, numberOf, partOf};
+
+// Where a property's data lies; or the number of the refusal.
+pub enum Found {
+    At { start: usize, end: usize },
+    Refused(u32),
+}
+
+// The property in a body of so many: 42 and 43.
+fn in_body(body: &[u8], count: u32, name: &[u8]) -> Found
+    ensures { λ r. ⌜ r ≡ inBody (now (body .entry)) count (now (name .entry)) ⌝ }
+{
+    let index = body::index_of(body, count);
+    let n = index.count;
+    let starts = index.starts;
+    if index.number != 0 {
+        return Found::Refused(42);
+    }
+    if starts[n] != body.len() {
+        return Found::Refused(42);
+    }
+    let i = body::find(body, &starts[..n], name);
+    if i == n {
+        return Found::Refused(43);
+    }
+    let at = starts[i];
+    let end = starts[i + 1];
+    Found::At {
+        start: props::data_at(body, at),
+        end,
+    }
+}
+
+// Finds the property of a row: 40 to 43.
+pub fn find(bytes: &[u8], table: &[u32], row: usize, name: &[u8]) -> Found
+    ensures { λ r. ⌜ r ≡ lookupOf (now (bytes .entry)) (now (table .entry)) row (now (name .entry)) ⌝ }
+{
+    if !table::has_row(table, row) {
+        return Found::Refused(40);
+    }
+    let r = table::row_at(table, row);
+    let from = r.start as usize;
+    let to = r.end as usize;
+    if to < from {
+        return Found::Refused(41);
+    }
+    if bytes.len() < to {
+        return Found::Refused(41);
+    }
+    let found = in_body(&bytes[from..to], r.properties, name);
+    let Found::At { start, end } = found else {
+        return found;
+    };
+    let first = from + start;
+    let last = from + end;
+    Found::At {
+        start: first,
+        end: last,
+    }
+}
+
+// The number of the refusal; 0 where the property is found.
+pub fn number(found: Found) -> u32
+    ensures { λ r. ⌜ r ≡ numberOf found ⌝ }
+{
+    match found {
+        Found::At { start: _, end: _ } => 0,
+        Found::Refused(number) => number,
+    }
+}
+
+// The property's data, a part of the bytes; an empty part on refusal.
+pub fn data<'a>(bytes: &'a [u8], table: &[u32], row: usize, name: &[u8]) -> &'a [u8]
+    ensures { λ r. ⌜ now r ≡ partOf (now (bytes .entry)) (lookupOf (now (bytes .entry)) (now (table .entry)) row (now (name .entry))) ⌝ }
+{
+    let Found::At { start, end } = find(bytes, table, row, name) else {
+        return &bytes[0..0];
+    };
+    &bytes[start..end]
+}

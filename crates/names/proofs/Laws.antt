@@ -1,0 +1,151 @@
+-- Laws of names as lists: what one byte decides in each walk, and what `same` means.
+use Prim.Native.Nat.{ℕ, suc, _+_, _-_, _*_, _^_, _≤_, _<_}
+use native.Mathlib.Nat.{mul-assoc, pow-suc, pow-succ', pow-le-pow-right}
+use native.Mathlib.Numerals.{add-one}
+use native.Mathlib.Omega.{arith}
+use mathlib.Core.Path.{_≡_, refl, ap, sym, _∙_}
+use mathlib.Core.Bool.{Bool, true, false, cond, not, _&&_, and-false, and-eq-true-iff}
+use mathlib.Core.List.{List, [], _∷_, _++_}
+use lib.Dec.{eqb, leb, leb·suc-suc}
+use lib.ListN.{length, take, drop, getD, drop-of-length-le, length-drop, take-append-drop}
+use lib.Seq.{drop-cons, take-all}
+use borrow.Author.Tests.{eq-eqb, ne-eqb, eqb-true, leb-true, le-leb, lt-leb}
+use Rattle.names.specs.declared.Numeral.{Numeral}
+use Rattle.names.specs.declared.Numeral.the-variants.{Is, Not}
+use Rattle.names.specs.Names.{byteOk, bytesOk, same, isDigit, decimal, number, numbered}
+
+module _ (l : List ℕ) (i : ℕ) (h : i < length l) where
+  pub bytes-passed : byteOk (getD l i 0) ≡ true → bytesOk (drop i l) ≡ bytesOk (drop (i + 1) l)
+  unfolding bytesOk
+  bytes-passed e = rw (add-one, drop-cons l i 0 h, e)
+
+  pub bytes-refused : byteOk (getD l i 0) ≡ false → bytesOk (drop i l) ≡ false
+  unfolding bytesOk
+  bytes-refused e = rw (drop-cons l i 0 h, e)
+
+pub bytes-ended : (l : List ℕ) (i : ℕ) → length l ≤ i → bytesOk (drop i l) ≡ true
+unfolding bytesOk
+bytes-ended l i h = rw (drop-of-length-le l {i = i} h)
+
+pub same-refl : (l : List ℕ) → same l l ≡ true
+unfolding same
+same-refl [] = refl
+same-refl (x ∷ l) = rw (eq-eqb x x refl) (same-refl l)
+
+pub same-eq : (a b : List ℕ) → same a b ≡ true → a ≡ b
+unfolding same
+same-eq [] [] e = refl
+same-eq [] (y ∷ b) e = cc
+same-eq (x ∷ a) [] e = cc
+same-eq (x ∷ a) (y ∷ b) e =
+    let both = and-eq-true-iff (eqb x y) (same a b) .0 e in
+    cc (eqb-true x y (both .0), same-eq a b (both .1))
+
+pub same-length : (a b : List ℕ) → (length a ≡ length b → ⊥) → same a b ≡ false
+unfolding same
+same-length [] [] h = absurd (h refl)
+same-length [] (y ∷ b) h = refl
+same-length (x ∷ a) [] h = refl
+same-length (x ∷ a) (y ∷ b) h = rw (same-length a b (λ e. h (ap suc e))) (and-false (eqb x y))
+
+module _ (a b : List ℕ) (i : ℕ) (ha : i < length a) (hb : i < length b) where
+  pub same-passed : getD a i 0 ≡ getD b i 0 → same (drop i a) (drop i b) ≡ same (drop (i + 1) a) (drop (i + 1) b)
+  unfolding same
+  same-passed e = rw (add-one, drop-cons a i 0 ha, drop-cons b i 0 hb, eq-eqb _ _ e)
+
+  pub same-refused : (getD a i 0 ≡ getD b i 0 → ⊥) → same (drop i a) (drop i b) ≡ false
+  unfolding same
+  same-refused e = rw (drop-cons a i 0 ha, drop-cons b i 0 hb, ne-eqb _ _ e)
+
+pub same-ended : (a b : List ℕ) (i : ℕ) → length a ≤ i → length b ≤ i → same (drop i a) (drop i b) ≡ true
+unfolding same
+same-ended a b i ha hb = rw (drop-of-length-le a {i = i} ha, drop-of-length-le b {i = i} hb)
+
+-- digits before the place i are worth less than 10 ^ i
+pub worth : (i v d : ℕ) → v < 10 ^ i → d ≤ 9 → v * 10 + d < 10 ^ (i + 1)
+worth i v d h k = rw (add-one i, pow-suc 10 i) (omega arith)
+
+pub worth-three : (i v : ℕ) → i ≤ 3 → v < 10 ^ i → v < 1000
+worth-three i v h k = omega (arith, pow-le-pow-right {n = 10} (omega arith) {i = i} {j = 3} h)
+
+module _ (l : List ℕ) (i v : ℕ) (h : i < length l) {b : ℕ} (e : b ≡ getD l i 0) where
+  pub decimal-low : b < 48 → decimal v (drop i l) ≡ Not
+  unfolding decimal
+  decimal-low k = rw (drop-cons l i 0 h, ← e, lt-leb 48 b k)
+
+  pub decimal-high : 57 < b → decimal v (drop i l) ≡ Not
+  unfolding decimal
+  decimal-high k = rw (drop-cons l i 0 h, ← e, le-leb 48 b (omega arith), lt-leb b 57 k)
+
+  pub decimal-passed : 48 ≤ b → b ≤ 57 → decimal v (drop i l) ≡ decimal (v * 10 + (b - 48)) (drop (i + 1) l)
+  unfolding decimal
+  decimal-passed k m = rw (add-one, drop-cons l i 0 h, ← e, le-leb 48 b k, le-leb b 57 m)
+
+pub decimal-ended : (l : List ℕ) (i v : ℕ) → length l ≤ i → decimal v (drop i l) ≡ Is v
+unfolding decimal
+decimal-ended l i v h = rw (drop-of-length-le l {i = i} h)
+
+pub number-none : (l : List ℕ) → length l ≡ 0 → number l ≡ Not
+unfolding number
+number-none [] h = refl
+number-none (b ∷ l) h = absurd (omega arith)
+
+pub number-long : (l : List ℕ) → 3 < length l → number l ≡ Not
+unfolding number
+number-long [] h = refl
+number-long (b ∷ l) h = rw (lt-leb (length l) 2 (omega arith))
+
+leading : (t u : Bool) (d : Numeral) → u ≡ true → cond (t && not u) d Not ≡ Not
+leading true u d e = rw e
+leading false u d e = refl
+
+pub number-leading : (l : List ℕ) → (eqb (getD l 0 0) 48 && leb 2 (length l)) ≡ true → number l ≡ Not
+unfolding number
+number-leading [] h = refl
+number-leading (b ∷ l) h = leading (leb (length l) 2) _ _ (ap (λ t. eqb b 48 && t) (sym (leb·suc-suc 1 (length l))) ∙ h)
+
+pub number-decimal : (l : List ℕ) → (length l ≡ 0 → ⊥) → length l ≤ 3 → (eqb (getD l 0 0) 48 && leb 2 (length l)) ≡ false → number l ≡ decimal 0 l
+unfolding number
+number-decimal [] h k m = absurd (h refl)
+number-decimal (b ∷ l) h k m = rw (le-leb (length l) 2 (omega arith), ← leb·suc-suc 1 (length l), m)
+
+pub rest-drop : (l : List ℕ) (n : ℕ) → take (length l - n) (drop n l) ≡ drop n l
+rest-drop l n = take-all (length l - n) (drop n l) (simp length-drop (omega arith))
+
+module _ (name prefix : List ℕ) where
+  pub numbered-short : length name < length prefix → numbered name prefix ≡ Not
+  unfolding numbered
+  numbered-short h = rw (take-all (length prefix) name (omega arith), same-length name prefix (λ e. omega arith))
+
+  pub numbered-other : same (take (length prefix) name) prefix ≡ false → numbered name prefix ≡ Not
+  unfolding numbered
+  numbered-other e = rw e
+
+  pub numbered-by : same (take (length prefix) name) prefix ≡ true → numbered name prefix ≡ number (take (length name - length prefix) (drop (length prefix) name))
+  unfolding numbered
+  numbered-by e = rw (e, rest-drop)
+
+chosen : (t : Bool) {d : Numeral} {n : ℕ} → cond t d Not ≡ Is n → (t ≡ true) × (d ≡ Is n)
+chosen true e = (refl, e)
+chosen false e = (cc, cc)
+
+decimal-bound : (l : List ℕ) (m v n : ℕ) → v < m → decimal v l ≡ Is n → n < m * 10 ^ length l
+unfolding decimal
+decimal-bound [] m v n h e = let k : v ≡ n = cc in omega arith
+decimal-bound (b ∷ l) m v n h e =
+    let r = chosen (isDigit b) e in
+    rw (pow-succ' 10 (length l), ← mul-assoc m 10 (10 ^ length l)) (decimal-bound l (m * 10) (v * 10 + (b - 48)) n (omega (arith, leb-true b 57 (and-eq-true-iff (leb 48 b) _ .0 (r .0) .1))) (r .1))
+
+number-bound : (l : List ℕ) (n : ℕ) → number l ≡ Is n → n < 1000
+unfolding number
+number-bound [] n e = let z : _≡_ {A = ℕ} 0 1 = cc in omega arith
+number-bound (b ∷ l) n e =
+    let r = chosen _ e in
+    worth-three (suc (length l)) n (omega (arith, leb-true (length l) 2 (and-eq-true-iff (leb (length l) 2) _ .0 (r .0) .0))) (omega (arith, decimal-bound (b ∷ l) 1 0 n (omega arith) (r .1)))
+
+-- a name with a number is the prefix and then a number below 1000
+pub numbered-sound : (name prefix : List ℕ) (n : ℕ) → numbered name prefix ≡ Is n → (name ≡ prefix ++ drop (length prefix) name) × (n < 1000)
+unfolding numbered
+numbered-sound name prefix n e =
+    let r = chosen _ e in
+    (sym (take-append-drop (length prefix) name) ∙ rw (same-eq _ _ (r .0)), number-bound (drop (length prefix) name) n (r .1))

@@ -1,0 +1,114 @@
+// Names of properties: which bytes may be one, whether two are the same, and the number in a name such as `c12`.
+ghost use mathlib.Core.Path.{_≡_};
+ghost use Prim.Native.Nat.{_≤_};
+ghost use Rattle.names.specs.Names.{sizeOk, byteOk, bytesOk, same, decimal, number, numbered};
+ghost use lib.ListN.{length};
+
+// Whether a name may have so many bytes: 1 to 32.
+pub fn size_ok(size: u16) -> bool
+    ensures { λ r. ⌜ r ≡ sizeOk size ⌝ }
+{
+    (1 <= size) & (size <= 32)
+}
+
+// Whether a byte may stand in a name: neither zero nor `A` to `Z`.
+fn byte_ok(b: u8) -> bool
+    ensures { λ r. ⌜ r ≡ byteOk b ⌝ }
+{
+    (b != 0) & !((65 <= b) & (b <= 90))
+}
+
+// Whether each byte may stand in a name.
+pub fn bytes_ok(name: &[u8]) -> bool
+    ensures { λ r. ⌜ r ≡ bytesOk (now (name .entry)) ⌝ }
+{
+    let mut i: usize = 0;
+    while i < name.len() {
+        if !byte_ok(name[i]) {
+            return false;
+        }
+        i += 1;
+    }
+    true
+}
+
+// Whether two names are the same bytes.
+pub fn same(a: &[u8], b: &[u8]) -> bool
+    ensures { λ r. ⌜ r ≡ same (now (a .entry)) (now (b .entry)) ⌝ }
+{
+    if a.len() != b.len() {
+        return false;
+    }
+    let mut i: usize = 0;
+    while i < a.len() {
+        if a[i] != b[i] {
+            return false;
+        }
+        i += 1;
+    }
+    true
+}
+
+// What a name with a pattern `%d` is: one with this number, or another name.
+pub enum Numeral {
+    Is(u32),
+    Not,
+}
+
+// The number that the bytes are: one to three digits, no leading zero unless it is `0`.
+fn number(digits: &[u8]) -> Numeral
+    ensures { λ r. ⌜ r ≡ number (now (digits .entry)) ⌝ }
+{
+    let n = digits.len();
+    if n == 0 {
+        return Numeral::Not;
+    }
+    if 3 < n {
+        return Numeral::Not;
+    }
+    if (digits[0] == 48) & (2 <= n) {
+        return Numeral::Not;
+    }
+    decimal(digits)
+}
+
+fn wide(b: u8) -> u32
+    ensures { λ r. ⌜ r ≡ b ⌝ }
+{
+    b as u32
+}
+
+// The number of at most three digits.
+fn decimal(digits: &[u8]) -> Numeral
+    requires { ⌜ length (now digits) ≤ 3 ⌝ }
+    ensures { λ r. ⌜ r ≡ decimal 0 (now (digits .entry)) ⌝ }
+{
+    let mut value: u32 = 0;
+    let mut i: usize = 0;
+    while i < digits.len() {
+        let b = wide(digits[i]);
+        if b < 48 {
+            return Numeral::Not;
+        }
+        if 57 < b {
+            return Numeral::Not;
+        }
+        value = value * 10 + (b - 48);
+        i += 1;
+    }
+    Numeral::Is(value)
+}
+
+// The number of a name that is the prefix and then `%d`.
+pub fn numbered(name: &[u8], prefix: &[u8]) -> Numeral
+    ensures { λ r. ⌜ r ≡ numbered (now (name .entry)) (now (prefix .entry)) ⌝ }
+{
+    let n = prefix.len();
+    if name.len() < n {
+        return Numeral::Not;
+    }
+    if !same(&name[..n], prefix) {
+        return Numeral::Not;
+    }
+    number(&name[n..])
+}

@@ -1,0 +1,151 @@
+-- The cases of the stages, each from the tests that lead to it; and the step over the part of a body from a place on.
+use mathlib.Core.Path.{_≡_, refl, sym, ap, subst, _∙_}
+use mathlib.Core.Bool.{Bool, true, false, cond}
+use mathlib.Core.List.{List}
+use Prim.Native.Nat.{ℕ, zero, suc, _+_, _-_, _*_, _<_, _≤_}
+use native.Mathlib.Omega.{arith}
+use lib.Dec.{ltb, eqb}
+use lib.ListN.{length, take, drop, length-drop}
+use lib.Seq.{drop-drop}
+use borrow.Author.Tests.{lt-ltb, le-ltb, eq-eqb, ne-eqb, ltb-false}
+use Rattle.le.specs.Le.{numberAt}
+use Rattle.le.proofs.Laws.{rest, rest-drop, numberAt-rest}
+use Rattle.names.specs.Names.{sizeOk, bytesOk}
+use Rattle.props.specs.declared.Size.{Size}
+use Rattle.props.specs.declared.Size.the-variants.{Bytes, Text, NoSuch}
+use Rattle.props.specs.declared.Extent.{Extent}
+use Rattle.props.specs.declared.Extent.the-variants.{Takes}
+use Rattle.props.specs.declared.Extent.the-variants.{Refused as noData}
+use Rattle.props.specs.declared.Step.{Step}
+use Rattle.props.specs.declared.Step.the-variants.{Past, Refused}
+use Rattle.props.specs.Types.{sizeOf, noSuch}
+use Rattle.props.specs.Step.{headerRefusal, nameRefusal, toZero, fit, dataOf, unless, past, stepAt}
+
+-- ---- the header
+module _ (code size room : ℕ) where
+  pub no-header : room < 8 → 10 ≡ headerRefusal code size room
+  unfolding headerRefusal
+  no-header h = rw (lt-ltb _ _ h)
+
+  module _ (header : 8 ≤ room) where
+    pub no-type : noSuch (sizeOf code) ≡ true → 11 ≡ headerRefusal code size room
+    unfolding headerRefusal
+    no-type e = rw (le-ltb _ _ header, e)
+
+    module _ (type : noSuch (sizeOf code) ≡ false) where
+      pub no-name : sizeOk size ≡ false → 11 ≡ headerRefusal code size room
+      unfolding headerRefusal
+      no-name e = rw (le-ltb _ _ header, type, e)
+
+      module _ (named : sizeOk size ≡ true) where
+        pub name-out : room < 8 + size → 10 ≡ headerRefusal code size room
+        unfolding headerRefusal
+        name-out h = rw (le-ltb _ _ header, type, named, lt-ltb _ _ h)
+
+        pub header-right : 8 + size ≤ room → 0 ≡ headerRefusal code size room
+        unfolding headerRefusal
+        header-right h = rw (le-ltb _ _ header, type, named, le-ltb _ _ h)
+
+-- a header that is not refused leaves room for its name
+name-fits-by : (a b c d : Bool) → _≡_ {A = ℕ} (cond a 10 (cond b 11 (cond c (cond d 10 0) 11))) 0 → d ≡ false
+name-fits-by true b c d e = absurd (omega (arith, e))
+name-fits-by false true c d e = absurd (omega (arith, e))
+name-fits-by false false true true e = absurd (omega (arith, e))
+name-fits-by false false true false e = refl
+name-fits-by false false false d e = absurd (omega (arith, e))
+
+pub name-fits : (code size room : ℕ) → headerRefusal code size room ≡ 0 → 8 + size ≤ room
+unfolding headerRefusal
+name-fits code size room e =
+    ltb-false room (8 + size) (name-fits-by (ltb room 8) (noSuch (sizeOf code)) (sizeOk size) (ltb room (8 + size)) e)
+
+-- ---- the data
+module _ (n : ℕ) (bs : List ℕ) where
+  pub fit-out : length bs < n → noData 10 ≡ fit n bs
+  fit-out h = rw (lt-ltb _ _ h)
+
+  pub fit-in : n ≤ length bs → Takes n ≡ fit n bs
+  fit-in h = rw (le-ltb _ _ h)
+
+module _ (len : ℕ) (bs : List ℕ) where
+  pub bytes-fit : (w : ℕ) {e : Extent} → e ≡ fit (len * w) bs → e ≡ dataOf (Bytes w) len bs
+  unfolding dataOf
+  bytes-fit w p = p
+
+  pub text-long : (len ≡ 1 → ⊥) → noData 11 ≡ dataOf Text len bs
+  unfolding dataOf
+  text-long h = rw (ne-eqb _ _ h)
+
+  pub text-fit : len ≡ 1 → {e : Extent} → e ≡ fit (toZero bs) bs → e ≡ dataOf Text len bs
+  unfolding dataOf
+  text-fit h p = rw (eq-eqb _ _ h) p
+
+  pub none-fit : noData 11 ≡ dataOf NoSuch len bs
+  unfolding dataOf
+  none-fit = refl
+
+-- data takes no more than there is
+abbrev pub Within : ℕ → Extent → Type 0
+Within n (Takes k) = k ≤ n
+Within n (noData k) = Unit
+
+fit-within-by : (k n : ℕ) (b : Bool) → ltb n k ≡ b → Within n (cond b (noData 10) (Takes k))
+fit-within-by k n true e = tt
+fit-within-by k n false e = ltb-false n k e
+
+text-within-by : (n : ℕ) (b : Bool) (x : Extent) → Within n x → Within n (cond b x (noData 11))
+text-within-by n true x p = p
+text-within-by n false x p = tt
+
+pub data-within : (size : Size) (len : ℕ) (bs : List ℕ) → Within (length bs) (dataOf size len bs)
+unfolding dataOf
+data-within (Bytes w) len bs = fit-within-by (len * w) (length bs) (ltb (length bs) (len * w)) refl
+data-within Text len bs = text-within-by (length bs) (eqb len 1) (fit (toZero bs) bs) (fit-within-by (toZero bs) (length bs) (ltb (length bs) (toZero bs)) refl)
+data-within NoSuch len bs = tt
+
+-- ---- the step, over the part of the body that starts with the header
+abbrev pub stepOf : ℕ → ℕ → ℕ → ℕ → List ℕ → Step
+stepOf at code size len header =
+    unless (headerRefusal code size (length header))
+    (unless (nameRefusal (take size (drop 8 header)))
+    (past (at + (8 + size)) (dataOf (sizeOf code) len (drop (8 + size) header))))
+
+module _ (s : List ℕ) (at : ℕ) where
+  length-rest : length (rest s at) ≡ length s - at
+  length-rest = rw (rest-drop s at) (length-drop at s)
+
+  drop-rest : (k : ℕ) → drop k (rest s at) ≡ drop (at + k) s
+  drop-rest k = rw (rest-drop s at) (drop-drop k at s)
+
+  pub step-rest : {code size len : ℕ} → code ≡ numberAt 2 (rest s at) 0 → size ≡ numberAt 2 (rest s at) 2 → len ≡ numberAt 4 (rest s at) 4
+      → stepOf at code size len (rest s at) ≡ stepAt s at
+  unfolding stepAt
+  step-rest {code} {size} {len} c z l =
+      let sum : at + (8 + size) ≡ at + 8 + size = omega arith in
+      let first : at + 0 ≡ at = omega arith in
+      rw (length-rest, drop-rest 8, drop-rest (8 + size), sum, c, z, l, numberAt-rest 2 s at 0, numberAt-rest 2 s at 2, numberAt-rest 4 s at 4, first)
+
+  pub past-end : length s < at → Refused 10 ≡ stepAt s at
+  unfolding stepAt
+  past-end h =
+      ap (λ n. unless n (unless (nameRefusal (take (numberAt 2 s (at + 2)) (drop (at + 8) s))) (past (at + 8 + numberAt 2 s (at + 2)) (dataOf (sizeOf (numberAt 2 s at)) (numberAt 4 s (at + 4)) (drop (at + 8 + numberAt 2 s (at + 2)) s)))))
+      (no-header (numberAt 2 s at) (numberAt 2 s (at + 2)) (length s - at) (omega arith))
+
+pub unless-refused : (n : ℕ) (next : Step) → (n ≡ 0 → ⊥) → Refused n ≡ unless n next
+unless-refused zero next h = absurd (h refl)
+unless-refused (suc n) next h = refl
+
+-- the step by what was read of the header's part: refused by the header, by the name, or as the data says
+module _ (s : List ℕ) (at : ℕ) {code size : ℕ} (c : code ≡ numberAt 2 (rest s at) 0) (z : size ≡ numberAt 2 (rest s at) 2) where
+  pub header-refused : {n : ℕ} → n ≡ headerRefusal code size (length (rest s at)) → (n ≡ 0 → ⊥) → Refused n ≡ stepAt s at
+  header-refused {n} e h =
+      unless-refused n (unless (nameRefusal (take size (drop 8 (rest s at)))) (past (at + (8 + size)) (dataOf (sizeOf code) (numberAt 4 (rest s at) 4) (drop (8 + size) (rest s at))))) h
+      ∙ rw e (step-rest s at c z refl)
+
+  module _ (right : headerRefusal code size (length (rest s at)) ≡ 0) where
+    pub name-refused : bytesOk (take size (drop 8 (rest s at))) ≡ false → Refused 11 ≡ stepAt s at
+    name-refused e = rw (right, e) at (step-rest s at c z refl)
+
+    pub by-data : bytesOk (take size (drop 8 (rest s at))) ≡ true → {len : ℕ} → len ≡ numberAt 4 (rest s at) 4
+        → {e : Extent} → e ≡ dataOf (sizeOf code) len (drop (8 + size) (rest s at)) → past (at + (8 + size)) e ≡ stepAt s at
+    by-data ok l d = rw d (rw (right, ok) at (step-rest s at c z l))

@@ -1,0 +1,77 @@
+-- Document 01: "Property header, 8 bytes: type u16, name size u16, array length u32; then the name, then the data"; its
+-- refusals 10 and 11 in the order "header fits, type, name size, name fits, name bytes, string length, data fits".
+-- Places are offsets in a body, whose end is the node's end.
+use Prim.Native.Nat.{ℕ, zero, suc, _+_, _-_, _*_}
+use mathlib.Core.Bool.{Bool, true, false, cond}
+use mathlib.Core.List.{List, [], _∷_}
+use lib.Dec.{eqb, ltb}
+use lib.ListN.{length, take, drop}
+use Rattle.le.specs.Le.{numberAt}
+use Rattle.names.specs.Names.{sizeOk, bytesOk}
+use Rattle.props.specs.declared.Size.{Size}
+use Rattle.props.specs.declared.Size.the-variants.{Bytes, Text, NoSuch}
+use Rattle.props.specs.declared.Extent.{Extent}
+use Rattle.props.specs.declared.Extent.the-variants.{Takes}
+use Rattle.props.specs.declared.Extent.the-variants.{Refused as noData}
+use Rattle.props.specs.declared.Cursor.{Cursor}
+use Rattle.props.specs.declared.Step.{Step}
+use Rattle.props.specs.declared.Step.the-variants.{Past, Refused}
+use Rattle.props.specs.Types.{sizeOf, noSuch}
+
+-- Stage 1, the header: from its type, its name size and the bytes left from its start to the end. 0 is no refusal.
+-- header fits, type, name size, name fits
+unfoldable pub headerRefusal : ℕ → ℕ → ℕ → ℕ
+headerRefusal code size room =
+    cond (ltb room 8) 10
+    (cond (noSuch (sizeOf code)) 11
+    (cond (sizeOk size)
+    (cond (ltb room (8 + size)) 10 0)
+    11))
+
+-- Stage 2, the name. name bytes
+abbrev pub nameRefusal : List ℕ → ℕ
+nameRefusal name = cond (bytesOk name) 0 11
+
+-- Stage 3, a string's end: "the data runs up to and including the first zero byte". One past all bytes where there is
+-- no zero.
+unfoldable pub toZero : List ℕ → ℕ
+toZero [] = 1
+toZero (b ∷ bs) = cond (eqb b 0) 1 (suc (toZero bs))
+
+-- Stage 4, the data's end: how many of the bytes after the name it takes. string length, data fits
+abbrev pub fit : ℕ → List ℕ → Extent
+fit n rest = cond (ltb (length rest) n) (noData 10) (Takes n)
+
+unfoldable pub dataOf : Size → ℕ → List ℕ → Extent
+dataOf (Bytes w) len rest = fit (len * w) rest
+dataOf Text len rest = cond (eqb len 1) (fit (toZero rest) rest) (noData 11)
+dataOf NoSuch len rest = noData 11
+
+-- the stages, one after the other
+abbrev pub unless : ℕ → Step → Step
+unless zero next = next
+unless (suc n) next = Refused (suc n)
+
+abbrev pub past : ℕ → Extent → Step
+past start (Takes n) = Past start (record { at = start + n })
+past start (noData n) = Refused n
+
+-- the property at a place of a body
+unfoldable pub stepAt : List ℕ → ℕ → Step
+stepAt s at =
+    let code = numberAt 2 s at in
+    let size = numberAt 2 s (at + 2) in
+    let len = numberAt 4 s (at + 4) in
+    let name = at + 8 in
+    let start = at + 8 + size in
+    unless (headerRefusal code size (length s - at))
+    (unless (nameRefusal (take size (drop name s)))
+    (past start (dataOf (sizeOf code) len (drop start s))))
+
+-- where the data of the property at a place starts; the body's end where that is past it
+unfoldable pub dataAt : List ℕ → ℕ → ℕ
+dataAt s at = let start = at + 8 + numberAt 2 s (at + 2) in cond (ltb (length s) start) (length s) start
+
+-- the name of the property at a place, as far as the body has it
+unfoldable pub nameAt : List ℕ → ℕ → List ℕ
+nameAt s at = take (numberAt 2 s (at + 2)) (drop (at + 8) s)

@@ -1,0 +1,218 @@
+// One property at a time: its type, its name, its data, and the position just past it.
+ghost use mathlib.Core.Path.{_≡_};
+ghost use Prim.Native.Nat.{_+_, _≤_, _<_};
+ghost use lib.Dec.{leb};
+ghost use lib.ListN.{length, drop};
+ghost use Rattle.props.specs.Types.{sizeOf, noSuch, widthOf};
+ghost use Rattle.props.specs.Step.{headerRefusal, toZero, dataOf, stepAt, dataAt, nameAt};
+
+// The size of one element, by type code. A string's size is found in its data.
+pub enum Size {
+    Bytes(u32),
+    Text,
+    NoSuch,
+}
+
+pub fn size_of(code: u16) -> Size
+    ensures { λ r. ⌜ r ≡ sizeOf code ⌝ }
+{
+    match code {
+        0x62 => Size::Bytes(1), // b
+        0x68 => Size::Bytes(2), // h
+        0x69 => Size::Bytes(4), // i
+        0x6C => Size::Bytes(8), // l
+        0x66 => Size::Bytes(4), // f
+        0x64 => Size::Bytes(8), // d
+        0x7632 => Size::Bytes(8), // v2
+        0x7633 => Size::Bytes(12), // v3
+        0x7634 => Size::Bytes(16), // v4
+        0x73 => Size::Text, // s
+        _ => Size::NoSuch,
+    }
+}
+
+fn no_such(size: Size) -> bool
+    ensures { λ r. ⌜ r ≡ noSuch size ⌝ }
+{
+    match size {
+        Size::Bytes(_) => false,
+        Size::Text => false,
+        Size::NoSuch => true,
+    }
+}
+
+fn wide(x: u16) -> usize
+    ensures { λ r. ⌜ (r ≡ x) × (r < 65536) ⌝ }
+{
+    x as usize
+}
+
+// What a property's type and name size are refused with, where `room` bytes are left from its header on: 0 for nothing.
+pub fn header_refusal(code: u16, size: u16, room: usize) -> u32
+    ensures { λ r. ⌜ r ≡ headerRefusal code size room ⌝ }
+{
+    if room < 8 {
+        return 10;
+    }
+    if no_such(size_of(code)) {
+        return 11;
+    }
+    if !names::size_ok(size) {
+        return 11;
+    }
+    if room - 8 < wide(size) {
+        return 10;
+    }
+    0
+}
+
+// Whether any byte is zero. It has no early way out, so that it is compiled to a few wide comparisons.
+fn has_zero(block: &[u8]) -> bool
+    ensures { λ r. ⌜ r ≡ leb (toZero (now (block .entry))) (length (now (block .entry))) ⌝ }
+{
+    let mut any = false;
+    let mut i: usize = 0;
+    while i < block.len() {
+        any = any | (block[i] == 0);
+        i += 1;
+    }
+    any
+}
+
+// A place up to which no byte is zero, found by blocks.
+fn clear_of_zeros(bytes: &[u8]) -> usize
+    ensures { λ r. ⌜ (r ≤ length (now (bytes .entry))) × (r + toZero (drop r (now (bytes .entry))) ≡ toZero (now (bytes .entry))) ⌝ }
+{
+    let mut i: usize = 0;
+    while 64 <= bytes.len() - i {
+        let end = i + 64;
+        if has_zero(&bytes[i..end]) {
+            return i;
+        }
+        i = end;
+    }
+    i
+}
+
+// How many bytes a string takes, its zero included; one more than there are where no zero is.
+fn to_zero(bytes: &[u8]) -> usize
+    ensures { λ r. ⌜ r ≡ toZero (now (bytes .entry)) ⌝ }
+{
+    let mut i = clear_of_zeros(bytes);
+    while i < bytes.len() {
+        if bytes[i] == 0 {
+            return i + 1;
+        }
+        i += 1;
+    }
+    i + 1
+}
+
+// How many bytes the data takes, or what it is refused with.
+pub enum Extent {
+    Takes(usize),
+    Refused(u32),
+}
+
+// The data at the start of `rest`, as so many elements of this size.
+fn data_of(size: Size, length: u32, rest: &[u8]) -> Extent
+    requires { ⌜ widthOf size ≤ 16 ⌝ }
+    ensures { λ r. ⌜ r ≡ dataOf size length (now (rest .entry)) ⌝ }
+{
+    match size {
+        Size::Bytes(w) => {
+            let n = length as usize * w as usize;
+            if rest.len() < n {
+                return Extent::Refused(10);
+            }
+            Extent::Takes(n)
+        }
+        Size::Text => {
+            if length != 1 {
+                return Extent::Refused(11);
+            }
+            let n = to_zero(rest);
+            if rest.len() < n {
+                return Extent::Refused(10);
+            }
+            Extent::Takes(n)
+        }
+        Size::NoSuch => Extent::Refused(11),
+    }
+}
+
+// A position in a body.
+pub struct Cursor {
+    pub at: usize,
+}
+
+// Past a property, with the offset of its data; or the refusal of the property at the cursor.
+pub enum Step {
+    Past { data: usize, next: Cursor },
+    Refused(u32),
+}
+
+impl Cursor {
+    // Steps past one property: header fits, type, name size, name fits, name bytes, string length, data fits.
+    pub fn step(self, body: &[u8]) -> Step
+        ensures { λ r. ⌜ r ≡ stepAt (now (body .entry)) (self .at) ⌝ }
+    {
+        let at = self.at;
+        if body.len() < at {
+            return Step::Refused(10);
+        }
+        let header = &body[at..];
+        let code = le::u16_at(header, 0);
+        let size = le::u16_at(header, 2);
+        let refusal = header_refusal(code, size, header.len());
+        if refusal != 0 {
+            return Step::Refused(refusal);
+        }
+        let data = 8 + wide(size);
+        if !names::bytes_ok(&header[8..data]) {
+            return Step::Refused(11);
+        }
+        let length = le::u32_at(header, 4);
+        match data_of(size_of(code), length, &header[data..]) {
+            Extent::Takes(n) => {
+                let start = at + data;
+                let end = start + n;
+                Step::Past {
+                    data: start,
+                    next: Cursor { at: end },
+                }
+            }
+            Extent::Refused(number) => Step::Refused(number),
+        }
+    }
+}
+
+// Where the data of the property at a place starts, by its name size; at most the body's end.
+pub fn data_at(body: &[u8], at: usize) -> usize
+    ensures { λ r. ⌜ (r ≡ dataAt (now (body .entry)) at) × (r ≤ length (now (body .entry))) ⌝ }
+{
+    let n = body.len();
+    if n < at {
+        return n;
+    }
+    let data = 8 + wide(le::u16_at(&body[at..], 2));
+    if n - at < data {
+        return n;
+    }
+    at + data
+}
+
+// The name of the property at a place, as far as the body has it.
+pub fn name_at(body: &[u8], at: usize) -> &[u8]
+    ensures { λ r. ⌜ now r ≡ nameAt (now (body .entry)) at ⌝ }
+{
+    let data = data_at(body, at);
+    if data < 8 {
+        return &body[0..0];
+    }
+    if data - 8 < at {
+        return &body[0..0];
+    }
+    let start = at + 8;
+    &body[start..data]
+}

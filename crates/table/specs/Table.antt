@@ -1,0 +1,69 @@
+-- Document 01's table: "One row of eight u32 per node, in the file order of their headers: kind, hash low, hash high,
+-- parent row (0xFFFFFFFF for none), body start, body end, property count, child count." The layout is known here alone.
+use Prim.Native.Nat.{ℕ, suc, _+_, _-_, _*_}
+use mathlib.Core.Bool.{Bool, cond}
+use mathlib.Core.List.{List, [], _∷_, _++_}
+use lib.Dec.{leb}
+use lib.ListN.{length, getD, drop, replicate}
+use lib.Seq.{sets}
+use Rattle.table.specs.declared.Row.{Row}
+
+-- the row whose numbers start at a place
+abbrev pub rowFrom : List ℕ → ℕ → Row
+rowFrom t at = record {
+  kind = getD t at 0;
+  low = getD t (at + 1) 0;
+  high = getD t (at + 2) 0;
+  parent = getD t (at + 3) 0;
+  start = getD t (at + 4) 0;
+  end = getD t (at + 5) 0;
+  properties = getD t (at + 6) 0;
+  children = getD t (at + 7) 0;
+}
+
+-- the numbers of a row
+abbrev pub fields : Row → List ℕ
+fields r =
+    r .kind ∷ r .low ∷ r .high ∷ r .parent ∷
+    r .start ∷ r .end ∷ r .properties ∷ r .children ∷ []
+
+-- the row lies wholly in the table
+unfoldable pub hasRow : List ℕ → ℕ → Bool
+hasRow t k = leb (k * 8 + 8) (length t)
+
+abbrev pub blank : Row
+blank = rowFrom [] 0
+
+-- a row of the table; one of zeros where it does not lie wholly in it
+unfoldable pub rowAt : List ℕ → ℕ → Row
+rowAt t k = cond (hasRow t k) (rowFrom t (k * 8)) blank
+
+-- the table with one row put; the same table where the row does not lie wholly in it
+unfoldable pub withRow : List ℕ → ℕ → Row → List ℕ
+withRow t k r = cond (hasRow t k) (sets t (k * 8) (fields r)) t
+
+-- rows put one after the other, from row k on
+unfoldable pub putRows : List ℕ → ℕ → List Row → List ℕ
+putRows t k [] = t
+putRows t k (r ∷ rs) = putRows (withRow t k r) (suc k) rs
+
+-- the table is not "shorter than 8,192 numbers (1,024 rows)"
+unfoldable pub hasRoom : List ℕ → Bool
+hasRoom t = leb 8192 (length t)
+
+-- n zeros, and the rest as it was
+unfoldable pub zeroed : ℕ → List ℕ → List ℕ
+zeroed n t = replicate n 0 ++ drop n t
+
+-- "its first 8,192 numbers are 0", and the rest as it was; a table without room is left
+unfoldable pub cleared : List ℕ → List ℕ
+cleared t = cond (hasRoom t) (zeroed 8192 t) t
+
+-- the numbers of rows, one row after the other
+unfoldable pub flat : List Row → List ℕ
+flat [] = []
+flat (r ∷ rs) = fields r ++ flat rs
+
+-- rows, and "the numbers after the rows, up to 8,192, are 0", and the rest as it was
+unfoldable pub filled : List Row → List ℕ → List ℕ
+filled rs t = flat rs ++ replicate (8192 - length rs * 8) 0 ++ drop 8192 t

@@ -1,0 +1,122 @@
+// The table: rows of eight numbers in a lent slice. No other crate knows where a row's numbers lie.
+ghost use mathlib.Core.Path.{_≡_};
+ghost use Prim.Native.Nat.{_+_, _*_, _≤_};
+ghost use lib.ListN.{length};
+ghost use lib.Seq.{sets};
+ghost use Rattle.table.specs.Table.{hasRow, rowFrom, rowAt, fields, withRow, hasRoom, zeroed, cleared};
+
+// A node: its kind, the halves of its hash, its parent's row (0xFFFFFFFF for none), where its body starts and ends, its
+// property count and its child count.
+pub struct Row {
+    pub kind: u32,
+    pub low: u32,
+    pub high: u32,
+    pub parent: u32,
+    pub start: u32,
+    pub end: u32,
+    pub properties: u32,
+    pub children: u32,
+}
+
+// Whether a row lies wholly in the table.
+pub fn has_row(table: &[u32], row: usize) -> bool
+    ensures { λ r. ⌜ r ≡ hasRow (now (table .entry)) row ⌝ }
+{
+    row < table.len() / 8
+}
+
+// The numbers of a row that lies in the table.
+fn read_row(table: &[u32], row: usize) -> Row
+    requires { ⌜ row * 8 + 8 ≤ length (now table) ⌝ }
+    ensures { λ r. ⌜ r ≡ rowFrom (now (table .entry)) (row * 8) ⌝ }
+{
+    let at = row * 8;
+    let kind = table[at];
+    let low = table[at + 1];
+    let high = table[at + 2];
+    let parent = table[at + 3];
+    let start = table[at + 4];
+    let end = table[at + 5];
+    let properties = table[at + 6];
+    let children = table[at + 7];
+    Row {
+        kind,
+        low,
+        high,
+        parent,
+        start,
+        end,
+        properties,
+        children,
+    }
+}
+
+// A row of the table; a row of zeros where it does not lie wholly in the table.
+pub fn row_at(table: &[u32], row: usize) -> Row
+    ensures { λ r. ⌜ r ≡ rowAt (now (table .entry)) row ⌝ }
+{
+    if !has_row(table, row) {
+        return Row {
+            kind: 0,
+            low: 0,
+            high: 0,
+            parent: 0,
+            start: 0,
+            end: 0,
+            properties: 0,
+            children: 0,
+        };
+    }
+    read_row(table, row)
+}
+
+fn write_row(table: &mut [u32], row: usize, r: Row)
+    requires { ⌜ row * 8 + 8 ≤ length (now table) ⌝ }
+    ensures { λ _. ⌜ now (table .exit) ≡ sets (now (table .entry)) (row * 8) (fields r) ⌝ }
+{
+    let at = row * 8;
+    table[at] = r.kind;
+    table[at + 1] = r.low;
+    table[at + 2] = r.high;
+    table[at + 3] = r.parent;
+    table[at + 4] = r.start;
+    table[at + 5] = r.end;
+    table[at + 6] = r.properties;
+    table[at + 7] = r.children;
+}
+
+// Puts a row into the table; leaves the table where the row does not lie wholly in it.
+pub fn put_row(table: &mut [u32], row: usize, r: Row)
+    ensures { λ _. ⌜ now (table .exit) ≡ withRow (now (table .entry)) row r ⌝ }
+{
+    if has_row(table, row) {
+        write_row(table, row, r);
+    }
+}
+
+// Whether the table takes a file's rows: 8,192 numbers, which are 1,024 rows.
+pub fn has_room(table: &[u32]) -> bool
+    ensures { λ r. ⌜ r ≡ hasRoom (now (table .entry)) ⌝ }
+{
+    8192 <= table.len()
+}
+
+fn zero(table: &mut [u32])
+    requires { ⌜ 8192 ≤ length (now table) ⌝ }
+    ensures { λ _. ⌜ now (table .exit) ≡ zeroed 8192 (now (table .entry)) ⌝ }
+{
+    let mut i: usize = 0;
+    while i < 8192 {
+        table[i] = 0;
+        i += 1;
+    }
+}
+
+// Clears the rows: the first 8,192 numbers become 0. A shorter table is left.
+pub fn clear(table: &mut [u32])
+    ensures { λ _. ⌜ now (table .exit) ≡ cleared (now (table .entry)) ⌝ }
+{
+    if has_room(table) {
+        zero(table);
+    }
+}

@@ -1,0 +1,56 @@
+-- `vectors::buffers::numbers_checksum`: what is left of the numbers falls.
+use native.Mathlib.Omega.{arith}
+use borrow.Author.Needs.{needs}
+use Prim.Native.Nat.{_≤_, _-_}
+use lib.ListN.{length}
+use Rattle.vectors.proofs.buffers.numbers_checksum.Statement.{statement}
+use Rattle.vectors.proofs.buffers.numbers_checksum.Tie as tie
+
+abbrev Inv-loop : tie.InvT-loop
+Inv-loop numbers sum₀ i₀ sum i = i ≤ length numbers
+
+abbrev μ-loop : tie.MeasureT-loop
+μ-loop numbers sum₀ i₀ sum i = length numbers - i
+
+loop-holds : tie.Need-loop-holds Inv-loop μ-loop
+loop-holds c = search needs
+
+mul-with : tie.Need-mul-with Inv-loop μ-loop
+mul-with c = search needs
+
+shared-slice-read-with : tie.Need-shared-slice-read-with Inv-loop μ-loop
+shared-slice-read-with c = search needs
+
+cast-with : tie.Need-cast-with Inv-loop μ-loop
+cast-with c = omega (arith, c .shared-slice-known2 .given (c .before .before .loop .i))
+
+with-requires : tie.Need-with-requires Inv-loop μ-loop
+with-requires c κs = search needs
+
+add-i : tie.Need-add-i Inv-loop μ-loop
+add-i c = search needs
+
+loop-less : tie.Need-loop-less Inv-loop μ-loop
+loop-less c = search needs
+
+loop-again : tie.Need-loop-again Inv-loop μ-loop
+loop-again c = search needs
+
+returns : tie.Need-returns Inv-loop μ-loop
+returns c = search needs
+
+pub numbers-checksum-spec : {M : Type 1} → statement M
+numbers-checksum-spec =
+    tie.close
+    (tie.spec
+    Inv-loop
+    μ-loop
+    loop-holds
+    mul-with
+    shared-slice-read-with
+    cast-with
+    with-requires
+    add-i
+    loop-less
+    loop-again
+    returns)

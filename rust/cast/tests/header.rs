@@ -1,0 +1,59 @@
+//! The header is C and C++, and what it declares is in the library.
+
+use std::path::{Path, PathBuf};
+use std::process::Command;
+
+const ANSWERS: &str = "\
+0 0 10 13
+40 0 0 0
+40 0 0 0
+41 0 0 0
+41 0 0 0
+43 0 0 0
+43 0 0 0
+";
+
+fn project(path: &str) -> PathBuf {
+    Path::new(env!("CARGO_MANIFEST_DIR"))
+        .join("../..")
+        .join(path)
+}
+
+/// Runs a command that must succeed, and answers what it prints.
+fn run(command: &mut Command) -> String {
+    let output = command.output().expect("the command starts");
+    let said = String::from_utf8_lossy(&output.stderr);
+    assert!(output.status.success(), "{command:?}: {said}");
+    String::from_utf8(output.stdout).expect("plain text")
+}
+
+fn compiler() -> Command {
+    let mut command = Command::new("cc");
+    command.args(["-Wall", "-Wextra", "-Wpedantic", "-Werror", "-I"]);
+    command.arg(project("include"));
+    command
+}
+
+#[test]
+fn a_c_program_gets_the_answers() {
+    let program = Path::new(env!("CARGO_TARGET_TMPDIR")).join("header");
+    let source = Path::new(env!("CARGO_MANIFEST_DIR")).join("tests/header.c");
+    let library = project("target/staticlib/libcast.a");
+    run(compiler()
+        .arg("-std=c11")
+        .arg(source)
+        .arg(library)
+        .arg("-o")
+        .arg(&program));
+    assert_eq!(run(&mut Command::new(program)), ANSWERS);
+}
+
+#[test]
+fn the_header_stands_alone_in_c_and_cpp() {
+    for language in ["c", "c++"] {
+        let header = project("include/cast.h");
+        run(compiler()
+            .args(["-fsyntax-only", "-x", language])
+            .arg(header));
+    }
+}

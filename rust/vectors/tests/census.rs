@@ -1,0 +1,44 @@
+//! How often each function and each answer of it is among the cases.
+
+use std::collections::BTreeMap;
+use vectors::function::{EXACT, INDEX, LOOKUP, STEP};
+
+#[test]
+fn every_answer_is_among_the_cases() {
+    let made = vectors::make();
+    let text = String::from_utf8(made.stdout).expect("digits, spaces and newlines");
+    let mut census: BTreeMap<u32, BTreeMap<u64, usize>> = BTreeMap::new();
+    for line in text.lines() {
+        let mut numbers = line.split(' ');
+        let mut number = || numbers.next().and_then(|text| text.parse().ok());
+        let (function, answer) = (number().expect("a number"), number().expect("a number"));
+        *census
+            .entry(function as u32)
+            .or_default()
+            .entry(answer)
+            .or_default() += 1;
+    }
+    for (function, answers) in &census {
+        let total: usize = answers.values().sum();
+        let few = answers.len() <= 6;
+        let counts = answers.iter().filter(|_| few);
+        let counts: String = counts
+            .map(|(answer, count)| format!(" {answer}:{count}"))
+            .collect();
+        println!("{function:3}: {total:4}{counts}");
+    }
+    for (function, answers, least) in [
+        (STEP, &[0, 10, 11][..], 100),
+        (INDEX, &[0, 9, 10, 11], 20),
+        (EXACT, &[0, 1], 100),
+        (LOOKUP, &[0, 40, 41, 42, 43], 60),
+    ] {
+        for answer in answers {
+            let count = census[&function].get(answer).copied().unwrap_or(0);
+            assert!(
+                count >= least,
+                "{function} answers {answer} only {count} times"
+            );
+        }
+    }
+}
