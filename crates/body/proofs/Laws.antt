@@ -10,6 +10,7 @@ use lib.Seq.{drop-cons, sets}
 use borrow.Author.Tests.{lt-ltb, le-ltb}
 use Rattle.names.specs.Names.{same}
 use Rattle.props.specs.declared.Cursor.{Cursor}
+use Rattle.props.specs.declared.Property.{Property}
 use Rattle.props.specs.declared.Step.the-variants.{Past, Refused}
 use Rattle.props.specs.Step.{stepAt, nameAt}
 use Rattle.body.specs.declared.Index.{Index}
@@ -34,7 +35,7 @@ module _ (s : List ℕ) where
     unfolding pass
     one = let next : k ≡ suc (k - 1) = omega arith in ap (λ n. pass s n at) next
 
-    pub passed : {start : ℕ} {next : Cursor} → stepAt s at ≡ Past start next → pass s k at ≡ after at (pass s (k - 1) (next .at))
+    pub passed : {p : Property} {next : Cursor} → stepAt s at ≡ Past p next → pass s k at ≡ after at (pass s (k - 1) (next .at))
     passed e = one ∙ ap (byStep at (pass s (k - 1))) e
 
     pub refused : {n : ℕ} → stepAt s at ≡ Refused n → pass s k at ≡ stop n at

@@ -19,17 +19,17 @@ module _ (s : List ℕ) where
   -- what holds of a walk from the next property on holds of one from this property on
   module _ (at : ℕ) (on : ℕ → Walked) where
     step-few : (k : ℕ) → ((a : ℕ) → length (on a .starts) ≤ k) → (w : Step) → length (byStep at on w .starts) ≤ suc k
-    step-few k h (Past start next) = omega (arith, h (next .at))
+    step-few k h (Past q next) = omega (arith, h (next .at))
     step-few k h (Refused n) = omega arith
 
     step-first : (w : Step) → getD (places (byStep at on w)) 0 0 ≡ at
-    step-first (Past start next) = refl
+    step-first (Past q next) = refl
     step-first (Refused n) = refl
 
     step-places : at ≤ length s → ((a : ℕ) → a ≤ length s → (j : ℕ) → getD (places (on a)) j 0 ≤ length s) →
         (w : Step) → StepWithin s at w → (j : ℕ) → getD (places (byStep at on w)) j 0 ≤ length s
-    step-places h ih (Past start next) p zero = h
-    step-places h ih (Past start next) p (suc j) = ih (next .at) (p .2) j
+    step-places h ih (Past q next) p zero = h
+    step-places h ih (Past q next) p (suc j) = ih (next .at) (p .2) j
     step-places h ih (Refused n) p zero = h
     step-places h ih (Refused n) p (suc j) = omega arith
 
@@ -37,8 +37,8 @@ module _ (s : List ℕ) where
         ((a j : ℕ) → j < length (on a .starts) → dataAt s (getD (on a .starts) j 0) ≤ getD (places (on a)) (suc j) 0) →
         (w : Step) → StepWithin s at w → (j : ℕ) → j < length (byStep at on w .starts) →
         dataAt s (getD (byStep at on w .starts) j 0) ≤ getD (places (byStep at on w)) (suc j) 0
-    step-data first ih (Past start next) p zero h = omega (arith, first (next .at), p .0, p .1)
-    step-data first ih (Past start next) p (suc j) h = ih (next .at) j (omega (arith, h))
+    step-data first ih (Past q next) p zero h = omega (arith, first (next .at), p .0, p .1)
+    step-data first ih (Past q next) p (suc j) h = ih (next .at) j (omega (arith, h))
     step-data first ih (Refused n) p j h = absurd (omega (arith, h))
 
   pub pass-few : (k at : ℕ) → length (pass s k at .starts) ≤ k

@@ -1,5 +1,5 @@
--- The properties of a body: document 01's 9 to 11 in the reader, its 23 in the writer and its 42 in the lookup all go by
--- these definitions.
+-- So many properties from the start of some bytes on: for document 01's 9 to 11 in the reader, all that is left of the
+-- node; for its 23 in the writer and its 42 in the lookup, the body.
 use Prim.Native.Nat.{ℕ, zero, suc}
 use mathlib.Core.Bool.{Bool, true, false, cond, _&&_}
 use mathlib.Core.List.{List, [], _∷_, _++_}
@@ -13,8 +13,8 @@ use Rattle.props.specs.Step.{stepAt, nameAt}
 use Rattle.body.specs.declared.Passed.{Passed}
 use Rattle.body.specs.declared.Index.{Index}
 
--- how a walk over properties ended: the refusal's number (0 for none), the place (just past the last property, or the
--- refused property's), and where those that were passed start
+-- how a walk over properties ended: the refusal's number, 0 for none; the place, which is just past the last property,
+-- or the refused property's, and 0 for 9, whose place is the node's; and where the properties start that were passed
 pub record Walked : Type 0 where
   pub number : ℕ
   pub at : ℕ
@@ -28,7 +28,7 @@ after at w = record { number = w .number; at = w .at; starts = at ∷ w .starts 
 
 -- past the property at a place, and on from there; or refused there
 abbrev pub byStep : ℕ → (ℕ → Walked) → Step → Walked
-byStep at on (Past start next) = after at (on (next .at))
+byStep at on (Past p next) = after at (on (next .at))
 byStep at on (Refused n) = stop n at
 
 -- so many properties from a place on
@@ -36,11 +36,11 @@ unfoldable pub pass : List ℕ → ℕ → ℕ → Walked
 pass s zero at = stop 0 at
 pass s (suc k) at = byStep at (pass s k) (stepAt s at)
 
--- "known node with over 64 properties", or 10 and 11 of the first property that has them
+-- 9, "over 64 properties"; or what the first property that is refused is refused with
 unfoldable pub properties : List ℕ → ℕ → Walked
 properties s k = cond (ltb 64 k) (stop 9 0) (pass s k 0)
 
--- the body "is exactly its count (at most 64) of properties by the rules of 9 to 11"
+-- "exactly its count (at most 64) of properties by the rules of 9 to 11": none is refused, and they end with the bytes
 unfoldable pub exactly : List ℕ → ℕ → Bool
 exactly s k = eqb (properties s k .number) 0 && eqb (properties s k .at) (length s)
 

@@ -22,7 +22,7 @@ pub fn pass(body: &[u8], count: u32) -> Passed
     while 0 < left {
         let cursor = props::Cursor { at };
         match cursor.step(body) {
-            props::Step::Past { data: _, next } => {
+            props::Step::Past { property: _, next } => {
                 at = next.at;
                 left -= 1;
             }
@@ -70,7 +70,7 @@ pub fn index_of(body: &[u8], count: u32) -> Index
         starts[i] = at;
         let cursor = props::Cursor { at };
         match cursor.step(body) {
-            props::Step::Past { data: _, next } => {
+            props::Step::Past { property: _, next } => {
                 at = next.at;
                 i += 1;
                 left -= 1;

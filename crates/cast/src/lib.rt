@@ -1,5 +1,7 @@
 // The exported functions. include/cast.h declares them.
 ghost use mathlib.Core.Path.{_≡_};
+ghost use Prim.Native.Nat.{_≤_};
+ghost use lib.ListN.{length};
 ghost use Rattle.cast.specs.Cast.{foundOf};
 ghost use Rattle.lookup.specs.Lookup.{lookupOf};
 
@@ -14,7 +16,7 @@ pub struct CastFound {
 // Finds a property of a row by its name: its data is bytes[start..end].
 #[no_mangle]
 pub extern "C" fn cast_lookup(bytes: &[u8], table: &[u32], row: usize, name: &[u8]) -> CastFound
-    ensures { λ r. ⌜ r ≡ foundOf (lookupOf (now (bytes .entry)) (now (table .entry)) row (now (name .entry))) ⌝ }
+    ensures { λ r. ⌜ (r ≡ foundOf (lookupOf (now (bytes .entry)) (now (table .entry)) row (now (name .entry)))) × (r .start ≤ r .end) × (r .end ≤ length (now (bytes .entry))) ⌝ }
 {
     let found = lookup::find(bytes, table, row, name);
     let lookup::Found::At { start, end } = found else {

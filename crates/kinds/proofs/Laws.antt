@@ -8,7 +8,7 @@ use lib.Seq.{drop-cons}
 use borrow.Author.Tests.{eq-eqb, ne-eqb}
 use Rattle.kinds.specs.declared.Line.{Line}
 use Rattle.kinds.specs.declared.Listed.the-variants.{At, Unknown}
-use Rattle.kinds.specs.Kinds.{lines, lineIn, lineAt, under}
+use Rattle.kinds.specs.Kinds.{lines, lineIn, lineAt, atTop}
 
 many : length lines ≡ 16
 unfolding lines
@@ -17,11 +17,11 @@ many = refl
 module _ (k i : ℕ) (h : i < 16) {line : Line} (e : line ≡ lineAt i) where
   pub passed : (line .kind ≡ k → ⊥) → lineIn (drop i lines) k ≡ lineIn (drop (i + 1) lines) k
   unfolding lineIn lineAt
-  passed n = rw (add-one, drop-cons lines i (under 0 0) (omega (arith, many)), ← e, ne-eqb (line .kind) k n)
+  passed n = rw (add-one, drop-cons lines i (atTop 0) (omega (arith, many)), ← e, ne-eqb (line .kind) k n)
 
   pub hit : line .kind ≡ k → lineIn (drop i lines) k ≡ At line
   unfolding lineIn lineAt
-  hit n = rw (drop-cons lines i (under 0 0) (omega (arith, many)), ← e, eq-eqb (line .kind) k n)
+  hit n = rw (drop-cons lines i (atTop 0) (omega (arith, many)), ← e, eq-eqb (line .kind) k n)
 
 pub ended : (k i : ℕ) → 16 ≤ i → lineIn (drop i lines) k ≡ Unknown
 unfolding lineIn

@@ -1,13 +1,15 @@
 -- Document 01's kinds and parents: "Any other kind is unknown: it may stand below any known node"; "Root stands only at
 -- the top".
 use Prim.Native.Nat.{ℕ}
-use mathlib.Core.Bool.{Bool, true, false, _||_}
+use mathlib.Core.Bool.{Bool, true, false, cond, _&&_, _||_}
 use mathlib.Core.List.{List, [], _∷_}
-use lib.Dec.{eqb}
+use lib.Dec.{eqb, leb}
 use lib.ListN.{getD}
 use Rattle.kinds.specs.declared.Line.{Line}
 use Rattle.kinds.specs.declared.Listed.{Listed}
 use Rattle.kinds.specs.declared.Listed.the-variants.{At, Unknown}
+use Rattle.kinds.specs.declared.Parent.{Parent}
+use Rattle.kinds.specs.declared.Parent.the-variants.{None, Kind}
 
 abbrev pub root : ℕ
 root = 0x746F6F72
@@ -57,20 +59,20 @@ instance = 0x74736E69
 abbrev pub metadata : ℕ
 metadata = 0x6174656D
 
--- the top of the file, in the place of a parent's kind: no kind of the sixteen has this number
-abbrev pub top : ℕ
-top = 0
+-- a kind that stands at the top, under one kind, or under either of two
+abbrev pub atTop : ℕ → Line
+atTop k = record { kind = k; count = 0; first = 0; second = 0 }
 
 abbrev pub under : ℕ → ℕ → Line
-under k p = record { kind = k; parent = p; other = p }
+under k p = record { kind = k; count = 1; first = p; second = 0 }
 
 abbrev pub underEither : ℕ → ℕ → ℕ → Line
-underEither k p q = record { kind = k; parent = p; other = q }
+underEither k p q = record { kind = k; count = 2; first = p; second = q }
 
 -- the sixteen, in the order in which document 01 lists them, each with its parents
 unfoldable pub lines : List Line
 lines =
-    under root top ∷
+    atTop root ∷
     under model root ∷
     under mesh model ∷
     under blendShape model ∷
@@ -88,14 +90,10 @@ lines =
     under metadata root ∷
     []
 
-abbrev pub pick : Bool → Listed → Listed → Listed
-pick true a b = a
-pick false a b = b
-
 -- the line of a kind among some
 unfoldable pub lineIn : List Line → ℕ → Listed
 lineIn [] k = Unknown
-lineIn (l ∷ ls) k = pick (eqb (l .kind) k) (At l) (lineIn ls k)
+lineIn (l ∷ ls) k = cond (eqb (l .kind) k) (At l) (lineIn ls k)
 
 unfoldable pub lineOf : ℕ → Listed
 lineOf k = lineIn lines k
@@ -108,14 +106,26 @@ isListed Unknown = false
 unfoldable pub isKnown : ℕ → Bool
 isKnown k = isListed (lineOf k)
 
-abbrev pub mayStandBy : ℕ → Listed → Bool
-mayStandBy p (At l) = eqb p (l .parent) || eqb p (l .other)
-mayStandBy p Unknown = isKnown p
+-- at the top: a known kind that stands under none
+abbrev pub topBy : Listed → Bool
+topBy (At l) = eqb (l .count) 0
+topBy Unknown = false
 
--- a known kind under its parents; an unknown one under any known kind, so not at the top
-unfoldable pub mayStand : ℕ → ℕ → Bool
-mayStand p k = mayStandBy p (lineOf k)
+unfoldable pub standsAtTop : ℕ → Bool
+standsAtTop k = topBy (lineOf k)
+
+-- under a kind: a known kind under those of its line, an unknown one under any known
+abbrev pub underBy : ℕ → Listed → Bool
+underBy p (At l) = (leb 1 (l .count) && eqb p (l .first)) || (leb 2 (l .count) && eqb p (l .second))
+underBy p Unknown = isKnown p
+
+unfoldable pub standsUnder : ℕ → ℕ → Bool
+standsUnder p k = underBy p (lineOf k)
+
+unfoldable pub mayStand : Parent → ℕ → Bool
+mayStand None k = standsAtTop k
+mayStand (Kind p) k = standsUnder p k
 
 -- the line at a place of the table
 unfoldable pub lineAt : ℕ → Line
-lineAt i = getD lines i (under 0 0)
+lineAt i = getD lines i (atTop 0)

@@ -1,35 +1,33 @@
 // The kinds of nodes: which are known, and which may stand under which.
 ghost use mathlib.Core.Path.{_≡_};
 ghost use Prim.Native.Nat.{_<_};
-ghost use Rattle.kinds.specs.Kinds.{lineAt, lineOf, isKnown, mayStand};
+ghost use Rattle.kinds.specs.Kinds.{lineAt, lineOf, isKnown, standsAtTop, standsUnder, mayStand};
 
-// In the place of a parent's kind: the top of the file. No known kind has this number.
-pub const TOP: u32 = 0;
-
-// A kind, and the two kinds that it may stand under (the same one twice where there is one).
-const LINES: [[u32; 3]; 16] = [
-    [0x746F6F72, 0, 0], // Root at the top
-    [0x6C646F6D, 0x746F6F72, 0x746F6F72], // Model under Root
-    [0x6873656D, 0x6C646F6D, 0x6C646F6D], // Mesh under Model
-    [0x68736C62, 0x6C646F6D, 0x6C646F6D], // BlendShape under Model
-    [0x6C656B73, 0x6C646F6D, 0x6C646F6D], // Skeleton under Model
-    [0x656E6F62, 0x6C656B73, 0x6C656B73], // Bone under Skeleton
-    [0x64686B69, 0x6C656B73, 0x6C656B73], // IKHandle under Skeleton
-    [0x74736E63, 0x6C656B73, 0x6C656B73], // Constraint under Skeleton
-    [0x6D696E61, 0x746F6F72, 0x746F6F72], // Animation under Root
-    [0x76727563, 0x6D696E61, 0x6D696E61], // Curve under Animation
-    [0x564F4D43, 0x6D696E61, 0x6D696E61], // CurveModeOverride under Animation
-    [0x6669746E, 0x6D696E61, 0x6D696E61], // NotificationTrack under Animation
-    [0x6C74616D, 0x6C646F6D, 0x6C646F6D], // Material under Model
-    [0x656C6966, 0x6C74616D, 0x74736E69], // File under Material or Instance
-    [0x74736E69, 0x746F6F72, 0x746F6F72], // Instance under Root
-    [0x6174656D, 0x746F6F72, 0x746F6F72], // Metadata under Root
+// A kind, how many kinds it may stand under, and which.
+const LINES: [[u32; 4]; 16] = [
+    [0x746F6F72, 0, 0, 0], // Root at the top
+    [0x6C646F6D, 1, 0x746F6F72, 0], // Model under Root
+    [0x6873656D, 1, 0x6C646F6D, 0], // Mesh under Model
+    [0x68736C62, 1, 0x6C646F6D, 0], // BlendShape under Model
+    [0x6C656B73, 1, 0x6C646F6D, 0], // Skeleton under Model
+    [0x656E6F62, 1, 0x6C656B73, 0], // Bone under Skeleton
+    [0x64686B69, 1, 0x6C656B73, 0], // IKHandle under Skeleton
+    [0x74736E63, 1, 0x6C656B73, 0], // Constraint under Skeleton
+    [0x6D696E61, 1, 0x746F6F72, 0], // Animation under Root
+    [0x76727563, 1, 0x6D696E61, 0], // Curve under Animation
+    [0x564F4D43, 1, 0x6D696E61, 0], // CurveModeOverride under Animation
+    [0x6669746E, 1, 0x6D696E61, 0], // NotificationTrack under Animation
+    [0x6C74616D, 1, 0x6C646F6D, 0], // Material under Model
+    [0x656C6966, 2, 0x6C74616D, 0x74736E69], // File under Material or Instance
+    [0x74736E69, 1, 0x746F6F72, 0], // Instance under Root
+    [0x6174656D, 1, 0x746F6F72, 0], // Metadata under Root
 ];
 
 struct Line {
     kind: u32,
-    parent: u32,
-    other: u32,
+    count: u32,
+    first: u32,
+    second: u32,
 }
 
 // The line of a kind, or that the kind is unknown.
@@ -44,12 +42,14 @@ fn line_at(i: usize) -> Line
 {
     let l = LINES[i];
     let kind = l[0];
-    let parent = l[1];
-    let other = l[2];
+    let count = l[1];
+    let first = l[2];
+    let second = l[3];
     Line {
         kind,
-        parent,
-        other,
+        count,
+        first,
+        second,
     }
 }
 
@@ -77,16 +77,44 @@ pub fn known(kind: u32) -> bool
     }
 }
 
-// Whether a node of this kind may stand under one of that kind, or at the top.
-pub fn may_stand(parent: u32, kind: u32) -> bool
-    ensures { λ r. ⌜ r ≡ mayStand parent kind ⌝ }
+// The kind of the node around a node, or that there is none: the node is at the top.
+pub enum Parent {
+    None,
+    Kind(u32),
+}
+
+fn stands_at_top(kind: u32) -> bool
+    ensures { λ r. ⌜ r ≡ standsAtTop kind ⌝ }
 {
     match line_of(kind) {
         Listed::At(line) => {
-            let first = line.parent;
-            let other = line.other;
-            (parent == first) | (parent == other)
+            let count = line.count;
+            count == 0
+        }
+        Listed::Unknown => false,
+    }
+}
+
+fn stands_under(parent: u32, kind: u32) -> bool
+    ensures { λ r. ⌜ r ≡ standsUnder parent kind ⌝ }
+{
+    match line_of(kind) {
+        Listed::At(line) => {
+            let count = line.count;
+            let first = line.first;
+            let second = line.second;
+            ((1 <= count) & (parent == first)) | ((2 <= count) & (parent == second))
         }
         Listed::Unknown => known(parent),
+    }
+}
+
+// Whether a node of this kind may stand there.
+pub fn may_stand(parent: Parent, kind: u32) -> bool
+    ensures { λ r. ⌜ r ≡ mayStand parent kind ⌝ }
+{
+    match parent {
+        Parent::None => stands_at_top(kind),
+        Parent::Kind(k) => stands_under(k, kind),
     }
 }

@@ -1,5 +1,4 @@
-// Little-endian numbers of 2, 4 and 8 bytes at any place of any bytes. A byte past the end reads as zero, and is not
-// written.
+// Little-endian numbers at any place of any bytes. A byte past the end reads as zero, and is not written.
 ghost use mathlib.Core.Path.{_≡_};
 ghost use Prim.Native.Nat.{_≤_, _<_, min};
 ghost use lib.Seq.{sets};

@@ -16,7 +16,7 @@ use Rattle.body.proofs.Laws.{first-most}
 use Rattle.body.proofs.Places.{properties-few, properties-places, properties-data, index-places, index-starts}
 use Rattle.lookup.specs.declared.Found.{Found}
 use Rattle.lookup.specs.declared.Found.the-variants.{At, Refused}
-use Rattle.lookup.specs.Lookup.{inBody}
+use Rattle.lookup.specs.Lookup.{inBody, Within}
 
 module _ (s name : List ℕ) (k : ℕ) where
   -- ---- the cases of the definition
@@ -90,13 +90,9 @@ module _ (s name : List ℕ) (k : ℕ) where
             rw (start, next, first) (by-first right-walk whole-walk (λ z. h (first ∙ z ∙ sym count)))
 
 -- ---- within
-abbrev pub FoundIn : ℕ → Found → Type 0
-FoundIn n (At start end) = (start ≤ end) × (end ≤ n)
-FoundIn n (Refused k) = Unit
-
 module _ (s name : List ℕ) (k : ℕ) where
   within-by : (x z : Bool) → eqb (firstNamed s name (properties s k .starts)) (length (properties s k .starts)) ≡ z
-      → FoundIn (length s) (cond x (cond z (Refused 43) (At (dataAt s (getD (places (properties s k)) (firstNamed s name (properties s k .starts)) 0)) (getD (places (properties s k)) (firstNamed s name (properties s k .starts) + 1) 0))) (Refused 42))
+      → Within (length s) (cond x (cond z (Refused 43) (At (dataAt s (getD (places (properties s k)) (firstNamed s name (properties s k .starts)) 0)) (getD (places (properties s k)) (firstNamed s name (properties s k .starts) + 1) 0))) (Refused 42))
   within-by false z f = tt
   within-by true true f = tt
   within-by true false f =
@@ -107,6 +103,6 @@ module _ (s name : List ℕ) (k : ℕ) where
       let start : getD (places w) i 0 ≡ getD (w .starts) i 0 = List·getD-append (w .starts) (w .at ∷ []) 0 i inside in
       (rw (start, add-one) (properties-data s k i inside), properties-places s k (i + 1))
 
-  pub body-within : FoundIn (length s) (inBody s k name)
+  pub body-within : Within (length s) (inBody s k name)
   unfolding inBody
   body-within = within-by (exactly s k) (eqb (firstNamed s name (properties s k .starts)) (length (properties s k .starts))) refl

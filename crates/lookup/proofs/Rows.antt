@@ -1,5 +1,5 @@
 -- The cases of the lookup by a row; and what it finds lies within the bytes.
-use mathlib.Core.Path.{_≡_, refl, sym}
+use mathlib.Core.Path.{_≡_, refl, sym, subst}
 use mathlib.Core.Bool.{Bool, true, false, cond}
 use mathlib.Core.List.{List}
 use Prim.Native.Nat.{ℕ, _+_, _-_, _<_, _≤_}
@@ -12,8 +12,8 @@ use Rattle.table.specs.declared.Row.{Row}
 use Rattle.table.specs.Table.{hasRow, rowAt}
 use Rattle.lookup.specs.declared.Found.{Found}
 use Rattle.lookup.specs.declared.Found.the-variants.{At, Refused}
-use Rattle.lookup.specs.Lookup.{inBody, shifted, lookupOf}
-use Rattle.lookup.proofs.Laws.{FoundIn, body-within}
+use Rattle.lookup.specs.Lookup.{inBody, shifted, lookupOf, Within}
+use Rattle.lookup.proofs.Laws.{body-within}
 
 module _ (bs t : List ℕ) (row : ℕ) (name : List ℕ) where
   pub no-row : hasRow t row ≡ false → Refused 40 ≡ lookupOf bs t row name
@@ -38,13 +38,13 @@ module _ (bs t : List ℕ) (row : ℕ) (name : List ℕ) where
 pub length-body : (bs : List ℕ) (start end : ℕ) → end ≤ length bs → length (take (end - start) (drop start bs)) ≡ end - start
 length-body bs start end h = length-take-le (end - start) (drop start bs) (omega (arith, length-drop start bs, h))
 
-shifted-within : (n from size : ℕ) → from + size ≤ n → (f : Found) → FoundIn size f → FoundIn n (shifted from f)
+shifted-within : (n from size : ℕ) → from + size ≤ n → (f : Found) → Within size f → Within n (shifted from f)
 shifted-within n from size h (At start end) p = (omega (arith, p .0), omega (arith, h, p .1))
 shifted-within n from size h (Refused k) p = tt
 
 module _ (bs t : List ℕ) (row : ℕ) (name : List ℕ) where
   within-by : (r : Row) (x y z : Bool) → ltb (r .end) (r .start) ≡ y → ltb (length bs) (r .end) ≡ z
-      → FoundIn (length bs) (cond x (cond y (Refused 41) (cond z (Refused 41) (shifted (r .start) (inBody (take (r .end - r .start) (drop (r .start) bs)) (r .properties) name)))) (Refused 40))
+      → Within (length bs) (cond x (cond y (Refused 41) (cond z (Refused 41) (shifted (r .start) (inBody (take (r .end - r .start) (drop (r .start) bs)) (r .properties) name)))) (Refused 40))
   within-by r false y z e f = tt
   within-by r true true z e f = tt
   within-by r true false true e f = tt
@@ -54,6 +54,10 @@ module _ (bs t : List ℕ) (row : ℕ) (name : List ℕ) where
       let fits : r .end ≤ length bs = ltb-false _ _ f in
       shifted-within (length bs) (r .start) (length body) (omega (arith, length-body bs (r .start) (r .end) fits, order, fits)) (inBody body (r .properties) name) (body-within body name (r .properties))
 
-  pub found-within : FoundIn (length bs) (lookupOf bs t row name)
+  found-within : Within (length bs) (lookupOf bs t row name)
   unfolding lookupOf
   found-within = let r = rowAt t row in within-by r (hasRow t row) (ltb (r .end) (r .start)) (ltb (length bs) (r .end)) refl refl
+
+  -- an answer, with that
+  pub told : {f : Found} → f ≡ lookupOf bs t row name → (f ≡ lookupOf bs t row name) × Within (length bs) f
+  told e = (e, subst (Within (length bs)) (sym e) found-within)

@@ -1,7 +1,7 @@
 -- Document 01: "Lookup of a property by name in any bytes and any table: a query that finds the name, else answers 43;
 -- before that 40 row not wholly in the table, 41 and 42 as 22 and 23, over the bytes given and for any kind. Of two
 -- equal names the first is found."
-use Prim.Native.Nat.{ℕ, _+_, _-_}
+use Prim.Native.Nat.{ℕ, _+_, _-_, _≤_}
 use mathlib.Core.Bool.{cond}
 use mathlib.Core.List.{List, []}
 use lib.Dec.{ltb, eqb}
@@ -35,6 +35,11 @@ lookupOf bs t row name =
     (cond (ltb (length bs) (r .end)) (Refused 41)
     (shifted (r .start) (inBody (take (r .end - r .start) (drop (r .start) bs)) (r .properties) name))))
     (Refused 40)
+
+-- what is found lies within so many bytes
+abbrev pub Within : ℕ → Found → Type 0
+Within n (At start end) = (start ≤ end) × (end ≤ n)
+Within n (Refused k) = Unit
 
 -- an answer's number: 0 where the property is found
 abbrev pub numberOf : Found → ℕ

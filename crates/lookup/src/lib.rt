@@ -2,7 +2,7 @@
 ghost use mathlib.Core.Path.{_≡_};
 ghost use Prim.Native.Nat.{_≤_};
 ghost use lib.ListN.{length};
-ghost use Rattle.lookup.specs.Lookup.{inBody, shifted, lookupOf, numberOf, partOf};
+ghost use Rattle.lookup.specs.Lookup.{inBody, shifted, lookupOf, Within, numberOf, partOf};
 
 // Where a property's data lies; or the number of the refusal.
 pub enum Found {
@@ -37,7 +37,7 @@ fn in_body(body: &[u8], count: u32, name: &[u8]) -> Found
 
 // Finds the property of a row: 40 to 43.
 pub fn find(bytes: &[u8], table: &[u32], row: usize, name: &[u8]) -> Found
-    ensures { λ r. ⌜ r ≡ lookupOf (now (bytes .entry)) (now (table .entry)) row (now (name .entry)) ⌝ }
+    ensures { λ r. ⌜ (r ≡ lookupOf (now (bytes .entry)) (now (table .entry)) row (now (name .entry))) × Within (length (now (bytes .entry))) r ⌝ }
 {
     if !table::has_row(table, row) {
         return Found::Refused(40);

@@ -7,9 +7,10 @@ use mathlib.Core.Path.{_≡_, refl, ap, sym, _∙_}
 use mathlib.Core.Bool.{Bool, true, false, cond, not, _&&_, and-false, and-eq-true-iff}
 use mathlib.Core.List.{List, [], _∷_, _++_}
 use lib.Dec.{eqb, leb, leb·suc-suc}
-use lib.ListN.{length, take, drop, getD, drop-of-length-le, length-drop, take-append-drop}
+use lib.ListN.{length, take, drop, getD, drop-of-length-le, take-append-drop}
 use lib.Seq.{drop-cons, take-all}
 use borrow.Author.Tests.{eq-eqb, ne-eqb, eqb-true, leb-true, le-leb, lt-leb}
+use Rattle.le.proofs.Laws.{rest-drop}
 use Rattle.names.specs.declared.Numeral.{Numeral}
 use Rattle.names.specs.declared.Numeral.the-variants.{Is, Not}
 use Rattle.names.specs.Names.{byteOk, bytesOk, same, isDigit, decimal, number, numbered}
@@ -109,9 +110,6 @@ unfolding number
 number-decimal [] h k m = absurd (h refl)
 number-decimal (b ∷ l) h k m = rw (le-leb (length l) 2 (omega arith), ← leb·suc-suc 1 (length l), m)
 
-pub rest-drop : (l : List ℕ) (n : ℕ) → take (length l - n) (drop n l) ≡ drop n l
-rest-drop l n = take-all (length l - n) (drop n l) (simp length-drop (omega arith))
-
 module _ (name prefix : List ℕ) where
   pub numbered-short : length name < length prefix → numbered name prefix ≡ Not
   unfolding numbered
@@ -123,7 +121,7 @@ module _ (name prefix : List ℕ) where
 
   pub numbered-by : same (take (length prefix) name) prefix ≡ true → numbered name prefix ≡ number (take (length name - length prefix) (drop (length prefix) name))
   unfolding numbered
-  numbered-by e = rw (e, rest-drop)
+  numbered-by e = rw (e, rest-drop name (length prefix))
 
 chosen : (t : Bool) {d : Numeral} {n : ℕ} → cond t d Not ≡ Is n → (t ≡ true) × (d ≡ Is n)
 chosen true e = (refl, e)

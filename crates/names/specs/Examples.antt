@@ -12,6 +12,11 @@ unfoldable c%d : List ℕ → Numeral
 unfolding same decimal number numbered
 c%d name = numbered name (99 ∷ [])
 
+-- what bytes are as a name `extra%d`
+unfoldable prefixed : List ℕ → Numeral
+unfolding same decimal number numbered
+prefixed name = numbered name (101 ∷ 120 ∷ 116 ∷ 114 ∷ 97 ∷ [])
+
 -- c0, c10, c999
 numbers : (c%d (99 ∷ 48 ∷ []) ≡ Is 0) × (c%d (99 ∷ 49 ∷ 48 ∷ []) ≡ Is 10) × (c%d (99 ∷ 57 ∷ 57 ∷ 57 ∷ []) ≡ Is 999)
 unfolding c%d
@@ -37,13 +42,18 @@ other-prefix : c%d (117 ∷ 49 ∷ []) ≡ Not
 unfolding c%d
 other-prefix = refl
 
+-- extra0, extra10, and extra alone
+longer-prefix : (prefixed (101 ∷ 120 ∷ 116 ∷ 114 ∷ 97 ∷ 48 ∷ []) ≡ Is 0) × (prefixed (101 ∷ 120 ∷ 116 ∷ 114 ∷ 97 ∷ 49 ∷ 48 ∷ []) ≡ Is 10) × (prefixed (101 ∷ 120 ∷ 116 ∷ 114 ∷ 97 ∷ []) ≡ Not)
+unfolding prefixed
+longer-prefix = (refl, refl, refl)
+
 sizes : (sizeOk 0 ≡ false) × (sizeOk 1 ≡ true) × (sizeOk 32 ≡ true) × (sizeOk 33 ≡ false)
 sizes = (refl, refl, refl, refl)
 
--- aA, aZ, a and zero
-refused : (bytesOk (97 ∷ 65 ∷ []) ≡ false) × (bytesOk (97 ∷ 90 ∷ []) ≡ false) × (bytesOk (97 ∷ 0 ∷ []) ≡ false)
+-- aA, aM, aZ, a and zero
+refused : (bytesOk (97 ∷ 65 ∷ []) ≡ false) × (bytesOk (97 ∷ 77 ∷ []) ≡ false) × (bytesOk (97 ∷ 90 ∷ []) ≡ false) × (bytesOk (97 ∷ 0 ∷ []) ≡ false)
 unfolding bytesOk
-refused = (refl, refl, refl)
+refused = (refl, refl, refl, refl)
 
 -- the bytes on either side of `A` to `Z`, and the greatest
 admitted : bytesOk (64 ∷ 91 ∷ 255 ∷ []) ≡ true

@@ -19,7 +19,7 @@ use Rattle.props.specs.declared.Extent.the-variants.{Refused as noData}
 use Rattle.props.specs.declared.Step.{Step}
 use Rattle.props.specs.declared.Step.the-variants.{Past, Refused}
 use Rattle.props.specs.Types.{sizeOf, noSuch}
-use Rattle.props.specs.Step.{headerRefusal, nameRefusal, toZero, fit, dataOf, unless, past, stepAt}
+use Rattle.props.specs.Step.{headerRefusal, nameRefusal, toZero, fit, dataOf, unless, past, codeAt, sizeAt, lengthAt, nameAt, startAt, stepAt}
 
 -- ---- the header
 module _ (code size room : ℕ) where
@@ -60,15 +60,15 @@ name-fits code size room e =
     ltb-false room (8 + size) (name-fits-by (ltb room 8) (noSuch (sizeOf code)) (sizeOk size) (ltb room (8 + size)) e)
 
 -- ---- the data
-module _ (n : ℕ) (bs : List ℕ) where
-  pub fit-out : length bs < n → noData 10 ≡ fit n bs
+module _ (n room : ℕ) where
+  pub fit-out : room < n → noData 10 ≡ fit n room
   fit-out h = rw (lt-ltb _ _ h)
 
-  pub fit-in : n ≤ length bs → Takes n ≡ fit n bs
+  pub fit-in : n ≤ room → Takes n ≡ fit n room
   fit-in h = rw (le-ltb _ _ h)
 
 module _ (len : ℕ) (bs : List ℕ) where
-  pub bytes-fit : (w : ℕ) {e : Extent} → e ≡ fit (len * w) bs → e ≡ dataOf (Bytes w) len bs
+  pub bytes-fit : (w : ℕ) {e : Extent} → e ≡ fit (len * w) (length bs) → e ≡ dataOf (Bytes w) len bs
   unfolding dataOf
   bytes-fit w p = p
 
@@ -76,7 +76,7 @@ module _ (len : ℕ) (bs : List ℕ) where
   unfolding dataOf
   text-long h = rw (ne-eqb _ _ h)
 
-  pub text-fit : len ≡ 1 → {e : Extent} → e ≡ fit (toZero bs) bs → e ≡ dataOf Text len bs
+  pub text-fit : len ≡ 1 → {e : Extent} → e ≡ fit (toZero bs) (length bs) → e ≡ dataOf Text len bs
   unfolding dataOf
   text-fit h p = rw (eq-eqb _ _ h) p
 
@@ -100,7 +100,7 @@ text-within-by n false x p = tt
 pub data-within : (size : Size) (len : ℕ) (bs : List ℕ) → Within (length bs) (dataOf size len bs)
 unfolding dataOf
 data-within (Bytes w) len bs = fit-within-by (len * w) (length bs) (ltb (length bs) (len * w)) refl
-data-within Text len bs = text-within-by (length bs) (eqb len 1) (fit (toZero bs) bs) (fit-within-by (toZero bs) (length bs) (ltb (length bs) (toZero bs)) refl)
+data-within Text len bs = text-within-by (length bs) (eqb len 1) (fit (toZero bs) (length bs)) (fit-within-by (toZero bs) (length bs) (ltb (length bs) (toZero bs)) refl)
 data-within NoSuch len bs = tt
 
 -- ---- the step, over the part of the body that starts with the header
@@ -108,7 +108,7 @@ abbrev pub stepOf : ℕ → ℕ → ℕ → ℕ → List ℕ → Step
 stepOf at code size len header =
     unless (headerRefusal code size (length header))
     (unless (nameRefusal (take size (drop 8 header)))
-    (past (at + (8 + size)) (dataOf (sizeOf code) len (drop (8 + size) header))))
+    (past at (at + (8 + size)) (dataOf (sizeOf code) len (drop (8 + size) header))))
 
 module _ (s : List ℕ) (at : ℕ) where
   length-rest : length (rest s at) ≡ length s - at
@@ -119,7 +119,7 @@ module _ (s : List ℕ) (at : ℕ) where
 
   pub step-rest : {code size len : ℕ} → code ≡ numberAt 2 (rest s at) 0 → size ≡ numberAt 2 (rest s at) 2 → len ≡ numberAt 4 (rest s at) 4
       → stepOf at code size len (rest s at) ≡ stepAt s at
-  unfolding stepAt
+  unfolding stepAt nameAt
   step-rest {code} {size} {len} c z l =
       let sum : at + (8 + size) ≡ at + 8 + size = omega arith in
       let first : at + 0 ≡ at = omega arith in
@@ -128,8 +128,8 @@ module _ (s : List ℕ) (at : ℕ) where
   pub past-end : length s < at → Refused 10 ≡ stepAt s at
   unfolding stepAt
   past-end h =
-      ap (λ n. unless n (unless (nameRefusal (take (numberAt 2 s (at + 2)) (drop (at + 8) s))) (past (at + 8 + numberAt 2 s (at + 2)) (dataOf (sizeOf (numberAt 2 s at)) (numberAt 4 s (at + 4)) (drop (at + 8 + numberAt 2 s (at + 2)) s)))))
-      (no-header (numberAt 2 s at) (numberAt 2 s (at + 2)) (length s - at) (omega arith))
+      ap (λ n. unless n (unless (nameRefusal (nameAt s at)) (past at (startAt s at) (dataOf (sizeOf (codeAt s at)) (lengthAt s at) (drop (startAt s at) s)))))
+      (no-header (codeAt s at) (sizeAt s at) (length s - at) (omega arith))
 
 pub unless-refused : (n : ℕ) (next : Step) → (n ≡ 0 → ⊥) → Refused n ≡ unless n next
 unless-refused zero next h = absurd (h refl)
@@ -139,7 +139,7 @@ unless-refused (suc n) next h = refl
 module _ (s : List ℕ) (at : ℕ) {code size : ℕ} (c : code ≡ numberAt 2 (rest s at) 0) (z : size ≡ numberAt 2 (rest s at) 2) where
   pub header-refused : {n : ℕ} → n ≡ headerRefusal code size (length (rest s at)) → (n ≡ 0 → ⊥) → Refused n ≡ stepAt s at
   header-refused {n} e h =
-      unless-refused n (unless (nameRefusal (take size (drop 8 (rest s at)))) (past (at + (8 + size)) (dataOf (sizeOf code) (numberAt 4 (rest s at) 4) (drop (8 + size) (rest s at))))) h
+      unless-refused n (unless (nameRefusal (take size (drop 8 (rest s at)))) (past at (at + (8 + size)) (dataOf (sizeOf code) (numberAt 4 (rest s at) 4) (drop (8 + size) (rest s at))))) h
       ∙ rw e (step-rest s at c z refl)
 
   module _ (right : headerRefusal code size (length (rest s at)) ≡ 0) where
@@ -147,5 +147,5 @@ module _ (s : List ℕ) (at : ℕ) {code size : ℕ} (c : code ≡ numberAt 2 (r
     name-refused e = rw (right, e) at (step-rest s at c z refl)
 
     pub by-data : bytesOk (take size (drop 8 (rest s at))) ≡ true → {len : ℕ} → len ≡ numberAt 4 (rest s at) 4
-        → {e : Extent} → e ≡ dataOf (sizeOf code) len (drop (8 + size) (rest s at)) → past (at + (8 + size)) e ≡ stepAt s at
+        → {e : Extent} → e ≡ dataOf (sizeOf code) len (drop (8 + size) (rest s at)) → past at (at + (8 + size)) e ≡ stepAt s at
     by-data ok l d = rw d (rw (right, ok) at (step-rest s at c z l))

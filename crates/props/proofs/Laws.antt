@@ -12,7 +12,7 @@ use lib.Seq.{drop-cons, take-all, take-nil}
 use borrow.Author.Tests.{eq-eqb, ne-eqb, ltb-true, ltb-false, lt-ltb, le-ltb}
 use Rattle.le.specs.Le.{numberAt}
 use Rattle.props.specs.declared.Size.{Size}
-use Rattle.props.specs.Types.{pick, sizeOf, widthOf}
+use Rattle.props.specs.Types.{sizeOf, widthOf}
 use Rattle.props.specs.Step.{toZero, dataAt, nameAt}
 
 -- ---- up to a zero byte
@@ -62,7 +62,7 @@ block-clear (suc k) (b ∷ s) h e =
 record Small (z : Size) : Type 0 where
   le : widthOf z ≤ 16
 
-either : (b : Bool) {x y : Size} → Small x → Small y → Small (pick b x y)
+either : (b : Bool) {x y : Size} → Small x → Small y → Small (cond b x y)
 either true p q = p
 either false p q = q
 

@@ -1,6 +1,6 @@
 -- Document 01: "Property header, 8 bytes: type u16, name size u16, array length u32; then the name, then the data"; its
 -- refusals 10 and 11 in the order "header fits, type, name size, name fits, name bytes, string length, data fits".
--- Places are offsets in a body, whose end is the node's end.
+-- Places are offsets in some bytes: in the reader all that is left of the node, by its size; in 23 and 42 the body.
 use Prim.Native.Nat.{ℕ, zero, suc, _+_, _-_, _*_}
 use mathlib.Core.Bool.{Bool, true, false, cond}
 use mathlib.Core.List.{List, [], _∷_}
@@ -14,6 +14,7 @@ use Rattle.props.specs.declared.Extent.{Extent}
 use Rattle.props.specs.declared.Extent.the-variants.{Takes}
 use Rattle.props.specs.declared.Extent.the-variants.{Refused as noData}
 use Rattle.props.specs.declared.Cursor.{Cursor}
+use Rattle.props.specs.declared.Property.{Property}
 use Rattle.props.specs.declared.Step.{Step}
 use Rattle.props.specs.declared.Step.the-variants.{Past, Refused}
 use Rattle.props.specs.Types.{sizeOf, noSuch}
@@ -39,12 +40,12 @@ toZero [] = 1
 toZero (b ∷ bs) = cond (eqb b 0) 1 (suc (toZero bs))
 
 -- Stage 4, the data's end: how many of the bytes after the name it takes. string length, data fits
-abbrev pub fit : ℕ → List ℕ → Extent
-fit n rest = cond (ltb (length rest) n) (noData 10) (Takes n)
+abbrev pub fit : ℕ → ℕ → Extent
+fit n room = cond (ltb room n) (noData 10) (Takes n)
 
 unfoldable pub dataOf : Size → ℕ → List ℕ → Extent
-dataOf (Bytes w) len rest = fit (len * w) rest
-dataOf Text len rest = cond (eqb len 1) (fit (toZero rest) rest) (noData 11)
+dataOf (Bytes w) len rest = fit (len * w) (length rest)
+dataOf Text len rest = cond (eqb len 1) (fit (toZero rest) (length rest)) (noData 11)
 dataOf NoSuch len rest = noData 11
 
 -- the stages, one after the other
@@ -52,26 +53,33 @@ abbrev pub unless : ℕ → Step → Step
 unless zero next = next
 unless (suc n) next = Refused (suc n)
 
-abbrev pub past : ℕ → Extent → Step
-past start (Takes n) = Past start (record { at = start + n })
-past start (noData n) = Refused n
+abbrev pub past : ℕ → ℕ → Extent → Step
+past at start (Takes n) = Past (record { name = at + 8; start = start }) (record { at = start + n })
+past at start (noData n) = Refused n
 
--- the property at a place of a body
+-- the property at a place: its type, its name size, its array length, its name, and where its data starts
+abbrev pub codeAt : List ℕ → ℕ → ℕ
+codeAt s at = numberAt 2 s at
+
+abbrev pub sizeAt : List ℕ → ℕ → ℕ
+sizeAt s at = numberAt 2 s (at + 2)
+
+abbrev pub lengthAt : List ℕ → ℕ → ℕ
+lengthAt s at = numberAt 4 s (at + 4)
+
+unfoldable pub nameAt : List ℕ → ℕ → List ℕ
+nameAt s at = take (sizeAt s at) (drop (at + 8) s)
+
+abbrev pub startAt : List ℕ → ℕ → ℕ
+startAt s at = at + 8 + sizeAt s at
+
+-- one step past it
 unfoldable pub stepAt : List ℕ → ℕ → Step
 stepAt s at =
-    let code = numberAt 2 s at in
-    let size = numberAt 2 s (at + 2) in
-    let len = numberAt 4 s (at + 4) in
-    let name = at + 8 in
-    let start = at + 8 + size in
-    unless (headerRefusal code size (length s - at))
-    (unless (nameRefusal (take size (drop name s)))
-    (past start (dataOf (sizeOf code) len (drop start s))))
+    unless (headerRefusal (codeAt s at) (sizeAt s at) (length s - at))
+    (unless (nameRefusal (nameAt s at))
+    (past at (startAt s at) (dataOf (sizeOf (codeAt s at)) (lengthAt s at) (drop (startAt s at) s))))
 
--- where the data of the property at a place starts; the body's end where that is past it
+-- where its data starts, or the end of the bytes where that is past it
 unfoldable pub dataAt : List ℕ → ℕ → ℕ
-dataAt s at = let start = at + 8 + numberAt 2 s (at + 2) in cond (ltb (length s) start) (length s) start
-
--- the name of the property at a place, as far as the body has it
-unfoldable pub nameAt : List ℕ → ℕ → List ℕ
-nameAt s at = take (numberAt 2 s (at + 2)) (drop (at + 8) s)
+dataAt s at = cond (ltb (length s) (startAt s at)) (length s) (startAt s at)

@@ -1,27 +1,23 @@
 -- Document 01: "Element sizes by type code".
 use Prim.Native.Nat.{ℕ}
-use mathlib.Core.Bool.{Bool, true, false}
+use mathlib.Core.Bool.{Bool, true, false, cond}
 use lib.Dec.{eqb}
 use Rattle.props.specs.declared.Size.{Size}
 use Rattle.props.specs.declared.Size.the-variants.{Bytes, Text, NoSuch}
 
-abbrev pub pick : Bool → Size → Size → Size
-pick true a b = a
-pick false a b = b
-
 -- b 1, h 2, i 4, l 8, f 4, d 8, v2 8, v3 12, v4 16; s
 abbrev pub sizeOf : ℕ → Size
 sizeOf code =
-    pick (eqb code 0x62) (Bytes 1)
-    (pick (eqb code 0x68) (Bytes 2)
-    (pick (eqb code 0x69) (Bytes 4)
-    (pick (eqb code 0x6C) (Bytes 8)
-    (pick (eqb code 0x66) (Bytes 4)
-    (pick (eqb code 0x64) (Bytes 8)
-    (pick (eqb code 0x7632) (Bytes 8)
-    (pick (eqb code 0x7633) (Bytes 12)
-    (pick (eqb code 0x7634) (Bytes 16)
-    (pick (eqb code 0x73) Text NoSuch)))))))))
+    cond (eqb code 0x62) (Bytes 1)
+    (cond (eqb code 0x68) (Bytes 2)
+    (cond (eqb code 0x69) (Bytes 4)
+    (cond (eqb code 0x6C) (Bytes 8)
+    (cond (eqb code 0x66) (Bytes 4)
+    (cond (eqb code 0x64) (Bytes 8)
+    (cond (eqb code 0x7632) (Bytes 8)
+    (cond (eqb code 0x7633) (Bytes 12)
+    (cond (eqb code 0x7634) (Bytes 16)
+    (cond (eqb code 0x73) Text NoSuch)))))))))
 
 abbrev pub noSuch : Size → Bool
 noSuch (Bytes w) = false

@@ -109,7 +109,7 @@ fn to_zero(bytes: &[u8]) -> usize
 }
 
 // How many bytes the data takes, or what it is refused with.
-pub enum Extent {
+enum Extent {
     Takes(usize),
     Refused(u32),
 }
@@ -146,9 +146,16 @@ pub struct Cursor {
     pub at: usize,
 }
 
-// Past a property, with the offset of its data; or the refusal of the property at the cursor.
+// Where the name and the data of a property start. The name ends where the data starts, the data where the next
+// property does.
+pub struct Property {
+    pub name: usize,
+    pub start: usize,
+}
+
+// Past a property; or the refusal of the property at the cursor.
 pub enum Step {
-    Past { data: usize, next: Cursor },
+    Past { property: Property, next: Cursor },
     Refused(u32),
 }
 
@@ -175,10 +182,11 @@ impl Cursor {
         let length = le::u32_at(header, 4);
         match data_of(size_of(code), length, &header[data..]) {
             Extent::Takes(n) => {
+                let name = at + 8;
                 let start = at + data;
                 let end = start + n;
                 Step::Past {
-                    data: start,
+                    property: Property { name, start },
                     next: Cursor { at: end },
                 }
             }

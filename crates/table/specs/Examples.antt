@@ -3,8 +3,9 @@ use Prim.Native.Nat.{ℕ}
 use mathlib.Core.Path.{_≡_, refl}
 use mathlib.Core.Bool.{true, false}
 use mathlib.Core.List.{List, [], _∷_}
+use lib.ListN.{getD, replicate}
 use Rattle.table.specs.declared.Row.{Row}
-use Rattle.table.specs.Table.{hasRow, rowAt, withRow, putRows, hasRoom, zeroed, cleared}
+use Rattle.table.specs.Table.{hasRow, rowAt, withRow, putRows, hasRoom, zeroed, cleared, flat, filled}
 
 -- a row, and three numbers of a second
 abbrev eleven : List ℕ
@@ -57,3 +58,17 @@ some-zeros = refl
 no-room : cleared eleven ≡ eleven
 unfolding hasRoom cleared
 no-room = refl
+
+room : (hasRoom (replicate 8191 7) ≡ false) × (hasRoom (replicate 8192 7) ≡ true)
+unfolding hasRoom
+room = (refl, refl)
+
+-- the numbers 8,191 and 8,192 of a cleared table, counted from 0
+last-cleared : (getD (cleared (replicate 8193 7)) 8191 9 ≡ 0) × (getD (cleared (replicate 8193 7)) 8192 9 ≡ 7)
+unfolding hasRoom zeroed cleared
+last-cleared = (refl, refl)
+
+-- the last number of a row, the first after it, and the first that is kept
+some-filled : (getD (filled (low ∷ []) (replicate 8193 7)) 7 9 ≡ 8) × (getD (filled (low ∷ []) (replicate 8193 7)) 8 9 ≡ 0) × (getD (filled (low ∷ []) (replicate 8193 7)) 8192 9 ≡ 7)
+unfolding flat filled
+some-filled = (refl, refl, refl)

@@ -64,6 +64,7 @@ unfoldable pub flat : List Row → List ℕ
 flat [] = []
 flat (r ∷ rs) = fields r ++ flat rs
 
--- rows, and "the numbers after the rows, up to 8,192, are 0", and the rest as it was
+-- of a table with room and at most 1,024 rows: the rows, and "the numbers after the rows, up to 8,192, are 0", and the
+-- rest as it was
 unfoldable pub filled : List Row → List ℕ → List ℕ
 filled rs t = flat rs ++ replicate (8192 - length rs * 8) 0 ++ drop 8192 t

@@ -17,11 +17,20 @@ pub fn one(f: Frame, first: &[u8], second: &[u8]) {
         12 => print::truth(names::same(first, second)),
         13 => numbered(first, second),
         14 => print::truth(kinds::known(low)),
-        15 => print::truth(kinds::may_stand(low, count)),
+        15 => print::truth(stands(x, count)),
         16 => step(first, x as usize),
         17 => index(first, count),
         _ => print::truth(body::exact(first, count)),
     }
+}
+
+// A parent is one more than its kind, and none is 0.
+fn stands(parent: u64, kind: u32) -> bool {
+    if parent == 0 {
+        return kinds::may_stand(kinds::Parent::None, kind);
+    }
+    let above = ((parent - 1) % 4294967296) as u32;
+    kinds::may_stand(kinds::Parent::Kind(above), kind)
 }
 
 fn element(code: u16) {
@@ -50,13 +59,15 @@ fn numbered(name: &[u8], prefix: &[u8]) {
 fn step(body: &[u8], at: usize) {
     let cursor = props::Cursor { at };
     match cursor.step(body) {
-        props::Step::Past { data, next } => {
+        props::Step::Past { property, next } => {
+            let name = property.name;
+            let start = property.start;
             let end = next.at;
-            print::next(0);
-            print::pair(data as u64, end as u64);
+            print::pair(0, name as u64);
+            print::pair(start as u64, end as u64);
         }
         props::Step::Refused(number) => {
-            print::next(number as u64);
+            print::pair(number as u64, 0);
             print::pair(0, 0);
         }
     }

@@ -7,9 +7,6 @@ use corpus::valid::unknown;
 use corpus::Rng;
 use reference::{known, may_stand};
 
-/// The parent of what stands at the top of the file.
-const TOP: u32 = 0;
-
 pub fn add(cases: &mut Cases) {
     let mut rng = Rng::new(14);
     let kinds = KINDS.map(|kind| kind.0);
@@ -26,7 +23,7 @@ pub fn add(cases: &mut Cases) {
         add_kind(cases, rng.next_u32());
     }
 
-    for parent in [TOP].into_iter().chain(kinds) {
+    for parent in [None].into_iter().chain(kinds.map(Some)) {
         for kind in kinds.into_iter().chain([unknown::kind(&mut rng)]) {
             add_pair(cases, parent, kind);
         }
@@ -34,10 +31,11 @@ pub fn add(cases: &mut Cases) {
     }
     for kind in kinds {
         let parent = unknown::kind(&mut rng);
-        add_pair(cases, parent, kind);
-        add_pair(cases, kind ^ 1 << rng.below(32), *rng.pick(&kinds));
-        add_pair(cases, parent, unknown::kind(&mut rng));
-        add_pair(cases, u32::MAX, kind);
+        add_pair(cases, Some(parent), kind);
+        add_pair(cases, Some(kind ^ 1 << rng.below(32)), *rng.pick(&kinds));
+        add_pair(cases, Some(parent), unknown::kind(&mut rng));
+        add_pair(cases, Some(u32::MAX), kind);
+        add_pair(cases, Some(0), kind);
     }
 }
 
@@ -50,13 +48,13 @@ fn add_kind(cases: &mut Cases, kind: u32) {
     cases.add(&case, &[known(kind).into()]);
 }
 
-fn add_pair(cases: &mut Cases, parent: u32, kind: u32) {
+/// A parent is one more than its kind, and none is 0.
+fn add_pair(cases: &mut Cases, parent: Option<u32>, kind: u32) {
     let case = Case {
         function: MAY_STAND,
-        x: parent.into(),
+        x: parent.map_or(0, |kind| u64::from(kind) + 1),
         y: kind.into(),
         ..Case::default()
     };
-    let parent = (parent != TOP).then_some(parent);
     cases.add(&case, &[may_stand(parent, kind).into()]);
 }

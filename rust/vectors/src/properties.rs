@@ -48,7 +48,7 @@ fn add_step(cases: &mut Cases, body: &[u8], at: u64) {
         ..Case::default()
     };
     let step = step(body, at as usize);
-    let answer = [step.number as usize, step.data.0, step.next];
+    let answer = [step.number as usize, step.name.0, step.data.0, step.next];
     cases.add(&case, &answer.map(|number| number as u64));
 }
 

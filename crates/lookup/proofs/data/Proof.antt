@@ -3,9 +3,7 @@ use native.Mathlib.Omega.{arith}
 use mathlib.Core.Path.{_≡_, sym, ap, subst, _∙_}
 use Prim.Native.Nat.{_≤_}
 use lib.ListN.{length}
-use Rattle.lookup.specs.Lookup.{partOf, lookupOf}
-use Rattle.lookup.proofs.Laws.{FoundIn}
-use Rattle.lookup.proofs.Rows.{found-within}
+use Rattle.lookup.specs.Lookup.{partOf, lookupOf, Within}
 use borrow.Author.Needs.{needs}
 use Rattle.lookup.proofs.data.Statement.{statement}
 use Rattle.lookup.proofs.data.Tie as tie
@@ -14,7 +12,7 @@ lies : (c : tie.After-known-told) → (c .before .start .given .0 .0 ≤ c .befo
 lies c =
     let d = c .before .before .before in
     let a = d .before .before .before .before .args in
-    subst (FoundIn (length (a .bytes .now))) (sym (d .find .ensures) ∙ c .before .start .given .1) (found-within (a .bytes .now) (a .table .now) (a .row) (a .name .now))
+    subst (Within (length (a .bytes .now))) (c .before .start .given .1) (d .find .ensures .1)
 
 find-requires : tie.Need-find-requires
 find-requires c κs = search needs
@@ -35,7 +33,7 @@ part-result-end : tie.Need-part-result-end
 part-result-end c = search needs
 
 returns : tie.Need-returns
-returns c = let d = c .before .before .before in ap (partOf (d .before .before .before .before .args .bytes .now)) (sym (c .before .enum-told .given .1) ∙ d .find .ensures)
+returns c = let d = c .before .before .before in ap (partOf (d .before .before .before .before .args .bytes .now)) (sym (c .before .enum-told .given .1) ∙ d .find .ensures .0)
 
 sub-result-2 : tie.Need-sub-result-2
 sub-result-2 c = lies c .0
@@ -47,7 +45,7 @@ part-result-end-2 : tie.Need-part-result-end-2
 part-result-end-2 c = lies c .1
 
 returns-2 : tie.Need-returns-2
-returns-2 c = let d = c .before .before .before .before in ap (partOf (d .before .before .before .before .args .bytes .now)) (sym (c .before .before .start .given .1) ∙ d .find .ensures)
+returns-2 c = let d = c .before .before .before .before in ap (partOf (d .before .before .before .before .args .bytes .now)) (sym (c .before .before .start .given .1) ∙ d .find .ensures .0)
 
 pub data-spec : {M : Type 1} → statement M
 data-spec =

@@ -6,9 +6,9 @@ use Prim.Native.Nat.{_-_, _≤_}
 use lib.ListN.{length, take, drop}
 use borrow.Author.Tests.{not-true, not-false}
 use Rattle.table.specs.Table.{hasRow}
-use Rattle.lookup.specs.Lookup.{inBody, shifted, lookupOf}
-use Rattle.lookup.proofs.Laws.{FoundIn, body-within}
-use Rattle.lookup.proofs.Rows.{no-row, reversed, outside, inside, length-body}
+use Rattle.lookup.specs.Lookup.{inBody, shifted, lookupOf, Within}
+use Rattle.lookup.proofs.Laws.{body-within}
+use Rattle.lookup.proofs.Rows.{no-row, reversed, outside, inside, length-body, told}
 use borrow.Author.Needs.{needs}
 use Rattle.lookup.proofs.find.Statement.{statement}
 use Rattle.lookup.proofs.find.Tie as tie
@@ -36,14 +36,17 @@ taken c =
     let r = e .before .before .before .before .row-at .result in
     let a = e .before .before .before .before .before .before .before .before .before .before .args in
     let body = take (r .end - r .start) (drop (r .start) (a .bytes .now)) in
-    let p = subst (FoundIn (length body)) (sym (d .in-body .ensures) ∙ c .before .found .given .1) (body-within body (a .name .now) (r .properties)) in
+    let p = subst (Within (length body)) (sym (d .in-body .ensures) ∙ c .before .found .given .1) (body-within body (a .name .now) (r .properties)) in
     (p .0, omega (arith, p .1, length-body (a .bytes .now) (r .start) (r .end) (e .if3 .left)))
 
 has-row-requires : tie.Need-has-row-requires
 has-row-requires c κs = search needs
 
 returns : tie.Need-returns
-returns c = let a = c .before .before .before .before .before .args in no-row (a .bytes .now) (a .table .now) (a .row) (a .name .now) (sym (c .before .has-row .ensures) ∙ not-true _ (c .if1 .taken))
+returns c =
+    let a = c .before .before .before .before .before .args in
+    told (a .bytes .now) (a .table .now) (a .row) (a .name .now)
+    (no-row (a .bytes .now) (a .table .now) (a .row) (a .name .now) (sym (c .before .has-row .ensures) ∙ not-true _ (c .if1 .taken)))
 
 row-at-requires : tie.Need-row-at-requires
 row-at-requires c κs = search needs
@@ -55,10 +58,18 @@ cast-to : tie.Need-cast-to
 cast-to c = search needs
 
 returns-2 : tie.Need-returns-2
-returns-2 c = let b = c .before .before .before in let a = b .before .before .before .before .before .before .args in reversed (a .bytes .now) (a .table .now) (a .row) (a .name .now) (has b) (b .row-at .ensures) (c .if2 .taken)
+returns-2 c =
+    let b = c .before .before .before in
+    let a = b .before .before .before .before .before .before .args in
+    told (a .bytes .now) (a .table .now) (a .row) (a .name .now)
+    (reversed (a .bytes .now) (a .table .now) (a .row) (a .name .now) (has b) (b .row-at .ensures) (c .if2 .taken))
 
 returns-3 : tie.Need-returns-3
-returns-3 c = let b = c .before .before .before .before in let a = b .before .before .before .before .before .before .args in outside (a .bytes .now) (a .table .now) (a .row) (a .name .now) (has b) (b .row-at .ensures) (c .before .if2 .left) (c .if3 .taken)
+returns-3 c =
+    let b = c .before .before .before .before in
+    let a = b .before .before .before .before .before .before .args in
+    told (a .bytes .now) (a .table .now) (a .row) (a .name .now)
+    (outside (a .bytes .now) (a .table .now) (a .row) (a .name .now) (has b) (b .row-at .ensures) (c .before .if2 .left) (c .if3 .taken))
 
 part-in-body-start : tie.Need-part-in-body-start
 part-in-body-start c = search needs
@@ -76,7 +87,11 @@ enum-told : tie.Need-enum-told
 enum-told c = search needs
 
 returns-4 : tie.Need-returns-4
-returns-4 c = let d = c .before .before in c .enum-told .given .1 ∙ sym (ap (shifted (d .before .before .before .before .before .before .row-at .result .start)) (c .enum-told .given .1)) ∙ finish d
+returns-4 c =
+    let q = c .before .before .before .before .before .before .before .before .before .before .before .before .before .before .args in
+    let d = c .before .before in
+    told (q .bytes .now) (q .table .now) (q .row) (q .name .now)
+    (c .enum-told .given .1 ∙ sym (ap (shifted (d .before .before .before .before .before .before .row-at .result .start)) (c .enum-told .given .1)) ∙ finish d)
 
 add-first : tie.Need-add-first
 add-first c = omega (arith, taken c .0, taken c .1)
@@ -85,7 +100,11 @@ add-last : tie.Need-add-last
 add-last c = omega (arith, taken c .0, taken c .1)
 
 returns-5 : tie.Need-returns-5
-returns-5 c = let d = c .before .before .before in ap (shifted (d .before .before .before .before .before .before .row-at .result .start)) (sym (c .before .found .given .1)) ∙ finish d
+returns-5 c =
+    let q = c .before .before .before .before .before .before .before .before .before .before .before .before .before .before .before .args in
+    let d = c .before .before .before in
+    told (q .bytes .now) (q .table .now) (q .row) (q .name .now)
+    (ap (shifted (d .before .before .before .before .before .before .row-at .result .start)) (sym (c .before .found .given .1)) ∙ finish d)
 
 pub find-spec : {M : Type 1} → statement M
 find-spec =

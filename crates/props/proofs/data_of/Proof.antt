@@ -30,7 +30,7 @@ mul-n : tie.Need-mul-n
 mul-n c = let b = c .before .before .before .before in omega (arith, mul-le-mul-left (b .args .length) (subst (λ (z : Size). widthOf z ≤ 16) (c .before .size .given .1) (b .pre)))
 
 returns : tie.Need-returns
-returns c = let b = c .before .before in let a = b .before .before .before .args in bytes-fit (a .length) (a .rest .now) (b .size .given .0 .0) (fit-out _ (a .rest .now) (c .if1 .taken)) ∙ by (a .length) (a .rest .now) (b .size .given .1)
+returns c = let b = c .before .before in let a = b .before .before .before .args in bytes-fit (a .length) (a .rest .now) (b .size .given .0 .0) (fit-out _ (length (a .rest .now)) (c .if1 .taken)) ∙ by (a .length) (a .rest .now) (b .size .given .1)
 
 enum-told : tie.Need-enum-told
 enum-told c = search needs
@@ -42,16 +42,16 @@ to-zero-requires : tie.Need-to-zero-requires
 to-zero-requires c κs = search needs
 
 returns-3 : tie.Need-returns-3
-returns-3 c = let b = c .before .before in let a = b .before .before .before .before .args in text-fit (a .length) (a .rest .now) (omega arith) (fit-out (toZero (a .rest .now)) (a .rest .now) (omega (arith, c .before .to-zero .ensures))) ∙ by (a .length) (a .rest .now) (b .before .enum-told .given .1)
+returns-3 c = let b = c .before .before in let a = b .before .before .before .before .args in text-fit (a .length) (a .rest .now) (omega arith) (fit-out (toZero (a .rest .now)) (length (a .rest .now)) (omega (arith, c .before .to-zero .ensures))) ∙ by (a .length) (a .rest .now) (b .before .enum-told .given .1)
 
 enum-told-2 : tie.Need-enum-told-2
 enum-told-2 c = search needs
 
 returns-4 : tie.Need-returns-4
-returns-4 c = let b = c .before .before in let a = b .before .before .before .args in bytes-fit (a .length) (a .rest .now) (b .size .given .0 .0) (fit-in _ (a .rest .now) (c .if1 .left)) ∙ by (a .length) (a .rest .now) (b .size .given .1)
+returns-4 c = let b = c .before .before in let a = b .before .before .before .args in bytes-fit (a .length) (a .rest .now) (b .size .given .0 .0) (fit-in _ (length (a .rest .now)) (c .if1 .left)) ∙ by (a .length) (a .rest .now) (b .size .given .1)
 
 returns-5 : tie.Need-returns-5
-returns-5 c = let b = c .before .before in let a = b .before .before .before .before .args in ap Takes (c .before .to-zero .ensures) ∙ text-fit (a .length) (a .rest .now) (omega arith) (fit-in (toZero (a .rest .now)) (a .rest .now) (omega (arith, c .before .to-zero .ensures))) ∙ by (a .length) (a .rest .now) (b .before .enum-told .given .1)
+returns-5 c = let b = c .before .before in let a = b .before .before .before .before .args in ap Takes (c .before .to-zero .ensures) ∙ text-fit (a .length) (a .rest .now) (omega arith) (fit-in (toZero (a .rest .now)) (length (a .rest .now)) (omega (arith, c .before .to-zero .ensures))) ∙ by (a .length) (a .rest .now) (b .before .enum-told .given .1)
 
 returns-6 : tie.Need-returns-6
 returns-6 c = let a = c .before .before .before .args in none-fit (a .length) (a .rest .now) ∙ by (a .length) (a .rest .now) (c .enum-told2 .given .1)

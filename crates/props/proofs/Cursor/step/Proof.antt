@@ -41,7 +41,7 @@ named c e =
 
 -- the answer goes by the data
 finish : (d : tie.After-data-of) →
-    past (d .before .before .before .before .before .before .before .before .before .before .before .before .before .before .before .args .self .at + (8 + d .before .before .before .before .before .before .before .wide .result)) (d .data-of .result) ≡
+    past (d .before .before .before .before .before .before .before .before .before .before .before .before .before .before .before .args .self .at) (d .before .before .before .before .before .before .before .before .before .before .before .before .before .before .before .args .self .at + (8 + d .before .before .before .before .before .before .before .wide .result)) (d .data-of .result) ≡
     stepAt (d .before .before .before .before .before .before .before .before .before .before .before .before .before .before .before .args .body .now) (d .before .before .before .before .before .before .before .before .before .before .before .before .before .before .before .args .self .at)
 finish d =
     let f = d .before .before .before .before in
@@ -50,7 +50,7 @@ finish d =
     let a = b .before .before .before .before .before .args in
     let header = rest (a .body .now) (a .self .at) in
     let len = d .before .before .before .u32-at .result in
-    ap (λ n. past (a .self .at + (8 + n)) (d .data-of .result)) (w .wide .ensures .0)
+    ap (λ n. past (a .self .at) (a .self .at + (8 + n)) (d .data-of .result)) (w .wide .ensures .0)
     ∙ by-data (a .body .now) (a .self .at) (b .before .u16-at .ensures) (b .u16-at2 .ensures) (right w) (named (f .before) (not-false _ (f .if3 .left))) (d .before .before .before .u32-at .ensures)
     (d .data-of .ensures
     ∙ ap (λ z. dataOf z len (rest header (8 + w .wide .result))) (d .before .before .size-of .ensures)
@@ -132,6 +132,9 @@ data-of-requires c κs = subst (λ (z : Size). widthOf z ≤ 16) (sym (c .before
 enum-known-n : tie.Need-enum-known-n
 enum-known-n c = search needs
 
+add-name : tie.Need-add-name
+add-name c = search needs
+
 add-start : tie.Need-add-start
 add-start c = search needs
 
@@ -142,10 +145,10 @@ enum-known-number : tie.Need-enum-known-number
 enum-known-number c = search needs
 
 returns-4 : tie.Need-returns-4
-returns-4 c = let d = c .before .before .before in ap (past _) (sym (c .before .n .given .1)) ∙ finish d
+returns-4 c = let d = c .before .before .before in ap (past _ _) (sym (c .before .n .given .1)) ∙ finish d
 
 returns-5 : tie.Need-returns-5
-returns-5 c = let d = c .before .before .before in ap (past _) (sym (c .before .number .given .1)) ∙ finish d
+returns-5 c = let d = c .before .before .before in ap (past _ _) (sym (c .before .number .given .1)) ∙ finish d
 
 pub step-spec : {M : Type 1} → statement M
 step-spec =
@@ -173,6 +176,7 @@ step-spec =
     part-data-of-end
     data-of-requires
     enum-known-n
+    add-name
     add-start
     add-end
     enum-known-number
