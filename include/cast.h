@@ -1,8 +1,9 @@
 /*
  * Reader of Cast model files.
  *
- * Every function answers for any buffers and numbers. A pointer with length 0 must not be null, but may be anything else
- * that is aligned for its type.
+ * Every function answers for any contents of its buffers and any numbers. Of a buffer it takes for granted what C does of
+ * an array: that its bytes can be read, are fewer than 2^63, and lie aligned for their type. A pointer with length 0 must
+ * not be null, but may be any other that is aligned.
  */
 #ifndef CAST_H
 #define CAST_H

@@ -33,8 +33,9 @@ mod raw {
 
 /// Finds a property of a row by its name.
 pub fn lookup(bytes: &[u8], table: &[u32], row: usize, name: &[u8]) -> Found {
-    // SAFETY: each pointer and length are those of a live slice, aligned and not null even where it
-    // is empty. The function reads inside them, writes nothing and keeps no pointer.
+    // SAFETY: each pointer and length are those of a live slice: aligned, not null even where it is
+    // empty, and of at most isize::MAX bytes. The function reads inside them, writes nothing and
+    // keeps no pointer.
     unsafe {
         raw::cast_lookup(
             bytes.as_ptr(),
