@@ -1,19 +1,19 @@
 -- Where the properties of a body lie: each from its start to the next, within the body; and how the index tells it.
-use mathlib.Core.Path.{_≡_, refl, sym, ap, _∙_}
+use mathlib.Core.Path.{_≡_, refl, ap, _∙_}
 use mathlib.Core.Bool.{Bool, true, false, cond}
 use mathlib.Core.List.{List, [], _∷_, _++_}
-use Prim.Native.Nat.{ℕ, zero, suc, _+_, _-_, _<_, _≤_}
+use Prim.Native.Nat.{ℕ, zero, suc, _<_, _≤_}
 use native.Mathlib.Omega.{arith}
 use native.Mathlib.Nat.{zero-add}
 use lib.Dec.{ltb}
 use lib.ListN.{length, getD, take, drop, replicate, length-append, List·getD-append}
-use lib.Seq.{sets, sets-eq, take-append-le, take-append-seam}
+use lib.Seq.{sets-eq, take-append-le, take-append-seam}
 use borrow.Author.Tests.{ltb-false}
 use Rattle.props.specs.declared.Step.{Step}
 use Rattle.props.specs.declared.Step.the-variants.{Past, Refused}
 use Rattle.props.specs.Step.{stepAt, dataAt}
 use Rattle.props.proofs.Within.{StepWithin, within}
-use Rattle.body.specs.Body.{Walked, stop, after, byStep, pass, properties, places, indexOf}
+use Rattle.body.specs.Body.{Walked, stop, byStep, pass, properties, places, indexOf}
 
 module _ (s : List ℕ) where
   -- what holds of a walk from the next property on holds of one from this property on

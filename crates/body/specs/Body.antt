@@ -1,7 +1,7 @@
 -- So many properties from the start of some bytes on: for document 01's 9 to 11 in the reader, all that is left of the
 -- node; for its 23 in the writer and its 42 in the lookup, the body.
 use Prim.Native.Nat.{ℕ, zero, suc}
-use mathlib.Core.Bool.{Bool, true, false, cond, _&&_}
+use mathlib.Core.Bool.{Bool, cond, _&&_}
 use mathlib.Core.List.{List, [], _∷_, _++_}
 use lib.Dec.{eqb, ltb}
 use lib.ListN.{length, replicate}

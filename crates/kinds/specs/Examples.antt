@@ -2,7 +2,7 @@
 use Prim.Native.Nat.{ℕ, _+_, _*_}
 use mathlib.Core.Path.{_≡_, refl}
 use mathlib.Core.Bool.{Bool, true, false}
-use mathlib.Core.List.{List, [], _∷_, map}
+use mathlib.Core.List.{[], _∷_, map}
 use Rattle.kinds.specs.declared.Parent.the-variants.{None, Kind}
 use Rattle.kinds.specs.Kinds.{lines, lineIn, lineOf, isKnown, standsAtTop, standsUnder, mayStand}
 

@@ -1,11 +1,11 @@
 -- The search in a body by its index; and what it finds lies within.
 use mathlib.Core.Path.{_≡_, refl, sym, ap, _∙_}
-use mathlib.Core.Bool.{Bool, true, false, cond, _&&_}
-use mathlib.Core.List.{List, [], _∷_, _++_}
-use Prim.Native.Nat.{ℕ, suc, _+_, _-_, _<_, _≤_}
+use mathlib.Core.Bool.{Bool, true, false, cond}
+use mathlib.Core.List.{List, [], _∷_}
+use Prim.Native.Nat.{ℕ, _+_, _<_, _≤_}
 use native.Mathlib.Numerals.{add-one}
 use native.Mathlib.Omega.{arith}
-use lib.Dec.{eqb, ltb}
+use lib.Dec.{eqb}
 use lib.ListN.{length, getD, take, replicate, List·getD-append}
 use lib.Seq.{getD-append-seam, length-sets, length-take-le}
 use borrow.Author.Tests.{eq-eqb, ne-eqb, eqb-false}
@@ -14,7 +14,6 @@ use Rattle.body.specs.declared.Index.{Index}
 use Rattle.body.specs.Body.{properties, exactly, places, indexOf, firstNamed}
 use Rattle.body.proofs.Laws.{first-most}
 use Rattle.body.proofs.Places.{properties-few, properties-places, properties-data, index-places, index-starts}
-use Rattle.lookup.specs.declared.Found.{Found}
 use Rattle.lookup.specs.declared.Found.the-variants.{At, Refused}
 use Rattle.lookup.specs.Lookup.{inBody, Within}
 

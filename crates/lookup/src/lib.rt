@@ -1,8 +1,7 @@
 // A property by name: in any bytes, by any table and any row.
 ghost use mathlib.Core.Path.{_≡_};
-ghost use Prim.Native.Nat.{_≤_};
 ghost use lib.ListN.{length};
-ghost use Rattle.lookup.specs.Lookup.{inBody, shifted, lookupOf, Within, numberOf, partOf};
+ghost use Rattle.lookup.specs.Lookup.{inBody, lookupOf, Within, numberOf, partOf};
 
 // Where a property's data lies; or the number of the refusal.
 pub enum Found {

@@ -1,5 +1,5 @@
 -- The cases of the stages, each from the tests that lead to it; and the step over the part of a body from a place on.
-use mathlib.Core.Path.{_≡_, refl, sym, ap, subst, _∙_}
+use mathlib.Core.Path.{_≡_, refl, ap, _∙_}
 use mathlib.Core.Bool.{Bool, true, false, cond}
 use mathlib.Core.List.{List}
 use Prim.Native.Nat.{ℕ, zero, suc, _+_, _-_, _*_, _<_, _≤_}
@@ -17,7 +17,7 @@ use Rattle.props.specs.declared.Extent.{Extent}
 use Rattle.props.specs.declared.Extent.the-variants.{Takes}
 use Rattle.props.specs.declared.Extent.the-variants.{Refused as noData}
 use Rattle.props.specs.declared.Step.{Step}
-use Rattle.props.specs.declared.Step.the-variants.{Past, Refused}
+use Rattle.props.specs.declared.Step.the-variants.{Refused}
 use Rattle.props.specs.Types.{sizeOf, noSuch}
 use Rattle.props.specs.Step.{headerRefusal, nameRefusal, toZero, fit, dataOf, unless, past, codeAt, sizeAt, lengthAt, nameAt, startAt, stepAt}
 

@@ -2,7 +2,7 @@
 -- refusals 10 and 11 in the order "header fits, type, name size, name fits, name bytes, string length, data fits".
 -- Places are offsets in some bytes: in the reader all that is left of the node, by its size; in 23 and 42 the body.
 use Prim.Native.Nat.{ℕ, zero, suc, _+_, _-_, _*_}
-use mathlib.Core.Bool.{Bool, true, false, cond}
+use mathlib.Core.Bool.{cond}
 use mathlib.Core.List.{List, [], _∷_}
 use lib.Dec.{eqb, ltb}
 use lib.ListN.{length, take, drop}
@@ -13,8 +13,6 @@ use Rattle.props.specs.declared.Size.the-variants.{Bytes, Text, NoSuch}
 use Rattle.props.specs.declared.Extent.{Extent}
 use Rattle.props.specs.declared.Extent.the-variants.{Takes}
 use Rattle.props.specs.declared.Extent.the-variants.{Refused as noData}
-use Rattle.props.specs.declared.Cursor.{Cursor}
-use Rattle.props.specs.declared.Property.{Property}
 use Rattle.props.specs.declared.Step.{Step}
 use Rattle.props.specs.declared.Step.the-variants.{Past, Refused}
 use Rattle.props.specs.Types.{sizeOf, noSuch}

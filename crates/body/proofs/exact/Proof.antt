@@ -1,5 +1,5 @@
 -- `body::exact`: the walk ends, at the end.
-use mathlib.Core.Path.{_≡_, ap}
+use mathlib.Core.Path.{ap}
 use mathlib.Core.Bool.{_&&_}
 use lib.Dec.{eqb}
 use lib.ListN.{length}
@@ -14,7 +14,9 @@ pass-requires c κs = search needs
 
 returns : tie.Need-returns
 unfolding exactly
-returns c = let a = c .before .before .args in ap (λ (p : Passed). eqb (p .number) 0 && eqb (p .at) (length (a .body .now))) (c .pass .ensures)
+returns c =
+    let a = c .before .before .args in
+    ap (λ (p : Passed). eqb (p .number) 0 && eqb (p .at) (length (a .body .now))) (c .pass .ensures)
 
 pub exact-spec : {M : Type 1} → statement M
 exact-spec = tie.close (tie.spec pass-requires returns)

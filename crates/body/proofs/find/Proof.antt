@@ -1,7 +1,7 @@
 -- `body::find`: what the rest holds is what the whole holds.
 use native.Mathlib.Omega.{arith}
 use borrow.Author.Needs.{needs}
-use mathlib.Core.Path.{_≡_, refl, sym, ap, _∙_}
+use mathlib.Core.Path.{_≡_, sym, ap, _∙_}
 use Prim.Native.Nat.{_+_, _-_, _≤_}
 use lib.ListN.{length, drop}
 use Rattle.names.specs.Names.{same}
@@ -32,7 +32,11 @@ same-requires : tie.Need-same-requires Inv-loop μ-loop
 same-requires c κs = search needs
 
 returns : tie.Need-returns Inv-loop μ-loop
-returns c = let e = c .before in let l = e .before .before .before .before in let a = l .before .before .before .before .args in (sym (found (a .body .now) (a .name .now) (a .starts .now) (l .loop .i) (omega arith) (ap (λ n. same n (a .name .now)) (sym (e .before .name-at .ensures)) ∙ sym (e .same .ensures) ∙ c .if1 .taken)) ∙ l .loop .inv .1, l .loop .inv .0)
+returns c =
+    let e = c .before in
+    let l = e .before .before .before .before in
+    let a = l .before .before .before .before .args in
+    (sym (found (a .body .now) (a .name .now) (a .starts .now) (l .loop .i) (omega arith) (ap (λ n. same n (a .name .now)) (sym (e .before .name-at .ensures)) ∙ sym (e .same .ensures) ∙ c .if1 .taken)) ∙ l .loop .inv .1, l .loop .inv .0)
 
 add-i : tie.Need-add-i Inv-loop μ-loop
 add-i c = omega arith
@@ -41,10 +45,17 @@ loop-less : tie.Need-loop-less Inv-loop μ-loop
 loop-less c = omega arith
 
 loop-again : tie.Need-loop-again Inv-loop μ-loop
-loop-again c = let e = c .before in let l = e .before .before .before .before in let a = l .before .before .before .before .args in (omega arith, sym (other (a .body .now) (a .name .now) (a .starts .now) (l .loop .i) (omega arith) (ap (λ n. same n (a .name .now)) (sym (e .before .name-at .ensures)) ∙ sym (e .same .ensures) ∙ c .if1 .left)) ∙ l .loop .inv .1)
+loop-again c =
+    let e = c .before in
+    let l = e .before .before .before .before in
+    let a = l .before .before .before .before .args in
+    (omega arith, sym (other (a .body .now) (a .name .now) (a .starts .now) (l .loop .i) (omega arith) (ap (λ n. same n (a .name .now)) (sym (e .before .name-at .ensures)) ∙ sym (e .same .ensures) ∙ c .if1 .left)) ∙ l .loop .inv .1)
 
 returns-2 : tie.Need-returns-2 Inv-loop μ-loop
-returns-2 c = let l = c .before in let a = l .before .before .before .before .args in (sym (nowhere (a .body .now) (a .name .now) (a .starts .now) (l .loop .i) (omega arith)) ∙ l .loop .inv .1, l .loop .inv .0)
+returns-2 c =
+    let l = c .before in
+    let a = l .before .before .before .before .args in
+    (sym (nowhere (a .body .now) (a .name .now) (a .starts .now) (l .loop .i) (omega arith)) ∙ l .loop .inv .1, l .loop .inv .0)
 
 pub find-spec : {M : Type 1} → statement M
 find-spec =

@@ -1,10 +1,9 @@
 -- `body::index_of`: the array so far, and the starts of the rest, are the index of the whole.
 use native.Mathlib.Omega.{arith}
 use borrow.Author.Needs.{needs}
-use mathlib.Core.Path.{_≡_, refl, sym, ap, _∙_}
+use mathlib.Core.Path.{_≡_, sym, ap, _∙_}
 use Prim.Native.Nat.{_+_, _-_}
-use lib.ListN.{replicate}
-use Rattle.body.specs.Body.{stop, pass, properties, indexOf}
+use Rattle.body.specs.Body.{pass, properties, indexOf}
 use Rattle.body.proofs.Laws.{many, few, done, passed, refused, indexFrom, index-whole, index-after, index-stop}
 use Rattle.body.proofs.index_of.Statement.{statement}
 use Rattle.body.proofs.index_of.Tie as tie
@@ -16,10 +15,14 @@ abbrev μ-loop : tie.MeasureT-loop
 μ-loop body count starts₀ at₀ i₀ left₀ starts at i left = left
 
 returns : tie.Need-returns Inv-loop μ-loop
-returns c = let a = c .before .before .args in (ap indexOf (many (a .body .now) (a .count) (c .if1 .taken)), omega arith)
+returns c =
+    let a = c .before .before .args in
+    (ap indexOf (many (a .body .now) (a .count) (c .if1 .taken)), omega arith)
 
 loop-holds : tie.Need-loop-holds Inv-loop μ-loop
-loop-holds c = let a = c .before .before .args in (omega arith, index-whole (pass (a .body .now) (a .count) 0) ∙ ap indexOf (few (a .body .now) (a .count) (c .if1 .left)))
+loop-holds c =
+    let a = c .before .before .args in
+    (omega arith, index-whole (pass (a .body .now) (a .count) 0) ∙ ap indexOf (few (a .body .now) (a .count) (c .if1 .left)))
 
 mul-starts : tie.Need-mul-starts Inv-loop μ-loop
 mul-starts c = search needs
@@ -43,7 +46,11 @@ loop-less : tie.Need-loop-less Inv-loop μ-loop
 loop-less c = omega arith
 
 loop-again : tie.Need-loop-again Inv-loop μ-loop
-loop-again c = let d = c .before .before .before in let l = d .before .before in let a = l .before .before .before .args in (omega arith, sym (ap (indexFrom (l .loop .starts) (l .loop .i)) (passed (a .body .now) (l .loop .left) (l .loop .at) (d .before .loop-test .taken) (sym (d .step .ensures) ∙ c .before .next .given .1)) ∙ index-after (l .loop .starts) (l .loop .i) (l .loop .at) (pass (a .body .now) (l .loop .left - 1) (c .before .next .given .0 .1 .0 .at))) ∙ l .loop .inv .1)
+loop-again c =
+    let d = c .before .before .before in
+    let l = d .before .before in
+    let a = l .before .before .before .args in
+    (omega arith, sym (ap (indexFrom (l .loop .starts) (l .loop .i)) (passed (a .body .now) (l .loop .left) (l .loop .at) (d .before .loop-test .taken) (sym (d .step .ensures) ∙ c .before .next .given .1)) ∙ index-after (l .loop .starts) (l .loop .i) (l .loop .at) (pass (a .body .now) (l .loop .left - 1) (c .before .next .given .0 .1 .0 .at))) ∙ l .loop .inv .1)
 
 enum-known-number : tie.Need-enum-known-number Inv-loop μ-loop
 enum-known-number c = search needs

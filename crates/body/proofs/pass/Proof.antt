@@ -1,7 +1,7 @@
 -- `body::pass`: what the rest answers is what the whole answers.
 use native.Mathlib.Omega.{arith}
 use borrow.Author.Needs.{needs}
-use mathlib.Core.Path.{_≡_, refl, sym, ap, _∙_}
+use mathlib.Core.Path.{_≡_, sym, ap, _∙_}
 use Rattle.body.specs.Body.{pass, properties, answerOf}
 use Rattle.body.proofs.Laws.{many, few, done, passed, refused}
 use Rattle.body.proofs.pass.Statement.{statement}
@@ -32,16 +32,27 @@ loop-less : tie.Need-loop-less Inv-loop μ-loop
 loop-less c = omega arith
 
 loop-again : tie.Need-loop-again Inv-loop μ-loop
-loop-again c = let d = c .before .before .before in let l = d .before .before in let a = l .before .before .before .args in ap answerOf (sym (passed (a .body .now) (l .loop .left) (l .loop .at) (d .before .loop-test .taken) (sym (d .step .ensures) ∙ c .before .next .given .1))) ∙ l .loop .inv
+loop-again c =
+    let d = c .before .before .before in
+    let l = d .before .before in
+    let a = l .before .before .before .args in
+    ap answerOf (sym (passed (a .body .now) (l .loop .left) (l .loop .at) (d .before .loop-test .taken) (sym (d .step .ensures) ∙ c .before .next .given .1))) ∙ l .loop .inv
 
 enum-known-number : tie.Need-enum-known-number Inv-loop μ-loop
 enum-known-number c = search needs
 
 returns-2 : tie.Need-returns-2 Inv-loop μ-loop
-returns-2 c = let d = c .before .before .before in let l = d .before .before in let a = l .before .before .before .args in ap answerOf (sym (refused (a .body .now) (l .loop .left) (l .loop .at) (d .before .loop-test .taken) (sym (d .step .ensures) ∙ c .before .number .given .1))) ∙ l .loop .inv
+returns-2 c =
+    let d = c .before .before .before in
+    let l = d .before .before in
+    let a = l .before .before .before .args in
+    ap answerOf (sym (refused (a .body .now) (l .loop .left) (l .loop .at) (d .before .loop-test .taken) (sym (d .step .ensures) ∙ c .before .number .given .1))) ∙ l .loop .inv
 
 returns-3 : tie.Need-returns-3 Inv-loop μ-loop
-returns-3 c = let l = c .before in let a = l .before .before .before .args in ap answerOf (sym (done (a .body .now) (l .loop .left) (l .loop .at) (c .loop-test .left))) ∙ l .loop .inv
+returns-3 c =
+    let l = c .before in
+    let a = l .before .before .before .args in
+    ap answerOf (sym (done (a .body .now) (l .loop .left) (l .loop .at) (c .loop-test .left))) ∙ l .loop .inv
 
 pub pass-spec : {M : Type 1} → statement M
 pass-spec =

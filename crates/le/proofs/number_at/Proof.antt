@@ -10,7 +10,9 @@ use Rattle.le.proofs.number_at.Statement.{statement}
 use Rattle.le.proofs.number_at.Tie as tie
 
 returns : tie.Need-returns
-returns c = let a = c .before .before .args in sym (numberAt-past (min (a .width) 4) (a .bytes .now) (a .at) (search needs))
+returns c =
+    let a = c .before .before .args in
+    sym (numberAt-past (min (a .width) 4) (a .bytes .now) (a .at) (search needs))
 
 shared-slice-read-wide : tie.Need-shared-slice-read-wide
 shared-slice-read-wide c = search needs

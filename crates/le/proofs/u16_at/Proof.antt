@@ -1,6 +1,6 @@
 -- `le::u16_at`: 0 past the end, else the two halves of the part that starts at the place.
-use mathlib.Core.Path.{_≡_, sym, _∙_}
-use Rattle.le.proofs.Laws.{numberAt-past, numberAt-halves, numberAt-byte}
+use mathlib.Core.Path.{sym, _∙_}
+use Rattle.le.proofs.Laws.{numberAt-past, numberAt-halves}
 use borrow.Author.Needs.{needs}
 use Rattle.le.proofs.u16_at.Statement.{statement}
 use Rattle.le.proofs.u16_at.Tie as tie

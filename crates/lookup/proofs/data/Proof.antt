@@ -1,9 +1,8 @@
 -- `lookup::data`: the part that was found lies within.
-use native.Mathlib.Omega.{arith}
-use mathlib.Core.Path.{_≡_, sym, ap, subst, _∙_}
+use mathlib.Core.Path.{sym, ap, subst, _∙_}
 use Prim.Native.Nat.{_≤_}
 use lib.ListN.{length}
-use Rattle.lookup.specs.Lookup.{partOf, lookupOf, Within}
+use Rattle.lookup.specs.Lookup.{partOf, Within}
 use borrow.Author.Needs.{needs}
 use Rattle.lookup.proofs.data.Statement.{statement}
 use Rattle.lookup.proofs.data.Tie as tie
@@ -33,7 +32,9 @@ part-result-end : tie.Need-part-result-end
 part-result-end c = search needs
 
 returns : tie.Need-returns
-returns c = let d = c .before .before .before in ap (partOf (d .before .before .before .before .args .bytes .now)) (sym (c .before .enum-told .given .1) ∙ d .find .ensures .0)
+returns c =
+    let d = c .before .before .before in
+    ap (partOf (d .before .before .before .before .args .bytes .now)) (sym (c .before .enum-told .given .1) ∙ d .find .ensures .0)
 
 sub-result-2 : tie.Need-sub-result-2
 sub-result-2 c = lies c .0
@@ -45,7 +46,9 @@ part-result-end-2 : tie.Need-part-result-end-2
 part-result-end-2 c = lies c .1
 
 returns-2 : tie.Need-returns-2
-returns-2 c = let d = c .before .before .before .before in ap (partOf (d .before .before .before .before .args .bytes .now)) (sym (c .before .before .start .given .1) ∙ d .find .ensures .0)
+returns-2 c =
+    let d = c .before .before .before .before in
+    ap (partOf (d .before .before .before .before .args .bytes .now)) (sym (c .before .before .start .given .1) ∙ d .find .ensures .0)
 
 pub data-spec : {M : Type 1} → statement M
 data-spec =

@@ -6,7 +6,7 @@ use Prim.Native.Nat.{_-_, _≤_}
 use lib.ListN.{length, take, drop}
 use borrow.Author.Tests.{not-true, not-false}
 use Rattle.table.specs.Table.{hasRow}
-use Rattle.lookup.specs.Lookup.{inBody, shifted, lookupOf, Within}
+use Rattle.lookup.specs.Lookup.{shifted, lookupOf, Within}
 use Rattle.lookup.proofs.Laws.{body-within}
 use Rattle.lookup.proofs.Rows.{no-row, reversed, outside, inside, length-body, told}
 use borrow.Author.Needs.{needs}

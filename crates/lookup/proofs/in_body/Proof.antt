@@ -1,6 +1,6 @@
 -- `lookup::in_body`: by the index of the body.
 use native.Mathlib.Omega.{arith}
-use mathlib.Core.Path.{_≡_, sym, ap, _∙_}
+use mathlib.Core.Path.{_≡_, ap, _∙_}
 use Prim.Native.Nat.{_+_, _≤_}
 use lib.ListN.{length, length-take, take, getD}
 use Rattle.lookup.specs.declared.Found.the-variants.{At}
@@ -21,7 +21,10 @@ index-of-requires : tie.Need-index-of-requires
 index-of-requires c κs = search needs
 
 returns : tie.Need-returns
-returns c = let d = c .before .before .before in let a = d .before .before .before .args in wrong (a .body .now) (a .name .now) (a .count) (d .index-of .ensures .0) (c .if1 .taken)
+returns c =
+    let d = c .before .before .before in
+    let a = d .before .before .before .args in
+    wrong (a .body .now) (a .name .now) (a .count) (d .index-of .ensures .0) (c .if1 .taken)
 
 mul-if2 : tie.Need-mul-if2
 mul-if2 c = omega (arith, c .before .before .before .index-of .ensures .1)
@@ -30,7 +33,10 @@ array-read-if2 : tie.Need-array-read-if2
 array-read-if2 c = omega (arith, c .before .before .before .index-of .ensures .1)
 
 returns-2 : tie.Need-returns-2
-returns-2 c = let d = c .before .before .before .before in let a = d .before .before .before .args in short (a .body .now) (a .name .now) (a .count) (d .index-of .ensures .0) (c .before .if1 .left) (c .if2 .taken)
+returns-2 c =
+    let d = c .before .before .before .before in
+    let a = d .before .before .before .args in
+    short (a .body .now) (a .name .now) (a .count) (d .index-of .ensures .0) (c .before .if1 .left) (c .if2 .taken)
 
 array-share-prefix-starts : tie.Need-array-share-prefix-starts
 array-share-prefix-starts c =
@@ -44,7 +50,11 @@ find-requires : tie.Need-find-requires
 find-requires c κs = search needs
 
 returns-3 : tie.Need-returns-3
-returns-3 c = let f = c .before in let d = f .before .before .before .before .before .before in let a = d .before .before .before .args in absent (a .body .now) (a .name .now) (a .count) (d .index-of .ensures .0) (f .before .before .before .if1 .left) (f .before .before .if2 .left) (f .find .ensures .0) (c .if3 .taken)
+returns-3 c =
+    let f = c .before in
+    let d = f .before .before .before .before .before .before in
+    let a = d .before .before .before .args in
+    absent (a .body .now) (a .name .now) (a .count) (d .index-of .ensures .0) (f .before .before .before .if1 .left) (f .before .before .if2 .left) (f .find .ensures .0) (c .if3 .taken)
 
 mul-at : tie.Need-mul-at
 mul-at c = omega (arith, at-most (c .before), c .before .before .before .before .before .before .before .index-of .ensures .1)
@@ -65,7 +75,11 @@ data-at-requires : tie.Need-data-at-requires
 data-at-requires c κs = search needs
 
 returns-4 : tie.Need-returns-4
-returns-4 c = let f = c .before .before in let d = f .before .before .before .before .before .before in let a = d .before .before .before .args in ap (λ n. At n (getD (d .index-of .result .starts) (f .find .result + 1) 0)) (c .data-at .ensures .0) ∙ there (a .body .now) (a .name .now) (a .count) (d .index-of .ensures .0) (f .before .before .before .if1 .left) (f .before .before .if2 .left) (f .find .ensures .0) (c .before .if3 .left)
+returns-4 c =
+    let f = c .before .before in
+    let d = f .before .before .before .before .before .before in
+    let a = d .before .before .before .args in
+    ap (λ n. At n (getD (d .index-of .result .starts) (f .find .result + 1) 0)) (c .data-at .ensures .0) ∙ there (a .body .now) (a .name .now) (a .count) (d .index-of .ensures .0) (f .before .before .before .if1 .left) (f .before .before .if2 .left) (f .find .ensures .0) (c .before .if3 .left)
 
 pub in-body-spec : {M : Type 1} → statement M
 in-body-spec =

@@ -1,7 +1,7 @@
 -- `props::clear_of_zeros`: a block without a zero is passed whole.
 use native.Mathlib.Omega.{arith}
 use borrow.Author.Needs.{needs}
-use mathlib.Core.Path.{_≡_, refl, sym, ap, _∙_}
+use mathlib.Core.Path.{_≡_, sym, ap, _∙_}
 use mathlib.Core.Bool.{false}
 use Prim.Native.Nat.{_+_, _≤_, _-_}
 use lib.Dec.{leb}

@@ -37,13 +37,17 @@ add-data : tie.Need-add-data
 add-data c = search needs
 
 returns-2 : tie.Need-returns-2
-returns-2 c = let a = c .before .before .before .before .before .before .args in (sym (data-past (a .body .now) (a .at) (omega (arith, size (c .before)))), omega arith)
+returns-2 c =
+    let a = c .before .before .before .before .before .before .args in
+    (sym (data-past (a .body .now) (a .at) (omega (arith, size (c .before)))), omega arith)
 
 add-result : tie.Need-add-result
 add-result c = search needs
 
 returns-3 : tie.Need-returns-3
-returns-3 c = let a = c .before .before .before .before .before .before .args in (omega (arith, size (c .before), data-here (a .body .now) (a .at) (omega (arith, size (c .before)))), omega arith)
+returns-3 c =
+    let a = c .before .before .before .before .before .before .args in
+    (omega (arith, size (c .before), data-here (a .body .now) (a .at) (omega (arith, size (c .before)))), omega arith)
 
 pub data-at-spec : {M : Type 1} → statement M
 data-at-spec =

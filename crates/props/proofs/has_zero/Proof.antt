@@ -30,10 +30,16 @@ loop-less : tie.Need-loop-less Inv-loop μ-loop
 loop-less c = omega arith
 
 loop-again : tie.Need-loop-again Inv-loop μ-loop
-loop-again c = let l = c .before .before in let a = l .before .args in (omega arith, sym (any-next (l .loop .any) (a .block .now) (l .loop .i) (omega arith)) ∙ l .loop .inv .1)
+loop-again c =
+    let l = c .before .before in
+    let a = l .before .args in
+    (omega arith, sym (any-next (l .loop .any) (a .block .now) (l .loop .i) (omega arith)) ∙ l .loop .inv .1)
 
 returns : tie.Need-returns Inv-loop μ-loop
-returns c = let l = c .before in let a = l .before .args in sym (any-end (l .loop .any) (a .block .now) (l .loop .i) (omega arith)) ∙ l .loop .inv .1
+returns c =
+    let l = c .before in
+    let a = l .before .args in
+    sym (any-end (l .loop .any) (a .block .now) (l .loop .i) (omega arith)) ∙ l .loop .inv .1
 
 pub has-zero-spec : {M : Type 1} → statement M
 has-zero-spec =

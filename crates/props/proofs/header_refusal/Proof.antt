@@ -23,22 +23,36 @@ no-such-requires : tie.Need-no-such-requires
 no-such-requires c κs = search needs
 
 returns-2 : tie.Need-returns-2
-returns-2 c = let b = c .before in let a = b .before .before .before .args in no-type (a .code) (a .size) (a .room) (omega arith) (type b (c .if2 .taken))
+returns-2 c =
+    let b = c .before in
+    let a = b .before .before .before .args in
+    no-type (a .code) (a .size) (a .room) (omega arith) (type b (c .if2 .taken))
 
 size-ok-requires : tie.Need-size-ok-requires
 size-ok-requires c κs = search needs
 
 returns-3 : tie.Need-returns-3
-returns-3 c = let b = c .before .before .before in let a = b .before .before .before .args in no-name (a .code) (a .size) (a .room) (omega arith) (type b (c .before .before .if2 .left)) (sym (c .before .size-ok .ensures) ∙ not-true _ (c .if3 .taken))
+returns-3 c =
+    let b = c .before .before .before in
+    let a = b .before .before .before .args in
+    no-name (a .code) (a .size) (a .room) (omega arith) (type b (c .before .before .if2 .left)) (sym (c .before .size-ok .ensures) ∙ not-true _ (c .if3 .taken))
 
 wide-requires : tie.Need-wide-requires
 wide-requires c κs = search needs
 
 returns-4 : tie.Need-returns-4
-returns-4 c = let e = c .before .before in let b = e .before .before .before in let a = b .before .before .before .args in name-out (a .code) (a .size) (a .room) (omega arith) (type b (e .before .before .if2 .left)) (sym (e .before .size-ok .ensures) ∙ not-false _ (e .if3 .left)) (omega (arith, c .before .wide .ensures .0))
+returns-4 c =
+    let e = c .before .before in
+    let b = e .before .before .before in
+    let a = b .before .before .before .args in
+    name-out (a .code) (a .size) (a .room) (omega arith) (type b (e .before .before .if2 .left)) (sym (e .before .size-ok .ensures) ∙ not-false _ (e .if3 .left)) (omega (arith, c .before .wide .ensures .0))
 
 returns-5 : tie.Need-returns-5
-returns-5 c = let e = c .before .before in let b = e .before .before .before in let a = b .before .before .before .args in header-right (a .code) (a .size) (a .room) (omega arith) (type b (e .before .before .if2 .left)) (sym (e .before .size-ok .ensures) ∙ not-false _ (e .if3 .left)) (omega (arith, c .before .wide .ensures .0))
+returns-5 c =
+    let e = c .before .before in
+    let b = e .before .before .before in
+    let a = b .before .before .before .args in
+    header-right (a .code) (a .size) (a .room) (omega arith) (type b (e .before .before .if2 .left)) (sym (e .before .size-ok .ensures) ∙ not-false _ (e .if3 .left)) (omega (arith, c .before .wide .ensures .0))
 
 pub header-refusal-spec : {M : Type 1} → statement M
 header-refusal-spec =

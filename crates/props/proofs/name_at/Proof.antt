@@ -1,6 +1,6 @@
 -- `props::name_at`: from past the header to the data.
 use native.Mathlib.Omega.{arith}
-use mathlib.Core.Path.{_≡_, sym, ap, _∙_}
+use mathlib.Core.Path.{ap, _∙_}
 use Prim.Native.Nat.{_+_, _-_}
 use lib.ListN.{take, drop}
 use Rattle.props.proofs.Laws.{name-none, name-part}
@@ -21,7 +21,10 @@ part-result-end : tie.Need-part-result-end
 part-result-end c = search needs
 
 returns : tie.Need-returns
-returns c = let b = c .before .before in let a = b .before .before .args in name-none (a .body .now) (a .at) (omega (arith, b .data-at .ensures .0))
+returns c =
+    let b = c .before .before in
+    let a = b .before .before .args in
+    name-none (a .body .now) (a .at) (omega (arith, b .data-at .ensures .0))
 
 sub-result-2 : tie.Need-sub-result-2
 sub-result-2 c = search needs
@@ -33,7 +36,10 @@ part-result-end-2 : tie.Need-part-result-end-2
 part-result-end-2 c = search needs
 
 returns-2 : tie.Need-returns-2
-returns-2 c = let b = c .before .before .before in let a = b .before .before .args in name-none (a .body .now) (a .at) (omega (arith, b .data-at .ensures .0))
+returns-2 c =
+    let b = c .before .before .before in
+    let a = b .before .before .args in
+    name-none (a .body .now) (a .at) (omega (arith, b .data-at .ensures .0))
 
 add-start : tie.Need-add-start
 add-start c = search needs
@@ -48,7 +54,10 @@ part-result-end-3 : tie.Need-part-result-end-3
 part-result-end-3 c = search needs
 
 returns-3 : tie.Need-returns-3
-returns-3 c = let b = c .before .before .before in let a = b .before .before .args in ap (λ n. take (n - (a .at + 8)) (drop (a .at + 8) (a .body .now))) (b .data-at .ensures .0) ∙ name-part (a .body .now) (a .at)
+returns-3 c =
+    let b = c .before .before .before in
+    let a = b .before .before .args in
+    ap (λ n. take (n - (a .at + 8)) (drop (a .at + 8) (a .body .now))) (b .data-at .ensures .0) ∙ name-part (a .body .now) (a .at)
 
 pub name-at-spec : {M : Type 1} → statement M
 name-at-spec =

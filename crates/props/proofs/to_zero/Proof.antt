@@ -1,6 +1,6 @@
 -- `props::to_zero`: the zero is where the loop meets it.
 use native.Mathlib.Omega.{arith}
-use mathlib.Core.Path.{_≡_, refl, sym, _∙_}
+use mathlib.Core.Path.{_≡_, sym, _∙_}
 use Prim.Native.Nat.{_≤_, _-_, _+_}
 use lib.ListN.{length, drop}
 use borrow.Author.Needs.{needs}
@@ -28,7 +28,9 @@ add-result : tie.Need-add-result Inv-loop μ-loop
 add-result c = omega arith
 
 returns : tie.Need-returns Inv-loop μ-loop
-returns c = let l = c .before .before .before in sym (zero-here (l .before .before .before .args .bytes .now) (l .loop .i) (omega arith) (c .if1 .taken)) ∙ l .loop .inv .1
+returns c =
+    let l = c .before .before .before in
+    sym (zero-here (l .before .before .before .args .bytes .now) (l .loop .i) (omega arith) (c .if1 .taken)) ∙ l .loop .inv .1
 
 add-i : tie.Need-add-i Inv-loop μ-loop
 add-i c = omega arith
@@ -37,13 +39,17 @@ loop-less : tie.Need-loop-less Inv-loop μ-loop
 loop-less c = omega arith
 
 loop-again : tie.Need-loop-again Inv-loop μ-loop
-loop-again c = let l = c .before .before .before in (omega arith, sym (zero-later (l .before .before .before .args .bytes .now) (l .loop .i) (omega arith) (c .if1 .left)) ∙ l .loop .inv .1)
+loop-again c =
+    let l = c .before .before .before in
+    (omega arith, sym (zero-later (l .before .before .before .args .bytes .now) (l .loop .i) (omega arith) (c .if1 .left)) ∙ l .loop .inv .1)
 
 add-result-2 : tie.Need-add-result-2 Inv-loop μ-loop
 add-result-2 c = omega arith
 
 returns-2 : tie.Need-returns-2 Inv-loop μ-loop
-returns-2 c = let l = c .before in sym (zero-nowhere (l .before .before .before .args .bytes .now) (l .loop .i) (omega arith)) ∙ l .loop .inv .1
+returns-2 c =
+    let l = c .before in
+    sym (zero-nowhere (l .before .before .before .args .bytes .now) (l .loop .i) (omega arith)) ∙ l .loop .inv .1
 
 pub to-zero-spec : {M : Type 1} → statement M
 to-zero-spec =

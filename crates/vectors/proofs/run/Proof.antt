@@ -21,7 +21,9 @@ number-requires : tie.Need-number-requires
 number-requires c κs = search needs
 
 slice-aggregate-dispatch : tie.Need-slice-aggregate-dispatch
-slice-aggregate-dispatch c = let b = c .before .before .before .before .before .before .before in sym (length-take-le (b .args .f .first) (b .args .payload .now) (search needs))
+slice-aggregate-dispatch c =
+    let b = c .before .before .before .before .before .before .before in
+    sym (length-take-le (b .args .f .first) (b .args .payload .now) (search needs))
 
 sub-dispatch : tie.Need-sub-dispatch
 sub-dispatch c = search needs

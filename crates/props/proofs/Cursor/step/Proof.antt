@@ -1,16 +1,13 @@
 -- `props::Cursor::step`: the stages over the part that starts with the header.
 use native.Mathlib.Omega.{arith}
-use mathlib.Core.Path.{_≡_, refl, sym, ap, subst, _∙_}
+use mathlib.Core.Path.{_≡_, sym, ap, subst, _∙_}
 use mathlib.Core.Bool.{Bool}
-use Prim.Native.Nat.{ℕ, _+_, _-_, _≤_}
-use lib.ListN.{length, take, drop, length-drop}
+use Prim.Native.Nat.{_+_, _-_, _≤_}
+use lib.ListN.{length, take, drop}
 use borrow.Author.Tests.{not-true, not-false}
-use Rattle.le.specs.Le.{numberAt}
 use Rattle.le.proofs.Laws.{rest, rest-drop}
 use Rattle.names.specs.Names.{bytesOk}
 use Rattle.props.specs.declared.Size.{Size}
-use Rattle.props.specs.declared.Extent.{Extent}
-use Rattle.props.specs.declared.Extent.the-variants.{Takes}
 use Rattle.props.specs.Types.{sizeOf, widthOf}
 use Rattle.props.specs.Step.{headerRefusal, dataOf, past, stepAt}
 use Rattle.props.proofs.Laws.{small}
@@ -88,7 +85,10 @@ header-refusal-requires : tie.Need-header-refusal-requires
 header-refusal-requires c κs = search needs
 
 returns-2 : tie.Need-returns-2
-returns-2 c = let b = c .before .before in let a = b .before .before .before .before .before .args in header-refused (a .body .now) (a .self .at) (b .before .u16-at .ensures) (b .u16-at2 .ensures) (c .before .header-refusal .ensures) (c .if2 .taken)
+returns-2 c =
+    let b = c .before .before in
+    let a = b .before .before .before .before .before .args in
+    header-refused (a .body .now) (a .self .at) (b .before .u16-at .ensures) (b .u16-at2 .ensures) (c .before .header-refusal .ensures) (c .if2 .taken)
 
 wide-requires : tie.Need-wide-requires
 wide-requires c κs = search needs
@@ -109,7 +109,11 @@ bytes-ok-requires : tie.Need-bytes-ok-requires
 bytes-ok-requires c κs = search needs
 
 returns-3 : tie.Need-returns-3
-returns-3 c = let w = c .before .before .before in let b = w .before .before .before in let a = b .before .before .before .before .before .args in name-refused (a .body .now) (a .self .at) (b .before .u16-at .ensures) (b .u16-at2 .ensures) (right w) (named (c .before) (not-true _ (c .if3 .taken)))
+returns-3 c =
+    let w = c .before .before .before in
+    let b = w .before .before .before in
+    let a = b .before .before .before .before .before .args in
+    name-refused (a .body .now) (a .self .at) (b .before .u16-at .ensures) (b .u16-at2 .ensures) (right w) (named (c .before) (not-true _ (c .if3 .taken)))
 
 u32-at-requires : tie.Need-u32-at-requires
 u32-at-requires c κs = search needs

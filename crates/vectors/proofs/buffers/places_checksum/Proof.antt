@@ -1,5 +1,4 @@
 -- `vectors::buffers::places_checksum`: what is left of the places falls.
-use native.Mathlib.Omega.{arith}
 use borrow.Author.Needs.{needs}
 use Prim.Native.Nat.{_≤_, _-_}
 use lib.ListN.{length}

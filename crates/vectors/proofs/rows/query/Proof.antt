@@ -25,7 +25,9 @@ slice-aggregate-lookup : tie.Need-slice-aggregate-lookup
 slice-aggregate-lookup c = sym (length-take-le (c .before .before .before .before .before .before .args .n) (c .before .space .result) (search needs))
 
 slice-aggregate-lookup-2 : tie.Need-slice-aggregate-lookup-2
-slice-aggregate-lookup-2 c = let a = c .before .before .before .before .before .before .before .args in sym (length-take-le (a .n * 4) (a .second .now) (search needs))
+slice-aggregate-lookup-2 c =
+    let a = c .before .before .before .before .before .before .before .args in
+    sym (length-take-le (a .n * 4) (a .second .now) (search needs))
 
 sub-lookup : tie.Need-sub-lookup
 sub-lookup c = search needs
