@@ -39,6 +39,12 @@ rest l at = take (length l - at) (drop at l)
 pub rest-drop : (l : List ℕ) (at : ℕ) → rest l at ≡ drop at l
 rest-drop l at = take-all (length l - at) (drop at l) (simp length-drop (omega arith))
 
+pub length-rest : (l : List ℕ) (at : ℕ) → length (rest l at) ≡ length l - at
+length-rest l at = rw (rest-drop l at) (length-drop at l)
+
+pub drop-rest : (l : List ℕ) (at k : ℕ) → drop k (rest l at) ≡ drop (at + k) l
+drop-rest l at k = rw (rest-drop l at) (drop-drop k at l)
+
 -- a number at a place is made of its halves
 pub numberAt-halves : (w : ℕ) (l : List ℕ) (at : ℕ) {low high : ℕ} → low ≡ numberAt w (rest l at) 0 → high ≡ numberAt w (rest l at) w → low + 256 ^ w * high ≡ numberAt (w + w) l at
 unfolding numberAt
@@ -47,7 +53,7 @@ numberAt-halves w l at e f = rw (e, f, rest-drop l at) (sym (val-split w w (drop
 -- the same number, in a part
 pub numberAt-rest : (w : ℕ) (l : List ℕ) (at k : ℕ) → numberAt w (rest l at) k ≡ numberAt w l (at + k)
 unfolding numberAt
-numberAt-rest w l at k = rw (rest-drop l at, drop-drop k at l)
+numberAt-rest w l at k = rw (drop-rest l at k)
 
 -- fewer bytes at a place are the remainder of more
 pub numberAt-short : (w v : ℕ) (l : List ℕ) (at : ℕ) → ((i : ℕ) → getD l i 0 < 256) → numberAt (w + v) l at % 256 ^ w ≡ numberAt w l at

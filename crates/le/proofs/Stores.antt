@@ -1,11 +1,11 @@
 -- Laws of stores at a place.
-use Prim.Native.Nat.{ℕ, suc, _+_, _-_, _/_, _%_, _^_, _≤_}
+use Prim.Native.Nat.{ℕ, zero, suc, _+_, _-_, _/_, _%_, _^_, _≤_, _<_}
 use native.Mathlib.Omega.{arith}
 use native.Mathlib.Nat.{zero-add, add-zero}
 use mathlib.Core.Path.{_≡_, refl, ap, sym, _∙_}
 use mathlib.Core.List.{List, [], _∷_, _++_, append-nil}
-use lib.ListN.{length, take, drop, set, take-append-drop, length-drop, drop-of-length-le}
-use lib.Seq.{sets, set-out, take-set-le, drop-set-add}
+use lib.ListN.{length, getD, take, drop, set, take-append-drop, length-drop, length-set, drop-of-length-le}
+use lib.Seq.{sets, set-out, take-set-le, drop-set-add, drop-set-lt, getD-set-same, getD-set-other}
 use borrow.Rule.Slice.PartMut.{putMid}
 use Rattle.le.specs.Le.{le}
 use Rattle.le.proofs.Laws.{rest, rest-drop, le-halves, length-le}
@@ -27,6 +27,27 @@ module _ {A : Type 0} where
       ∙ ap (λ t. t ++ sets (drop a (set l (a + j) v)) (suc j) vs) (sym (take-set-le a l (a + j) v (omega arith)))
       ∙ sets-rest a vs (set l (a + j) v) (suc j)
       ∙ ap (λ k. sets (set l (a + j) v) k vs) (omega arith)
+
+  -- what stands before the stores, or behind them
+  pub getD-sets-other : (l : List A) (i : ℕ) (vs : List A) (j : ℕ) (d : A) → (i ≤ j → i + length vs ≤ j) → getD (sets l i vs) j d ≡ getD l j d
+  getD-sets-other l i [] j d h = refl
+  getD-sets-other l i (v ∷ vs) j d h =
+      getD-sets-other (set l i v) (suc i) vs j d (λ b. omega (arith, h (omega arith)))
+      ∙ getD-set-other l i j v d (λ e. omega (arith, h (omega arith)))
+
+  pub getD-sets : (l : List A) (i : ℕ) (vs : List A) (j : ℕ) (d : A) → i + length vs ≤ length l → j < length vs → getD (sets l i vs) (i + j) d ≡ getD vs j d
+  getD-sets l i [] j d h b = absurd (omega arith)
+  getD-sets l i (v ∷ vs) zero d h b =
+      ap (λ k. getD (sets (set l i v) (suc i) vs) k d) (omega arith)
+      ∙ getD-sets-other (set l i v) (suc i) vs i d (λ e. omega arith)
+      ∙ getD-set-same l i v d (omega arith)
+  getD-sets l i (v ∷ vs) (suc j) d h b =
+      ap (λ k. getD (sets (set l i v) (suc i) vs) k d) (omega arith)
+      ∙ getD-sets (set l i v) (suc i) vs j d (simp length-set (omega arith)) (omega arith)
+
+  pub drop-sets : (n : ℕ) (l : List A) (i : ℕ) (vs : List A) → i + length vs ≤ n → drop n (sets l i vs) ≡ drop n l
+  drop-sets n l i [] h = refl
+  drop-sets n l i (v ∷ vs) h = drop-sets n (set l i v) (suc i) vs (omega arith) ∙ drop-set-lt n l i v (omega arith)
 
 -- nothing is stored past the end
 pub put-past : (w : ℕ) (l : List ℕ) (at x : ℕ) → length l ≤ at → l ≡ sets l at (le w x)

@@ -1,6 +1,6 @@
 -- The search in a body by its index; and what it finds lies within.
 use mathlib.Core.Path.{_≡_, refl, sym, ap, _∙_}
-use mathlib.Core.Bool.{Bool, true, false, cond}
+use mathlib.Core.Bool.{Bool, true, false, cond, not}
 use mathlib.Core.List.{List, [], _∷_}
 use Prim.Native.Nat.{ℕ, _+_, _<_, _≤_}
 use native.Mathlib.Numerals.{add-one}
@@ -91,10 +91,10 @@ module _ (s name : List ℕ) (k : ℕ) where
 -- ---- within
 module _ (s name : List ℕ) (k : ℕ) where
   within-by : (x z : Bool) → eqb (firstNamed s name (properties s k .starts)) (length (properties s k .starts)) ≡ z
-      → Within (length s) (cond x (cond z (Refused 43) (At (dataAt s (getD (places (properties s k)) (firstNamed s name (properties s k .starts)) 0)) (getD (places (properties s k)) (firstNamed s name (properties s k .starts) + 1) 0))) (Refused 42))
-  within-by false z f = tt
-  within-by true true f = tt
-  within-by true false f =
+      → Within (length s) (cond x (Refused 42) (cond z (Refused 43) (At (dataAt s (getD (places (properties s k)) (firstNamed s name (properties s k .starts)) 0)) (getD (places (properties s k)) (firstNamed s name (properties s k .starts) + 1) 0))))
+  within-by true z f = tt
+  within-by false true f = tt
+  within-by false false f =
       let w = properties s k in
       let i = firstNamed s name (w .starts) in
       let differ = eqb-false i (length (w .starts)) f in
@@ -104,4 +104,4 @@ module _ (s name : List ℕ) (k : ℕ) where
 
   pub body-within : Within (length s) (inBody s k name)
   unfolding inBody
-  body-within = within-by (exactly s k) (eqb (firstNamed s name (properties s k .starts)) (length (properties s k .starts))) refl
+  body-within = within-by (not (exactly s k)) (eqb (firstNamed s name (properties s k .starts)) (length (properties s k .starts))) refl

@@ -1,6 +1,6 @@
 -- The cases of the lookup by a row; and what it finds lies within the bytes.
 use mathlib.Core.Path.{_≡_, refl, sym, subst}
-use mathlib.Core.Bool.{Bool, true, false, cond}
+use mathlib.Core.Bool.{Bool, true, false, cond, not}
 use mathlib.Core.List.{List}
 use Prim.Native.Nat.{ℕ, _+_, _-_, _<_, _≤_}
 use native.Mathlib.Omega.{arith}
@@ -44,11 +44,11 @@ shifted-within n from size h (Refused k) p = tt
 
 module _ (bs t : List ℕ) (row : ℕ) (name : List ℕ) where
   within-by : (r : Row) (x y z : Bool) → ltb (r .end) (r .start) ≡ y → ltb (length bs) (r .end) ≡ z
-      → Within (length bs) (cond x (cond y (Refused 41) (cond z (Refused 41) (shifted (r .start) (inBody (take (r .end - r .start) (drop (r .start) bs)) (r .properties) name)))) (Refused 40))
-  within-by r false y z e f = tt
-  within-by r true true z e f = tt
-  within-by r true false true e f = tt
-  within-by r true false false e f =
+      → Within (length bs) (cond x (Refused 40) (cond y (Refused 41) (cond z (Refused 41) (shifted (r .start) (inBody (take (r .end - r .start) (drop (r .start) bs)) (r .properties) name)))))
+  within-by r true y z e f = tt
+  within-by r false true z e f = tt
+  within-by r false false true e f = tt
+  within-by r false false false e f =
       let body = take (r .end - r .start) (drop (r .start) bs) in
       let order : r .start ≤ r .end = ltb-false _ _ e in
       let fits : r .end ≤ length bs = ltb-false _ _ f in
@@ -56,7 +56,7 @@ module _ (bs t : List ℕ) (row : ℕ) (name : List ℕ) where
 
   found-within : Within (length bs) (lookupOf bs t row name)
   unfolding lookupOf
-  found-within = let r = rowAt t row in within-by r (hasRow t row) (ltb (r .end) (r .start)) (ltb (length bs) (r .end)) refl refl
+  found-within = let r = rowAt t row in within-by r (not (hasRow t row)) (ltb (r .end) (r .start)) (ltb (length bs) (r .end)) refl refl
 
   -- an answer, with that
   pub told : {f : Found} → f ≡ lookupOf bs t row name → (f ≡ lookupOf bs t row name) × Within (length bs) f

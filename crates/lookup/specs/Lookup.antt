@@ -2,7 +2,7 @@
 -- before that 40 row not wholly in the table, 41 and 42 as 22 and 23, over the bytes given and for any kind. Of two
 -- equal names the first is found."
 use Prim.Native.Nat.{ℕ, _+_, _-_, _≤_}
-use mathlib.Core.Bool.{cond}
+use mathlib.Core.Bool.{cond, not}
 use mathlib.Core.List.{List, []}
 use lib.Dec.{ltb, eqb}
 use lib.ListN.{length, take, drop, getD}
@@ -17,10 +17,9 @@ unfoldable pub inBody : List ℕ → ℕ → List ℕ → Found
 inBody s k name =
     let w = properties s k in
     let i = firstNamed s name (w .starts) in
-    cond (exactly s k)
+    cond (not (exactly s k)) (Refused 42)
     (cond (eqb i (length (w .starts))) (Refused 43)
     (At (dataAt s (getD (places w) i 0)) (getD (places w) (i + 1) 0)))
-    (Refused 42)
 
 -- the same place, where the body starts at an offset
 abbrev pub shifted : ℕ → Found → Found
@@ -30,11 +29,10 @@ shifted from (Refused n) = Refused n
 unfoldable pub lookupOf : List ℕ → List ℕ → ℕ → List ℕ → Found
 lookupOf bs t row name =
     let r = rowAt t row in
-    cond (hasRow t row)
+    cond (not (hasRow t row)) (Refused 40)
     (cond (ltb (r .end) (r .start)) (Refused 41)
     (cond (ltb (length bs) (r .end)) (Refused 41)
     (shifted (r .start) (inBody (take (r .end - r .start) (drop (r .start) bs)) (r .properties) name))))
-    (Refused 40)
 
 -- what is found lies within so many bytes
 abbrev pub Within : ℕ → Found → Type 0

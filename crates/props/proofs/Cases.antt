@@ -1,15 +1,14 @@
 -- The cases of the stages, each from the tests that lead to it; and the step over the part of a body from a place on.
 use mathlib.Core.Path.{_≡_, refl, ap, _∙_}
-use mathlib.Core.Bool.{Bool, true, false, cond}
+use mathlib.Core.Bool.{Bool, true, false, cond, not}
 use mathlib.Core.List.{List}
 use Prim.Native.Nat.{ℕ, zero, suc, _+_, _-_, _*_, _<_, _≤_}
 use native.Mathlib.Omega.{arith}
 use lib.Dec.{ltb, eqb}
-use lib.ListN.{length, take, drop, length-drop}
-use lib.Seq.{drop-drop}
+use lib.ListN.{length, take, drop}
 use borrow.Author.Tests.{lt-ltb, le-ltb, eq-eqb, ne-eqb, ltb-false}
 use Rattle.le.specs.Le.{numberAt}
-use Rattle.le.proofs.Laws.{rest, rest-drop, numberAt-rest}
+use Rattle.le.proofs.Laws.{rest, length-rest, drop-rest, numberAt-rest}
 use Rattle.names.specs.Names.{sizeOk, bytesOk}
 use Rattle.props.specs.declared.Size.{Size}
 use Rattle.props.specs.declared.Size.the-variants.{Bytes, Text, NoSuch}
@@ -47,17 +46,17 @@ module _ (code size room : ℕ) where
         header-right h = rw (le-ltb _ _ header, type, named, le-ltb _ _ h)
 
 -- a header that is not refused leaves room for its name
-name-fits-by : (a b c d : Bool) → _≡_ {A = ℕ} (cond a 10 (cond b 11 (cond c (cond d 10 0) 11))) 0 → d ≡ false
+name-fits-by : (a b c d : Bool) → _≡_ {A = ℕ} (cond a 10 (cond b 11 (cond c 11 (cond d 10 0)))) 0 → d ≡ false
 name-fits-by true b c d e = absurd (omega (arith, e))
 name-fits-by false true c d e = absurd (omega (arith, e))
-name-fits-by false false true true e = absurd (omega (arith, e))
-name-fits-by false false true false e = refl
-name-fits-by false false false d e = absurd (omega (arith, e))
+name-fits-by false false true d e = absurd (omega (arith, e))
+name-fits-by false false false true e = absurd (omega (arith, e))
+name-fits-by false false false false e = refl
 
 pub name-fits : (code size room : ℕ) → headerRefusal code size room ≡ 0 → 8 + size ≤ room
 unfolding headerRefusal
 name-fits code size room e =
-    ltb-false room (8 + size) (name-fits-by (ltb room 8) (noSuch (sizeOf code)) (sizeOk size) (ltb room (8 + size)) e)
+    ltb-false room (8 + size) (name-fits-by (ltb room 8) (noSuch (sizeOf code)) (not (sizeOk size)) (ltb room (8 + size)) e)
 
 -- ---- the data
 module _ (n room : ℕ) where
@@ -93,14 +92,14 @@ fit-within-by : (k n : ℕ) (b : Bool) → ltb n k ≡ b → Within n (cond b (n
 fit-within-by k n true e = tt
 fit-within-by k n false e = ltb-false n k e
 
-text-within-by : (n : ℕ) (b : Bool) (x : Extent) → Within n x → Within n (cond b x (noData 11))
-text-within-by n true x p = p
-text-within-by n false x p = tt
+text-within-by : (n : ℕ) (b : Bool) (x : Extent) → Within n x → Within n (cond b (noData 11) x)
+text-within-by n true x p = tt
+text-within-by n false x p = p
 
 pub data-within : (size : Size) (len : ℕ) (bs : List ℕ) → Within (length bs) (dataOf size len bs)
 unfolding dataOf
 data-within (Bytes w) len bs = fit-within-by (len * w) (length bs) (ltb (length bs) (len * w)) refl
-data-within Text len bs = text-within-by (length bs) (eqb len 1) (fit (toZero bs) (length bs)) (fit-within-by (toZero bs) (length bs) (ltb (length bs) (toZero bs)) refl)
+data-within Text len bs = text-within-by (length bs) (not (eqb len 1)) (fit (toZero bs) (length bs)) (fit-within-by (toZero bs) (length bs) (ltb (length bs) (toZero bs)) refl)
 data-within NoSuch len bs = tt
 
 -- ---- the step, over the part of the body that starts with the header
@@ -111,19 +110,13 @@ stepOf at code size len header =
     (past at (at + (8 + size)) (dataOf (sizeOf code) len (drop (8 + size) header))))
 
 module _ (s : List ℕ) (at : ℕ) where
-  length-rest : length (rest s at) ≡ length s - at
-  length-rest = rw (rest-drop s at) (length-drop at s)
-
-  drop-rest : (k : ℕ) → drop k (rest s at) ≡ drop (at + k) s
-  drop-rest k = rw (rest-drop s at) (drop-drop k at s)
-
   pub step-rest : {code size len : ℕ} → code ≡ numberAt 2 (rest s at) 0 → size ≡ numberAt 2 (rest s at) 2 → len ≡ numberAt 4 (rest s at) 4
       → stepOf at code size len (rest s at) ≡ stepAt s at
   unfolding stepAt nameAt
   step-rest {code} {size} {len} c z l =
       let sum : at + (8 + size) ≡ at + 8 + size = omega arith in
       let first : at + 0 ≡ at = omega arith in
-      rw (length-rest, drop-rest 8, drop-rest (8 + size), sum, c, z, l, numberAt-rest 2 s at 0, numberAt-rest 2 s at 2, numberAt-rest 4 s at 4, first)
+      rw (length-rest s at, drop-rest s at 8, drop-rest s at (8 + size), sum, c, z, l, numberAt-rest 2 s at 0, numberAt-rest 2 s at 2, numberAt-rest 4 s at 4, first)
 
   pub past-end : length s < at → Refused 10 ≡ stepAt s at
   unfolding stepAt

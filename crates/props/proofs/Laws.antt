@@ -1,4 +1,4 @@
--- Strings up to their zero; sizes, which are small, once over the size; and what lies within a body.
+-- Strings up to their zero; and the name and the data of the property at a place.
 use mathlib.Core.Path.{_≡_, refl, sym, ap, _∙_}
 use mathlib.Core.Bool.{Bool, true, false, cond, _||_, true≢false}
 use mathlib.Core.List.{List, [], _∷_}
@@ -6,14 +6,12 @@ use Prim.Native.Nat.{ℕ, zero, suc, _+_, _-_, _<_, _≤_}
 use native.Mathlib.Nat.{zero-add}
 use native.Mathlib.Numerals.{add-one}
 use native.Mathlib.Omega.{arith}
-use lib.Dec.{T, leb, eqb, ltb, lit≤, leb·zero, leb·suc-suc}
+use lib.Dec.{leb, eqb, ltb, leb·zero, leb·suc-suc}
 use lib.ListN.{length, getD, take, drop, drop-of-length-le, length-drop}
 use lib.Seq.{drop-cons, take-all, take-nil}
 use borrow.Author.Tests.{eq-eqb, ne-eqb, ltb-true, ltb-false, lt-ltb, le-ltb}
-use Rattle.le.specs.Le.{numberAt}
-use Rattle.props.specs.declared.Size.{Size}
-use Rattle.props.specs.Types.{sizeOf, widthOf}
-use Rattle.props.specs.Step.{toZero, dataAt, nameAt}
+use Rattle.le.proofs.Tests.{by-test}
+use Rattle.props.specs.Step.{toZero, sizeAt, nameAt, startAt, dataAt}
 
 -- ---- up to a zero byte
 module _ (s : List ℕ) (i : ℕ) (h : i < length s) where
@@ -58,63 +56,35 @@ block-clear (suc k) [] h e = absurd (omega (arith, h))
 block-clear (suc k) (b ∷ s) h e =
     clear-by (eqb b 0) (toZero (take k s)) (length (take k s)) (toZero s) k (toZero (drop k s)) (λ p. block-clear k s (omega (arith, h)) p) e
 
--- ---- a size is 1 to 16 bytes or none
-record Small (z : Size) : Type 0 where
-  le : widthOf z ≤ 16
-
-either : (b : Bool) {x y : Size} → Small x → Small y → Small (cond b x y)
-either true p q = p
-either false p q = q
-
-lit : {z : Size} → T (leb (widthOf z) 16) → Small z
-lit t = record { le = lit≤ t }
-
-all : (t : ℕ) → Small (sizeOf t)
-all t =
-    either (eqb t 0x62) (lit tt)
-    (either (eqb t 0x68) (lit tt)
-    (either (eqb t 0x69) (lit tt)
-    (either (eqb t 0x6C) (lit tt)
-    (either (eqb t 0x66) (lit tt)
-    (either (eqb t 0x64) (lit tt)
-    (either (eqb t 0x7632) (lit tt)
-    (either (eqb t 0x7633) (lit tt)
-    (either (eqb t 0x7634) (lit tt)
-    (either (eqb t 0x73) (lit tt) (lit tt))))))))))
-
-pub small : (t : ℕ) → widthOf (sizeOf t) ≤ 16
-small t = all t .le
-
 -- ---- the data and the name of the property at a place
 module _ (s : List ℕ) (at : ℕ) where
-  pub data-here : at + 8 + numberAt 2 s (at + 2) ≤ length s → dataAt s at ≡ at + 8 + numberAt 2 s (at + 2)
+  pub data-here : startAt s at ≤ length s → dataAt s at ≡ startAt s at
   unfolding dataAt
   data-here h = rw (le-ltb _ _ h)
 
-  pub data-past : length s < at + 8 + numberAt 2 s (at + 2) → dataAt s at ≡ length s
+  pub data-past : length s < startAt s at → dataAt s at ≡ length s
   unfolding dataAt
   data-past h = rw (lt-ltb _ _ h)
 
   -- the part from a name's start to the data's is the name
-  none-by : (b : Bool) → ltb (length s) (at + 8 + numberAt 2 s (at + 2)) ≡ b → dataAt s at < at + 8 → [] ≡ nameAt s at
-  unfolding nameAt
-  none-by true e h =
-      rw (drop-of-length-le s {i = at + 8} (omega (arith, data-past (ltb-true _ _ e))), take-nil (numberAt 2 s (at + 2)))
-  none-by false e h = absurd (omega (arith, data-here (ltb-false _ _ e)))
-
   pub name-none : dataAt s at < at + 8 → [] ≡ nameAt s at
-  name-none = none-by (ltb (length s) (at + 8 + numberAt 2 s (at + 2))) refl
-
-  part-by : (b : Bool) → ltb (length s) (at + 8 + numberAt 2 s (at + 2)) ≡ b → take (dataAt s at - (at + 8)) (drop (at + 8) s) ≡ nameAt s at
   unfolding nameAt
-  part-by true e =
-      let left : length (drop (at + 8) s) ≡ length s - (at + 8) = length-drop (at + 8) s in
-      let short : length s < at + 8 + numberAt 2 s (at + 2) = ltb-true _ _ e in
-      take-all (dataAt s at - (at + 8)) (drop (at + 8) s) (omega (arith, data-past short, left))
-      ∙ sym (take-all (numberAt 2 s (at + 2)) (drop (at + 8) s) (omega (arith, short, left)))
-  part-by false e =
-      let same : dataAt s at - (at + 8) ≡ numberAt 2 s (at + 2) = omega (arith, data-here (ltb-false _ _ e)) in
-      ap (λ n. take n (drop (at + 8) s)) same
+  name-none h =
+      by-test
+      (ltb (length s) (startAt s at))
+      (λ e. rw (drop-of-length-le s {i = at + 8} (omega (arith, data-past (ltb-true _ _ e))), take-nil (sizeAt s at)))
+      (λ e. absurd (omega (arith, data-here (ltb-false _ _ e))))
 
   pub name-part : take (dataAt s at - (at + 8)) (drop (at + 8) s) ≡ nameAt s at
-  name-part = part-by (ltb (length s) (at + 8 + numberAt 2 s (at + 2))) refl
+  unfolding nameAt
+  name-part =
+      by-test
+      (ltb (length s) (startAt s at))
+      (λ e.
+      let left : length (drop (at + 8) s) ≡ length s - (at + 8) = length-drop (at + 8) s in
+      let short : length s < startAt s at = ltb-true _ _ e in
+      take-all (dataAt s at - (at + 8)) (drop (at + 8) s) (omega (arith, data-past short, left))
+      ∙ sym (take-all (sizeAt s at) (drop (at + 8) s) (omega (arith, short, left))))
+      (λ e.
+      let size : dataAt s at - (at + 8) ≡ sizeAt s at = omega (arith, data-here (ltb-false _ _ e)) in
+      ap (λ n. take n (drop (at + 8) s)) size)

@@ -2,7 +2,7 @@
 -- refusals 10 and 11 in the order "header fits, type, name size, name fits, name bytes, string length, data fits".
 -- Places are offsets in some bytes: in the reader all that is left of the node, by its size; in 23 and 42 the body.
 use Prim.Native.Nat.{ℕ, zero, suc, _+_, _-_, _*_}
-use mathlib.Core.Bool.{cond}
+use mathlib.Core.Bool.{cond, not}
 use mathlib.Core.List.{List, [], _∷_}
 use lib.Dec.{eqb, ltb}
 use lib.ListN.{length, take, drop}
@@ -23,9 +23,8 @@ unfoldable pub headerRefusal : ℕ → ℕ → ℕ → ℕ
 headerRefusal code size room =
     cond (ltb room 8) 10
     (cond (noSuch (sizeOf code)) 11
-    (cond (sizeOk size)
-    (cond (ltb room (8 + size)) 10 0)
-    11))
+    (cond (not (sizeOk size)) 11
+    (cond (ltb room (8 + size)) 10 0)))
 
 -- Stage 2, the name. name bytes
 abbrev pub nameRefusal : List ℕ → ℕ
@@ -43,7 +42,7 @@ fit n room = cond (ltb room n) (noData 10) (Takes n)
 
 unfoldable pub dataOf : Size → ℕ → List ℕ → Extent
 dataOf (Bytes w) len rest = fit (len * w) (length rest)
-dataOf Text len rest = cond (eqb len 1) (fit (toZero rest) (length rest)) (noData 11)
+dataOf Text len rest = cond (not (eqb len 1)) (noData 11) (fit (toZero rest) (length rest))
 dataOf NoSuch len rest = noData 11
 
 -- the stages, one after the other

@@ -23,9 +23,3 @@ abbrev pub noSuch : Size → Bool
 noSuch (Bytes w) = false
 noSuch Text = false
 noSuch NoSuch = true
-
--- the bytes of one element; 0 where they are not known by the type
-abbrev pub widthOf : Size → ℕ
-widthOf (Bytes w) = w
-widthOf Text = 0
-widthOf NoSuch = 0

@@ -3,7 +3,7 @@ ghost use mathlib.Core.Path.{_≡_};
 ghost use Prim.Native.Nat.{_+_, _≤_, _<_};
 ghost use lib.Dec.{leb};
 ghost use lib.ListN.{length, drop};
-ghost use Rattle.props.specs.Types.{sizeOf, noSuch, widthOf};
+ghost use Rattle.props.specs.Types.{sizeOf, noSuch};
 ghost use Rattle.props.specs.Step.{headerRefusal, toZero, dataOf, stepAt, dataAt, nameAt};
 
 // The size of one element, by type code. A string's size is found in its data.
@@ -116,7 +116,6 @@ enum Extent {
 
 // The data at the start of `rest`, as so many elements of this size.
 fn data_of(size: Size, length: u32, rest: &[u8]) -> Extent
-    requires { ⌜ widthOf size ≤ 16 ⌝ }
     ensures { λ r. ⌜ r ≡ dataOf size length (now (rest .entry)) ⌝ }
 {
     match size {

@@ -76,8 +76,8 @@ fn step(body: &[u8], at: usize) {
 fn index(body: &[u8], count: u32) {
     let index = body::index_of(body, count);
     let passed = body::pass(body, count);
-    print::pair(index.number as u64, passed.at as u64);
-    print::next(index.count as u64);
+    print::pair(index.number as u64, index.count as u64);
+    print::pair(passed.number as u64, passed.at as u64);
     let starts = index.starts;
     print::next(buffers::places_checksum(&starts[..]));
 }

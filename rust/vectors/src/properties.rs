@@ -210,12 +210,9 @@ fn add_body(cases: &mut Cases, body: &[u8], count: u32) {
     let mut values: Vec<u64> = index.starts.iter().map(|&start| start as u64).collect();
     values.push(index.at as u64);
     values.resize(65, 0);
-    let answer = [
-        index.number.into(),
-        index.at as u64,
-        index.starts.len() as u64,
-        checksum_of(values),
-    ];
+    let number = index.number.into();
+    let passed = index.starts.len() as u64;
+    let answer = [number, passed, number, index.at as u64, checksum_of(values)];
     cases.add(&case(INDEX), &answer);
     cases.add(&case(EXACT), &[body_exact(body, count).into()]);
 }

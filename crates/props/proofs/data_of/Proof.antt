@@ -1,13 +1,12 @@
 -- `props::data_of`: by the size; a product with a size does not wrap.
 use native.Mathlib.Omega.{arith}
-use native.Mathlib.Nat.{mul-le-mul-left}
-use mathlib.Core.Path.{_≡_, sym, ap, subst, _∙_}
+use native.Mathlib.Nat.{mul-le-mul}
+use mathlib.Core.Path.{_≡_, sym, ap, _∙_}
 use mathlib.Core.List.{List}
 use Prim.Native.Nat.{ℕ, _≤_}
 use lib.ListN.{length}
 use Rattle.props.specs.declared.Size.{Size}
 use Rattle.props.specs.declared.Extent.the-variants.{Takes}
-use Rattle.props.specs.Types.{widthOf}
 use Rattle.props.specs.Step.{toZero, dataOf}
 use Rattle.props.proofs.Cases.{fit-out, fit-in, bytes-fit, text-long, text-fit, none-fit}
 use borrow.Author.Needs.{needs}
@@ -26,8 +25,11 @@ cast-n c = search needs
 
 mul-n : tie.Need-mul-n
 mul-n c =
-    let b = c .before .before .before .before in
-    omega (arith, mul-le-mul-left (b .args .length) (subst (λ (z : Size). widthOf z ≤ 16) (c .before .size .given .1) (b .pre)))
+    let a = c .before .before .before .before .args in
+    let w = c .before .size .given .0 .0 in
+    let width : w ≤ 4294967295 = omega (arith, c .known-told .given) in
+    let many : a .length ≤ 4294967295 = omega arith in
+    omega (arith, mul-le-mul {n₁ = a .length} {m₁ = w} many width)
 
 returns : tie.Need-returns
 returns c =

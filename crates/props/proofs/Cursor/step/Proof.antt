@@ -7,10 +7,8 @@ use lib.ListN.{length, take, drop}
 use borrow.Author.Tests.{not-true, not-false}
 use Rattle.le.proofs.Laws.{rest, rest-drop}
 use Rattle.names.specs.Names.{bytesOk}
-use Rattle.props.specs.declared.Size.{Size}
-use Rattle.props.specs.Types.{sizeOf, widthOf}
+use Rattle.props.specs.Types.{sizeOf}
 use Rattle.props.specs.Step.{headerRefusal, dataOf, past, stepAt}
-use Rattle.props.proofs.Laws.{small}
 use Rattle.props.proofs.Cases.{Within, name-fits, data-within, past-end, header-refused, name-refused, by-data}
 use borrow.Author.Needs.{needs}
 use Rattle.props.proofs.Cursor.step.Statement.{statement}
@@ -131,7 +129,7 @@ part-data-of-end : tie.Need-part-data-of-end
 part-data-of-end c = search needs
 
 data-of-requires : tie.Need-data-of-requires
-data-of-requires c κs = subst (λ (z : Size). widthOf z ≤ 16) (sym (c .before .size-of .ensures)) (small (c .before .before .before .before .before .before .before .before .before .before .u16-at .result))
+data-of-requires c κs = search needs
 
 enum-known-n : tie.Need-enum-known-n
 enum-known-n c = search needs
