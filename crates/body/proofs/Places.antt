@@ -1,5 +1,5 @@
 -- Where the properties of a body lie: each from its start to the next, within the body; and how the index tells it.
-use mathlib.Core.Path.{_≡_, refl, ap, _∙_}
+use mathlib.Core.Path.{_≡_, refl, ap, _∙_, subst}
 use mathlib.Core.Bool.{Bool, true, false, cond}
 use mathlib.Core.List.{List, [], _∷_, _++_}
 use Prim.Native.Nat.{ℕ, zero, suc, _<_, _≤_}
@@ -7,7 +7,7 @@ use native.Mathlib.Omega.{arith}
 use native.Mathlib.Nat.{zero-add}
 use lib.Dec.{ltb}
 use lib.ListN.{length, getD, take, drop, replicate, length-append, List·getD-append}
-use lib.Seq.{sets-eq, take-append-le, take-append-seam}
+use lib.Seq.{sets-eq, take-append-le, take-append-seam, getD-append-seam}
 use borrow.Author.Tests.{ltb-false}
 use Rattle.props.specs.declared.Step.{Step}
 use Rattle.props.specs.declared.Step.the-variants.{Past, Refused}
@@ -81,6 +81,10 @@ module _ (s : List ℕ) where
       none : (j : ℕ) → getD (places (stop 9 0)) j 0 ≤ length s
       none zero = omega arith
       none (suc j) = omega arith
+
+  pub properties-end : (k : ℕ) → properties s k .at ≤ length s
+  properties-end k =
+      subst (λ at. at ≤ length s) (getD-append-seam (properties s k .starts) (properties s k .at) [] 0) (properties-places k (length (properties s k .starts)))
 
   pub properties-data : (k j : ℕ) → j < length (properties s k .starts) → dataAt s (getD (properties s k .starts) j 0) ≤ getD (places (properties s k)) (suc j) 0
   properties-data k j = by-count (λ w. j < length (w .starts) → dataAt s (getD (w .starts) j 0) ≤ getD (places w) (suc j) 0) k (λ h. absurd (omega (arith, h))) (λ h. pass-data k 0 j)

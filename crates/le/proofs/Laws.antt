@@ -4,9 +4,9 @@ use native.Mathlib.Omega.{arith}
 use native.Mathlib.Nat.{zero-add, add-zero, suc-add, mul-assoc, pow-succ', div-one, div-div-eq-div-mul, mod-add-div, one-le-pow, mod-eq-of-lt, add-mul-mod-self-left}
 use mathlib.Core.Path.{_≡_, refl, ap, sym, _∙_}
 use mathlib.Core.List.{List, [], _∷_, _++_}
-use lib.ListN.{length, take, drop, getD, drop-of-length-le, length-drop}
+use lib.ListN.{length, take, drop, getD, drop-of-length-le, length-drop, take-append-drop}
 use lib.Seq.{take-nil, take-all, getD-drop, drop-drop}
-use Rattle.le.specs.Le.{val, numberAt, le}
+use Rattle.le.specs.Le.{val, numberAt, le, AreBytes}
 
 times-next : (n k : ℕ) → 256 ^ suc n * k ≡ 256 * (256 ^ n * k)
 times-next n k = ap (λ p. p * k) (pow-succ' 256 n) ∙ mul-assoc 256 (256 ^ n) k
@@ -19,8 +19,18 @@ val-split (suc n) m [] = rw (suc-add n m, take-nil m) (omega arith)
 val-split (suc n) m (b ∷ l) =
     rw (suc-add n m) (omega (arith, val-split n m l, times-next n (val (take m (drop n l)))))
 
+-- parts of bytes are bytes
+pub bytes-take : (n : ℕ) (l : List ℕ) → AreBytes l → AreBytes (take n l)
+bytes-take zero l h i = omega arith
+bytes-take (suc n) [] h i = omega arith
+bytes-take (suc n) (b ∷ l) h zero = h 0
+bytes-take (suc n) (b ∷ l) h (suc i) = bytes-take n l (λ j. h (suc j)) i
+
+pub bytes-drop : (n : ℕ) (l : List ℕ) → AreBytes l → AreBytes (drop n l)
+bytes-drop n l h i = rw (getD-drop n l i 0) (h (n + i))
+
 -- w bytes are a number below 256 ^ w
-pub val-lt : (w : ℕ) (l : List ℕ) → ((i : ℕ) → getD l i 0 < 256) → val (take w l) < 256 ^ w
+pub val-lt : (w : ℕ) (l : List ℕ) → AreBytes l → val (take w l) < 256 ^ w
 unfolding val
 val-lt zero l h = omega arith
 val-lt (suc w) [] h = one-le-pow (suc w) 256 (omega arith)
@@ -45,6 +55,10 @@ length-rest l at = rw (rest-drop l at) (length-drop at l)
 pub drop-rest : (l : List ℕ) (at k : ℕ) → drop k (rest l at) ≡ drop (at + k) l
 drop-rest l at k = rw (rest-drop l at) (drop-drop k at l)
 
+-- a part, and what is behind it
+pub part-front : (w : ℕ) (l : List ℕ) (at next : ℕ) → at + w ≡ next → take w (drop at l) ++ drop next l ≡ drop at l
+part-front w l at next e = rw (← e, ← (drop-drop w at l)) (take-append-drop w (drop at l))
+
 -- a number at a place is made of its halves
 pub numberAt-halves : (w : ℕ) (l : List ℕ) (at : ℕ) {low high : ℕ} → low ≡ numberAt w (rest l at) 0 → high ≡ numberAt w (rest l at) w → low + 256 ^ w * high ≡ numberAt (w + w) l at
 unfolding numberAt
@@ -56,12 +70,12 @@ unfolding numberAt
 numberAt-rest w l at k = rw (drop-rest l at k)
 
 -- fewer bytes at a place are the remainder of more
-pub numberAt-short : (w v : ℕ) (l : List ℕ) (at : ℕ) → ((i : ℕ) → getD l i 0 < 256) → numberAt (w + v) l at % 256 ^ w ≡ numberAt w l at
+pub numberAt-short : (w v : ℕ) (l : List ℕ) (at : ℕ) → AreBytes l → numberAt (w + v) l at % 256 ^ w ≡ numberAt w l at
 unfolding numberAt
 numberAt-short w v l at h =
     ap (λ n. n % 256 ^ w) (val-split w v (drop at l))
     ∙ add-mul-mod-self-left (val (take w (drop at l))) (256 ^ w) (val (take v (drop w (drop at l))))
-    ∙ mod-eq-of-lt (val-lt w (drop at l) (λ i. rw (getD-drop at l i 0) (h (at + i))))
+    ∙ mod-eq-of-lt (val-lt w (drop at l) (bytes-drop at l h))
 
 pub numberAt-four : (l : List ℕ) → getD l 0 0 + 256 * getD l 1 0 + 65536 * getD l 2 0 + 16777216 * getD l 3 0 ≡ numberAt 4 l 0
 unfolding numberAt val
@@ -108,3 +122,31 @@ length-le (suc w) x = ap suc (length-le w (x / 256))
 pub le-byte : (b : ℕ) → b < 256 → le 1 b ≡ b ∷ []
 unfolding le
 le-byte b h = ap (λ k. k ∷ []) (omega arith)
+
+-- ---- there and back: a number of w bytes is the number that they are, and bytes are those of their number
+pub val-le : (w x : ℕ) → x < 256 ^ w → val (le w x) ≡ x
+unfolding val le
+val-le zero x h = omega arith
+val-le (suc w) x h = rw (val-le w (x / 256) (omega (arith, pow-succ' 256 w))) (omega arith)
+
+pub le-val : (w : ℕ) (l : List ℕ) → AreBytes l → w ≤ length l → le w (val (take w l)) ≡ take w l
+unfolding val le
+le-val zero l h k = refl
+le-val (suc w) [] h k = absurd (omega arith)
+le-val (suc w) (b ∷ l) h k =
+    let lowest : (b + 256 * val (take w l)) % 256 ≡ b = omega (arith, h 0) in
+    let others : (b + 256 * val (take w l)) / 256 ≡ val (take w l) = omega (arith, h 0) in
+    rw (lowest, others, le-val w l (λ i. h (suc i)) (omega arith))
+
+-- written again
+pub le-numberAt : (w : ℕ) (l : List ℕ) (at : ℕ) → AreBytes l → at + w ≤ length l → le w (numberAt w l at) ≡ take w (drop at l)
+unfolding numberAt
+le-numberAt w l at h k = le-val w (drop at l) (bytes-drop at l h) (simp length-drop (omega arith))
+
+pub le-front : (w : ℕ) (l : List ℕ) (at next : ℕ) → AreBytes l → at + w ≡ next → next ≤ length l →
+    le w (numberAt w l at) ++ drop next l ≡ drop at l
+le-front w l at next h e k = rw (le-numberAt w l at h (omega arith)) (part-front w l at next e)
+
+pub numberAt-lt : (w : ℕ) (l : List ℕ) (at : ℕ) → AreBytes l → numberAt w l at < 256 ^ w
+unfolding numberAt
+numberAt-lt w l at h = val-lt w (drop at l) (bytes-drop at l h)

@@ -1,7 +1,7 @@
 -- Document 01: "All numbers are little-endian." One definition for every width.
-use Prim.Native.Nat.{ℕ, zero, suc, _+_, _*_, _/_, _%_}
+use Prim.Native.Nat.{ℕ, zero, suc, _+_, _*_, _/_, _%_, _<_}
 use mathlib.Core.List.{List, [], _∷_}
-use lib.ListN.{take, drop}
+use lib.ListN.{take, drop, getD}
 
 -- the number that bytes are, the lowest first
 unfoldable pub val : List ℕ → ℕ
@@ -16,3 +16,7 @@ numberAt w bs at = val (take w (drop at bs))
 unfoldable pub le : ℕ → ℕ → List ℕ
 le zero x = []
 le (suc w) x = (x % 256) ∷ le w (x / 256)
+
+-- numbers that are bytes
+abbrev pub AreBytes : List ℕ → Type 0
+AreBytes bs = (i : ℕ) → getD bs i 0 < 256

@@ -27,6 +27,10 @@ fields r =
     r .kind ∷ r .low ∷ r .high ∷ r .parent ∷
     r .start ∷ r .end ∷ r .properties ∷ r .children ∷ []
 
+-- "0xFFFFFFFF for none"
+abbrev pub noParent : ℕ
+noParent = 0xFFFFFFFF
+
 -- the row lies wholly in the table
 unfoldable pub hasRow : List ℕ → ℕ → Bool
 hasRow t k = leb (k * 8 + 8) (length t)

@@ -1,11 +1,12 @@
 // Runs framed cases from standard input, and prints a line for each: the function's number, then its answer and a
 // checksum of each buffer that it was lent. frame.rt has the layout of a case.
 mod buffers;
-mod format;
 mod frame;
 mod leaves;
+mod parts;
 mod print;
 mod rows;
+mod walks;
 
 use crate::frame::Frame;
 
@@ -57,10 +58,14 @@ fn dispatch(f: Frame, first: &[u8], second: &[u8]) {
         return;
     }
     if f.function < 19 {
-        format::one(f, first, second);
+        parts::one(f, first, second);
         return;
     }
     if f.function < 30 {
         rows::one(f, first, second);
+        return;
+    }
+    if f.function == 30 {
+        walks::one(f, first);
     }
 }

@@ -67,3 +67,8 @@ pub fn checksum_of(numbers: impl IntoIterator<Item = u64>) -> u64 {
     let step = |sum: u32, number: u64| sum.wrapping_mul(16_777_619).wrapping_add(number as u32);
     numbers.into_iter().fold(2_166_136_261, step).into()
 }
+
+/// The checksum of what a table holds at last.
+pub fn numbers_checksum(numbers: &[u32]) -> u64 {
+    checksum_of(numbers.iter().map(|&number| number.into()))
+}

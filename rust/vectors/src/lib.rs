@@ -14,6 +14,7 @@ mod numbers;
 mod properties;
 mod table;
 mod types;
+mod walks;
 
 use frame::Cases;
 
@@ -38,6 +39,8 @@ pub mod function {
     pub const EXACT: u32 = 18;
     pub const TABLE: u32 = 19;
     pub const LOOKUP: u32 = 20;
+
+    pub const WALK: u32 = 30;
 }
 
 /// The whole of standard input, the whole of standard output, and the number of cases.
@@ -57,5 +60,6 @@ pub fn make() -> Vectors {
     properties::add(&mut cases);
     table::add(&mut cases);
     lookups::add(&mut cases);
+    walks::add(&mut cases);
     cases.finish()
 }

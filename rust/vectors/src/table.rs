@@ -1,6 +1,6 @@
 //! Rows of a table, and the table as a whole.
 
-use crate::frame::{checksum_of, Case, Cases};
+use crate::frame::{numbers_checksum, Case, Cases};
 use crate::function::TABLE;
 use corpus::tree::numbers_data;
 use corpus::Rng;
@@ -54,12 +54,8 @@ fn add_table(cases: &mut Cases, rng: &mut Rng, length: usize, x: u64) {
     answer.extend(there.unwrap_or(&[0; 8]).map(u64::from));
     answer.push(is_whole(&table).into());
     put_row(&mut table, x, &numbers);
-    answer.push(checksum(&table));
+    answer.push(numbers_checksum(&table));
     clear(&mut table);
-    answer.push(checksum(&table));
+    answer.push(numbers_checksum(&table));
     cases.add(&case, &answer);
-}
-
-fn checksum(table: &[u32]) -> u64 {
-    checksum_of(table.iter().map(|&number| number.into()))
 }

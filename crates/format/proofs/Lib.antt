@@ -1,0 +1,6 @@
+pub mod Headers
+pub mod Rows
+pub mod Stages
+pub mod Properties
+pub mod Bodies
+pub mod Unique

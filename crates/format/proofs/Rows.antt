@@ -1,0 +1,47 @@
+-- The rows of a forest: one for each node, and their own bytes add up.
+use Prim.Native.Nat.{ℕ, suc, _+_}
+use native.Mathlib.Omega.{arith}
+use mathlib.Core.Path.{_≡_, refl, ap, _∙_}
+use mathlib.Core.List.{List, [], _∷_, _++_}
+use lib.ListN.{length, length-append}
+use Rattle.table.specs.declared.Row.{Row}
+use Rattle.table.specs.Table.{noParent}
+use Rattle.format.specs.Forest.{Forest, end, known, unknown, count, nodes, encode, fileHeader, fileOf}
+use Rattle.format.specs.Rows.{rows, allOwnBytes}
+use Rattle.format.specs.Laws.{OwnBytesAddUp}
+use Rattle.format.proofs.Headers.{length-header, length-fileHeader}
+
+pub allOwnBytes-append : (xs ys : List Row) → allOwnBytes (xs ++ ys) ≡ allOwnBytes xs + allOwnBytes ys
+allOwnBytes-append [] ys = omega arith
+allOwnBytes-append (x ∷ xs) ys = rw (allOwnBytes-append xs ys) (omega arith)
+
+pub length-rows : (f : Forest) (parent row at : ℕ) → length (rows f parent row at) ≡ nodes f
+length-rows end parent row at = refl
+length-rows (known k h p body kids next) parent row at =
+    let below = rows kids row (suc row) (at + 24 + length body) in
+    let beside = rows next parent (suc row + nodes kids) (at + 24 + length body + length (encode kids)) in
+    ap suc (length-append below beside ∙ cc (
+      length-rows kids row (suc row) (at + 24 + length body),
+      length-rows next parent (suc row + nodes kids)
+          (at + 24 + length body + length (encode kids)),
+    ))
+length-rows (unknown k h p c rest next) parent row at = ap suc (length-rows next parent (suc row) (at + 24 + length rest))
+
+pub own-rows : (f : Forest) (parent row at : ℕ) → allOwnBytes (rows f parent row at) ≡ length (encode f)
+own-rows end parent row at = refl
+own-rows (known k h p body kids next) parent row at =
+    simp (
+      length-append,
+      length-header,
+      allOwnBytes-append,
+      own-rows kids row (suc row) (at + 24 + length body),
+      own-rows next parent
+          (suc row + nodes kids) (at + 24 + length body + length (encode kids)),
+    ) (omega arith)
+own-rows (unknown k h p c rest next) parent row at =
+    simp (length-append, length-header, own-rows next parent (suc row) (at + 24 + length rest)) (omega arith)
+
+pub ownBytesAddUp : OwnBytesAddUp
+unfolding fileOf
+ownBytesAddUp flags f =
+    rw (length-append (fileHeader (count f) flags) (encode f), length-fileHeader (count f) flags, own-rows f noParent 0 16)

@@ -1,0 +1,10 @@
+pub mod Laws
+pub mod Lists
+pub mod Cases
+pub mod Steps
+pub mod Nodes
+pub mod Whole
+pub mod Found
+pub mod Sound
+pub mod Outcomes
+pub mod Complete

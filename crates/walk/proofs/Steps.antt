@@ -1,0 +1,126 @@
+-- What a walk promises, built up: one that ends where it stands, a row, one walk behind another, and the loop over so many
+-- nodes.
+use Prim.Native.Nat.{ℕ, suc, _+_, _-_, _<_, _≤_}
+use native.Mathlib.Omega.{arith}
+use native.Mathlib.Nat.{add-zero}
+use mathlib.Core.Path.{_≡_, refl, sym, ap, _∙_}
+use mathlib.Core.List.{List, [], _∷_, _++_, append-assoc}
+use lib.ListN.{length, drop, length-append, length-drop}
+use lib.Seq.{drop-drop}
+use Rattle.le.proofs.Laws.{rest, rest-drop}
+use Rattle.kinds.specs.declared.Parent.{Parent}
+use Rattle.table.specs.declared.Row.{Row}
+use Rattle.table.specs.Table.{withRow, putRows}
+use Rattle.table.proofs.Rows.{putRows-append, length-putRows}
+use Rattle.walk.specs.declared.Reached.{Reached}
+use Rattle.walk.specs.Walk.{Walked, refuse, done, behind, nodeAt, childrenAt}
+use Rattle.walk.specs.Contract.{Came}
+use Rattle.walk.proofs.Lists.{list-over, list-done, list-refused, list-next}
+
+-- it ends with no row of its own
+pub stops : {n p at row : ℕ} {bs t : List ℕ} {w : Walked} → w ≡ refuse n p → row ≤ 1024 → at ≤ p → p ≤ at + length bs
+    → Came (record { number = n; at = p; rows = row }) w at row bs t t
+unfolding putRows
+stops e few onward within = rw e record {
+  number = refl;
+  reached = refl;
+  rows = sym (add-zero _);
+  table = refl;
+  few = few;
+  onward = onward;
+  within = within;
+}
+
+-- a row, and then it stands at p
+pub puts : {p at row : ℕ} {bs t t′ : List ℕ} {r : Row} → t′ ≡ withRow t row r → row < 1024 → at ≤ p → p ≤ at + length bs
+    → Came (record { number = 0; at = p; rows = row + 1 }) (behind (r ∷ []) (done p)) at row bs t t′
+unfolding putRows
+puts e few onward within = record {
+  number = refl;
+  reached = refl;
+  rows = refl;
+  table = e;
+  few = omega arith;
+  onward = onward;
+  within = within;
+}
+
+-- one walk, and another behind it
+pub then : {q r : Reached} {v w : Walked} {at row : ℕ} {bs cs t u t′ : List ℕ} → Came q v at row bs t u → Came r w (q .at) (q .rows) cs u t′
+    → q .at + length cs ≤ at + length bs → Came r (behind (v .rows) w) at row bs t t′
+then {q} {r} {v} {w} {at} {row} {bs} {cs} {t} {u} {t′} first second fit = record {
+  number = second .number;
+  reached = second .reached;
+  rows = simp length-append (omega (arith, first .rows, second .rows));
+  table = rw (putRows-append t row (v .rows) (w .rows), ← first .rows, ← first .table) (second .table);
+  few = second .few;
+  onward = omega (arith, first .onward, second .onward);
+  within = omega (arith, second .within);
+}
+
+-- the table keeps its length
+pub came-length : {r : Reached} {w : Walked} {at row : ℕ} {bs t t′ : List ℕ} → Came r w at row bs t t′ → length t′ ≡ length t
+came-length c = ap length (c .table) ∙ length-putRows _ _ _
+
+-- where the loop over so many nodes stands: the rows put, and what is left
+pub record Going (parent : Parent) (above depth count start row : ℕ) (bs t u : List ℕ) (at rows left : ℕ) : Type 0 where
+  pub put : List Row
+  pub came : Came (record { number = 0; at = at; rows = rows }) (record { number = 0; at = at; rows = put }) start row bs t u
+  pub whole : childrenAt parent above depth count start row bs ≡ behind put (childrenAt parent above depth left at rows (drop (at - start) bs))
+
+-- the loop starts with all of them left
+pub going : {parent : Parent} {above depth count start row : ℕ} {bs t : List ℕ} → row ≤ 1024
+    → Going parent above depth count start row bs t t start row count
+going {parent} {above} {depth} {count} {start} {row} {bs} few = record {
+  put = [];
+  came = stops refl few (omega arith) (omega arith);
+  whole = let none : start - start ≡ 0 = omega arith in rw none;
+}
+
+module _ {parent : Parent} {above depth count start row : ℕ} {bs t u : List ℕ} {at rows left : ℕ} (g : Going parent above depth count start row bs t u at rows left) where
+  -- a walk from where the loop stands
+  from : {r : Reached} {w : Walked} {t′ : List ℕ} → Came r w at rows (drop (at - start) bs) u t′ → Came r (behind (g .put) w) start row bs t t′
+  from c = then (g .came) c (simp length-drop (omega (arith, g .came .onward, g .came .within)))
+
+  -- none is left, and bytes are
+  pub left-over : left ≤ 0 → at - start < length bs
+      → Came (record { number = 12; at = at; rows = rows }) (childrenAt parent above depth count start row bs) start row bs t u
+  left-over none l =
+      let zero : left ≡ 0 = omega arith in
+      let bytes : 0 < length (drop (at - start) bs) = simp length-drop (omega arith) in
+      rw (g .whole, zero) (from (stops (list-over parent above depth at rows (drop (at - start) bs) bytes) (g .came .few) (omega arith) (omega arith)))
+
+  -- none is left, and no byte
+  pub all-done : left ≤ 0 → length bs ≤ at - start
+      → Came (record { number = 0; at = at; rows = rows }) (childrenAt parent above depth count start row bs) start row bs t u
+  all-done none l =
+      let zero : left ≡ 0 = omega arith in
+      let bytes : length (drop (at - start) bs) ≤ 0 = simp length-drop (omega arith) in
+      rw (g .whole, zero) (from (stops (list-done parent above depth at rows (drop (at - start) bs) bytes) (g .came .few) (omega arith) (omega arith)))
+
+  -- a node is walked
+  module _ {r : Reached} {t′ : List ℕ} (more : 0 < left) (c : Came r (nodeAt parent above depth at rows (rest bs (at - start))) at rows (rest bs (at - start)) u t′) where
+    here : Came r (nodeAt parent above depth at rows (drop (at - start) bs)) at rows (drop (at - start) bs) u t′
+    here = rw (rest-drop bs (at - start)) at c
+
+    next : left ≡ suc (left - 1)
+    next = omega arith
+
+    pub turn-refused : (r .number ≡ 0 → ⊥) → Came r (childrenAt parent above depth count start row bs) start row bs t t′
+    turn-refused z =
+        rw (g .whole, next, list-refused parent above depth at rows (drop (at - start) bs) (left - 1) (λ e. z (here .number ∙ e))) (from here)
+
+    pub turn : r .number ≡ 0 → Going parent above depth count start row bs t t′ (r .at) (r .rows) (left - 1)
+    turn z =
+        let w = nodeAt parent above depth at rows (drop (at - start) bs) in
+        let all = from here in
+        let sum : at - start + (r .at - at) ≡ r .at - start = omega (arith, g .came .onward, here .onward) in
+        record {
+          put = g .put ++ w .rows;
+          came = record { number = refl; reached = refl; rows = all .rows; table = all .table; few = all .few; onward = all .onward; within = all .within };
+          whole =
+              g .whole
+              ∙ ap (λ k. behind (g .put) (childrenAt parent above depth k at rows (drop (at - start) bs))) next
+              ∙ ap (behind (g .put)) (list-next parent above depth at rows (drop (at - start) bs) (left - 1) refl (sym (here .number) ∙ z))
+              ∙ rw (← here .reached, ← here .rows, drop-drop (r .at - at) (at - start) bs, sum, append-assoc);
+        }

@@ -1,0 +1,13 @@
+-- `walk::too_many`: the test is the definition's, of whether the kind is known.
+use borrow.Author.Needs.{needs}
+use Rattle.walk.proofs.too_many.Statement.{statement}
+use Rattle.walk.proofs.too_many.Tie as tie
+
+known-requires : tie.Need-known-requires
+known-requires c κs = search needs
+
+returns : tie.Need-returns
+returns c = rw (c .known .ensures)
+
+pub too-many-spec : {M : Type 1} → statement M
+too-many-spec = tie.close (tie.spec known-requires returns)

@@ -1,0 +1,126 @@
+-- `walk::walk`: the file's header, and then its nodes.
+use mathlib.Core.Path.{sym, _∙_}
+use borrow.Author.Tests.{not-true, not-false}
+use Rattle.walk.proofs.Whole.{header-there, too-long, no-cast, no-version, nodes-refused, nodes-done}
+use borrow.Author.Needs.{needs}
+use Rattle.walk.proofs.walk.Statement.{statement}
+use Rattle.walk.proofs.walk.Tie as tie
+
+refused-requires : tie.Need-refused-requires
+refused-requires c κs = search needs
+
+returns : tie.Need-returns
+returns c = too-long _ _ (c .before .if1 .taken) (c .refused .ensures)
+
+is-cast-requires : tie.Need-is-cast-requires
+is-cast-requires c κs = search needs
+
+refused-requires-2 : tie.Need-refused-requires-2
+refused-requires-2 c κs = search needs
+
+returns-2 : tie.Need-returns-2
+returns-2 c =
+    let k = c .before .before in
+    no-cast _ _ (k .before .if1 .left) (sym (k .is-cast .ensures) ∙ not-true _ (c .before .if2 .taken)) (c .refused2 .ensures)
+
+u32-at-requires : tie.Need-u32-at-requires
+u32-at-requires c κs = search needs
+
+refused-requires-3 : tie.Need-refused-requires-3
+refused-requires-3 c κs = search needs
+
+returns-3 : tie.Need-returns-3
+returns-3 c =
+    let v = c .before .before in
+    let two = v .before in
+    let k = two .before in
+    no-version _ _ (k .before .if1 .left) (sym (k .is-cast .ensures) ∙ not-false _ (two .if2 .left))
+    (λ e. c .before .if3 .taken (v .u32-at .ensures ∙ e)) (c .refused3 .ensures)
+
+u32-at-requires-2 : tie.Need-u32-at-requires-2
+u32-at-requires-2 c κs = search needs
+
+u32-at-requires-3 : tie.Need-u32-at-requires-3
+u32-at-requires-3 c κs = search needs
+
+sub-walk-children : tie.Need-sub-walk-children
+sub-walk-children c =
+    let two = c .before .before .before .before in
+    let k = two .before in
+    header-there (k .before .before .before .before .args .file .now) (sym (k .is-cast .ensures) ∙ not-false _ (two .if2 .left))
+
+part-walk-children-start : tie.Need-part-walk-children-start
+part-walk-children-start c =
+    let two = c .before .before .before .before in
+    let k = two .before in
+    header-there (k .before .before .before .before .args .file .now) (sym (k .is-cast .ensures) ∙ not-false _ (two .if2 .left))
+
+part-walk-children-end : tie.Need-part-walk-children-end
+part-walk-children-end c = search needs
+
+walk-children-requires : tie.Need-walk-children-requires
+walk-children-requires c κs = search needs
+
+cast-refused : tie.Need-cast-refused
+cast-refused c = search needs
+
+refused-requires-4 : tie.Need-refused-requires-4
+refused-requires-4 c κs = search needs
+
+same-length : tie.Need-same-length
+same-length c = search needs
+
+returns-4 : tie.Need-returns-4
+returns-4 c =
+    let w = c .before .before .before .before .before .before in
+    let r = w .before .before .before .before in
+    let three = r .before in
+    let v = three .before in
+    let two = v .before in
+    let k = two .before in
+    nodes-refused _ _ (k .before .if1 .left) (sym (k .is-cast .ensures) ∙ not-false _ (two .if2 .left)) (sym (v .u32-at .ensures) ∙ three .if3 .left)
+    (r .u32-at2 .ensures) (w .walk-children .ensures) (c .before .before .if4 .taken) (c .refused4 .ensures)
+
+cast-nodes : tie.Need-cast-nodes
+cast-nodes c = search needs
+
+same-length-2 : tie.Need-same-length-2
+same-length-2 c = search needs
+
+returns-5 : tie.Need-returns-5
+returns-5 c =
+    let w = c .before .before .before .before .before in
+    let f = w .before .before .before in
+    let r = f .before in
+    let three = r .before in
+    let v = three .before in
+    let two = v .before in
+    let k = two .before in
+    nodes-done _ _ (k .before .if1 .left) (sym (k .is-cast .ensures) ∙ not-false _ (two .if2 .left)) (sym (v .u32-at .ensures) ∙ three .if3 .left)
+    (r .u32-at2 .ensures) (w .walk-children .ensures) (c .before .if4 .left) (f .u32-at3 .ensures)
+
+pub walk-spec : {M : Type 1} → statement M
+walk-spec =
+    tie.close
+    (tie.spec
+    refused-requires
+    returns
+    is-cast-requires
+    refused-requires-2
+    returns-2
+    u32-at-requires
+    refused-requires-3
+    returns-3
+    u32-at-requires-2
+    u32-at-requires-3
+    sub-walk-children
+    part-walk-children-start
+    part-walk-children-end
+    walk-children-requires
+    cast-refused
+    refused-requires-4
+    same-length
+    returns-4
+    cast-nodes
+    same-length-2
+    returns-5)

@@ -1,0 +1,4 @@
+pub mod Walk
+pub mod Contract
+pub mod Statements
+pub mod Examples

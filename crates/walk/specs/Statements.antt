@@ -1,0 +1,48 @@
+-- The walk and the layout, as named statements about `walkOf`, which gives refusals 3 to 12 of any bytes. The code answers by
+-- `limited` (the contract of `walk::walk`), which is `walkOf` but for files that 2 refuses.
+use Prim.Native.Nat.{ℕ, _≤_, _<_}
+use mathlib.Core.Path.{_≡_}
+use mathlib.Core.Logic.{_⊎_}
+use mathlib.Core.List.{List}
+use lib.ListN.{length}
+use Rattle.le.specs.Le.{AreBytes}
+use Rattle.kinds.specs.declared.Parent.{Parent}
+use Rattle.kinds.specs.declared.Parent.the-variants.{None}
+use Rattle.format.specs.Forest.{Forest, fileOf}
+use Rattle.format.specs.Rows.{rowsOf}
+use Rattle.format.specs.Layout.{WellFormedFile, Placed, Few}
+use Rattle.walk.specs.Walk.{refuse, nodeBy, nodeAt, childrenAt, walkOf, flagsOf, limited}
+
+-- the bytes are a well-formed file of these nodes, whose kinds and number the rules allow
+pub record Holds (s : List ℕ) (flags : ℕ) (f : Forest) : Type 0 where
+  pub wellFormed : WellFormedFile flags f
+  pub placed : Placed None f
+  pub few : Few f
+  pub bytes : s ≡ fileOf flags f
+
+-- Demand 2, "accepted exactly when it meets the published Cast layout", and "its rows", as far as 3 to 12 go.
+-- Sound: where the walk accepts, the bytes are the encoding of a well-formed forest with these flags and these rows.
+pub record Accepted (s : List ℕ) : Type 0 where
+  pub forest : Forest
+  pub holds : Holds s (flagsOf s) forest
+  pub rows : walkOf s .rows ≡ rowsOf forest
+
+abbrev pub Sound : Type 0
+Sound = (s : List ℕ) → AreBytes s → walkOf s .number ≡ 0 → Accepted s
+
+-- Complete: the bytes of a well-formed forest whose kinds and number the rules allow walk to exactly that forest;
+abbrev pub Complete : Type 0
+Complete = (s : List ℕ) (flags : ℕ) (f : Forest) → Holds s flags f → (walkOf s .number ≡ 0) × (walkOf s .rows ≡ rowsOf f) × (flagsOf s ≡ flags)
+
+-- of any other well-formed forest to a refusal that only kinds (6) or number (7) can give. Depth (8) gives none of them.
+abbrev pub Others : Type 0
+Others = (flags : ℕ) (f : Forest) → WellFormedFile flags f → (Placed None f × Few f → ⊥)
+    → (walkOf (fileOf flags f) .number ≡ 6) ⊎ (walkOf (fileOf flags f) .number ≡ 7)
+
+-- The bound that the definition of a node's walk recurses on never speaks: a node is walked with `childrenAt` below it.
+abbrev pub Unbounded : Type 0
+Unbounded = (parent : Parent) (above depth at row : ℕ) (bs : List ℕ) → nodeAt parent above depth at row bs ≡ nodeBy childrenAt parent above depth at row bs
+
+-- What the code answers by, beside 3 to 12.
+abbrev pub Limited : Type 0
+Limited = (s : List ℕ) → (length s ≤ 16777216 → limited s ≡ walkOf s) × (16777216 < length s → limited s ≡ refuse 2 0)

@@ -1,0 +1,62 @@
+//! Generated wagons, whole and damaged.
+
+use super::Walks;
+use corpus::mutate::{self, Damage};
+use corpus::tree::File;
+use corpus::valid::{file, mixed, Profile};
+
+/// Longer files are left out.
+const MOST: usize = 700;
+
+pub fn add(walks: &mut Walks) {
+    add_valid(walks, 100);
+    for &kind in mutate::ALL {
+        // What the rules of 13 to 17 refuse, the walk accepts.
+        let later = Damage::NameTwice..=Damage::DoubledTarget;
+        let (count, most) = match kind {
+            Damage::ManyNodes => (0, 0),
+            Damage::ManyProperties => (3, 4_000),
+            Damage::TwoFaults | Damage::ManyFaults => (30, MOST),
+            kind if later.contains(&kind) => (2, MOST),
+            _ => (15, MOST),
+        };
+        add_damaged(walks, kind, count, most);
+    }
+}
+
+fn some_file(walks: &mut Walks) -> File {
+    match walks.rng.chance(85) {
+        true => file(&mut walks.rng, &Profile::TINY),
+        false => mixed(&mut walks.rng),
+    }
+}
+
+fn add_valid(walks: &mut Walks, count: usize) {
+    let mut left = count;
+    while left > 0 {
+        let file = some_file(walks);
+        let bytes = file.bytes();
+        if bytes.len() <= MOST {
+            walks.accepted(&bytes, file.nodes().len());
+            left -= 1;
+        }
+    }
+}
+
+/// Files with damage of this kind, of at most `most` bytes.
+fn add_damaged(walks: &mut Walks, kind: Damage, count: usize, most: usize) {
+    let mut left = count;
+    while left > 0 {
+        let file = some_file(walks);
+        let damaged = mutate::damage(&mut walks.rng, &file, kind);
+        let Some(damaged) = damaged.filter(|damaged| damaged.bytes.len() <= most) else {
+            continue;
+        };
+        left -= 1;
+        let answer = walks.add(&damaged.bytes);
+        if let Some((number, place)) = damaged.answer {
+            let told = if number > 12 { (0, 0) } else { (number, place) };
+            assert_eq!((answer.0, answer.1), told, "{}", kind.name());
+        }
+    }
+}
