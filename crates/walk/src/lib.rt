@@ -107,8 +107,9 @@ fn walk_node(
     requires { ⌜ (at + length (now bytes) ≤ 16777216) × (row ≤ 1024) × (depth ≤ row + 1) ⌝ }
     ensures { λ r. ⌜ Came r (nodeAt parent above depth at row (now (bytes .entry))) at row (now (bytes .entry)) (now (table .entry)) (now (table .exit)) ⌝ }
 {
+    let room = bytes.len();
     let h = header_at(bytes);
-    let number = refusal(h, bytes.len(), parent, row, depth);
+    let number = refusal(h, room, parent, row, depth);
     if number != 0 {
         return Reached {
             number,
@@ -117,10 +118,9 @@ fn walk_node(
         };
     }
     let start = at + 24;
-    let size = h.size as usize;
     let rows = row + 1;
     if !kinds::known(h.kind) {
-        let end = at + size;
+        let end = at + h.size as usize;
         table::put_row(table, row, row_of(h, above, start as u32, end as u32));
         return Reached {
             number: 0,
@@ -128,6 +128,7 @@ fn walk_node(
             rows,
         };
     }
+    let size = h.size as usize;
     let inside = &bytes[24..size];
     let p = body::pass(inside, h.properties);
     let number = p.number;

@@ -52,14 +52,14 @@ returns t c = header-refused _ _ _ _ _ _ _ (c .before .before .header-at .ensure
 add-start : (t : ℕ) → walk-node-lts.Need-add-start (walk-node-calls t) (walk-node-at t) walk-node.Post
 add-start t c = search needs
 
-cast-size : (t : ℕ) → walk-node-lts.Need-cast-size (walk-node-calls t) (walk-node-at t) walk-node.Post
-cast-size t c = search needs
-
 add-rows : (t : ℕ) → walk-node-lts.Need-add-rows (walk-node-calls t) (walk-node-at t) walk-node.Post
 add-rows t c = search needs
 
 known-requires : (t : ℕ) → walk-node-lts.Need-known-requires (walk-node-calls t) (walk-node-at t) walk-node.Post
 known-requires t c κs = search needs
+
+cast-end : (t : ℕ) → walk-node-lts.Need-cast-end (walk-node-calls t) (walk-node-at t) walk-node.Post
+cast-end t c = search needs
 
 add-end : (t : ℕ) → walk-node-lts.Need-add-end (walk-node-calls t) (walk-node-at t) walk-node.Post
 add-end t c = search needs
@@ -82,10 +82,13 @@ same-length t c = search needs
 returns-2 : (t : ℕ) → walk-node-lts.Need-returns-2 (walk-node-calls t) (walk-node-at t) walk-node.Post
 returns-2 t c =
     let r = c .before .before in
-    let k = r .before .before .before in
-    let e = k .before .before .before in
+    let k = r .before .before .before .before in
+    let e = k .before .before in
     passed-over _ _ _ _ _ _ _ (e .before .before .header-at .ensures) (sym (e .before .refusal .ensures) ∙ e .if1 .left)
     (sym (k .before .known .ensures) ∙ not-true _ (k .if2 .taken)) (r .put-row .ensures ∙ ap (withRow _ _) (r .before .row-of .ensures))
+
+cast-size : (t : ℕ) → walk-node-lts.Need-cast-size (walk-node-calls t) (walk-node-at t) walk-node.Post
+cast-size t c = search needs
 
 sub-inside : (t : ℕ) → walk-node-lts.Need-sub-inside (walk-node-calls t) (walk-node-at t) walk-node.Post
 sub-inside t c = omega (arith, bounds t (c .before .before .before))
@@ -105,8 +108,8 @@ add-end-2 t c = omega (arith, ends t c, bounds t (c .before .before .before .bef
 returns-3 : (t : ℕ) → walk-node-lts.Need-returns-3 (walk-node-calls t) (walk-node-at t) walk-node.Post
 returns-3 t c =
     let d = c .before in
-    let k = d .before .before in
-    let e = k .before .before .before in
+    let k = d .before .before .before in
+    let e = k .before .before in
     body-bad _ _ _ _ _ _ _ (e .before .before .header-at .ensures) (sym (e .before .refusal .ensures) ∙ e .if1 .left)
     (sym (k .before .known .ensures) ∙ not-false _ (k .if2 .left)) (d .pass .ensures) (c .if3 .taken)
 
@@ -150,8 +153,8 @@ returns-4 t c =
     let w = c .before .before in
     let r = w .before .before .before .before .before in
     let d = r .before .before .before .before in
-    let k = d .before .before in
-    let e = k .before .before .before in
+    let k = d .before .before .before in
+    let e = k .before .before in
     with-children _ _ _ _ _ _ _ (e .before .before .header-at .ensures) (sym (e .before .refusal .ensures) ∙ e .if1 .left)
     (sym (k .before .known .ensures) ∙ not-false _ (k .if2 .left)) (d .pass .ensures) (r .before .before .before .if3 .left)
     (r .put-row2 .ensures ∙ ap (withRow _ _) (r .before .row-of2 .ensures)) (w .walk-children .ensures)
@@ -166,9 +169,9 @@ closed t =
     (refusal-requires t)
     (returns t)
     (add-start t)
-    (cast-size t)
     (add-rows t)
     (known-requires t)
+    (cast-end t)
     (add-end t)
     (cast-row-of t)
     (cast-row-of-2 t)
@@ -176,6 +179,7 @@ closed t =
     (put-row-requires t)
     (same-length t)
     (returns-2 t)
+    (cast-size t)
     (sub-inside t)
     (part-inside-start t)
     (part-inside-end t)
