@@ -107,7 +107,7 @@ module _ (s : List ℕ) (at k : ℕ) where
           le-front 2 s at (at + 2) bytes refl (omega arith),
         ))
 
-unless-past : (n : ℕ) (step : Step) {q : Parts} {next : Cursor} → unless n step ≡ Past q next → (n ≡ 0) × (step ≡ Past q next)
+unless-past : (n : ℕ) (step : Step) {q : Parts} {next : Cursor} → unless Refused n step ≡ Past q next → (n ≡ 0) × (step ≡ Past q next)
 unless-past zero step e = (refl, e)
 unless-past (suc n) step e = (cc, cc)
 
@@ -136,7 +136,7 @@ step-sound s at bytes e =
     (found s at k, good, rw (taken .3) at (found-bytes s at k fits bytes), rw (taken .3) at (found-length s at k fits))
 
 -- ---- a refusal has a number
-unless-told : (n : ℕ) (step : Step) → unless n step ≡ Refused 0 → step ≡ Refused 0
+unless-told : (n : ℕ) (step : Step) → unless Refused n step ≡ Refused 0 → step ≡ Refused 0
 unless-told zero step e = e
 unless-told (suc n) step e = cc
 

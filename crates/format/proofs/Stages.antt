@@ -17,8 +17,8 @@ use Rattle.props.specs.declared.Property.{Property as Parts}
 use Rattle.props.specs.declared.Step.{Step}
 use Rattle.props.specs.declared.Step.the-variants.{Past, Refused}
 use Rattle.props.specs.Types.{sizeOf, noSuch}
-use Rattle.props.specs.Step.{headerRefusal, toZero, fit, dataOf, past}
-use Rattle.props.proofs.Cases.{no-type, no-name, name-fits, fit-in}
+use Rattle.props.specs.Step.{headerRefusal, dataRefusal, toZero, fit, dataOf, past}
+use Rattle.props.proofs.Cases.{no-type, no-name, name-fits, fit-in, elements-fit}
 use Rattle.format.specs.Layout.{Each, NameByte, EndsInZero, Content}
 
 -- ---- a name's size and bytes
@@ -86,8 +86,8 @@ module _ (at start : ℕ) where
 
   pub data-good : (size : Size) (n : ℕ) (content rest : List ℕ) → Content size n content →
       passed (length content) ≡ past at start (dataOf size n (content ++ rest))
-  unfolding dataOf
-  data-good (Bytes w) n content rest h = rw (← h) (fit-good content rest)
+  unfolding dataRefusal dataOf
+  data-good (Bytes w) n content rest h = rw (elements-fit w n (content ++ rest), ← h) (fit-good content rest)
   data-good Text n content rest h = rw (eq-eqb n 1 (h .0), zero-good content rest (h .1)) (fit-good content rest)
   data-good NoSuch n content rest h = absurd h
 
@@ -99,9 +99,9 @@ module _ (at start : ℕ) where
 
     pub data-sound : (size : Size) (n : ℕ) (l : List ℕ) → past at start (dataOf size n l) ≡ Past q next →
         (k : ℕ) × (k ≤ length l) × Content size n (take k l) × (start + k ≡ next .at)
-    unfolding dataOf
+    unfolding dataRefusal dataOf
     data-sound (Bytes w) n l e =
-        let r = fit-sound (n * w) (length l) e in
+        let r = fit-sound (n * w) (length l) (rw (elements-fit w n l) at e) in
         (n * w, r .0, length-take-le (n * w) l (r .0), r .1)
     data-sound Text n l e =
         by-test (eqb n 1)
@@ -116,8 +116,8 @@ module _ (at start : ℕ) where
       (λ t. let z : _≡_ {A = ℕ} 0 1 = cc (rw t at e) in omega arith)
 
   pub data-told : (size : Size) (n : ℕ) (l : List ℕ) → past at start (dataOf size n l) ≡ Refused 0 → ⊥
-  unfolding dataOf
-  data-told (Bytes w) n l e = fit-told (n * w) (length l) e
+  unfolding dataRefusal dataOf
+  data-told (Bytes w) n l e = fit-told (n * w) (length l) (rw (elements-fit w n l) at e)
   data-told Text n l e =
       by-test (eqb n 1) (λ t. fit-told (toZero l) (length l) (rw t at e))
       (λ t. let z : _≡_ {A = ℕ} 11 0 = cc (rw t at e) in omega arith)

@@ -3,12 +3,16 @@ use mathlib.Core.Path.{_≡_, refl, ap, _∙_}
 use mathlib.Core.Bool.{Bool, true, false, cond, not}
 use mathlib.Core.List.{List}
 use Prim.Native.Nat.{ℕ, zero, suc, _+_, _-_, _*_, _<_, _≤_}
+use native.Mathlib.Nat.{mul-le-mul}
 use native.Mathlib.Omega.{arith}
 use lib.Dec.{ltb, eqb}
 use lib.ListN.{length, take, drop}
-use borrow.Author.Tests.{lt-ltb, le-ltb, eq-eqb, ne-eqb, ltb-false}
+use mir.Syntax.{w64}
+use mir.Val.{Fits}
+use borrow.Author.Tests.{lt-ltb, le-ltb, ltb-false}
 use Rattle.le.specs.Le.{numberAt}
 use Rattle.le.proofs.Laws.{rest, length-rest, drop-rest, numberAt-rest}
+use Rattle.le.proofs.Tests.{by-test}
 use Rattle.names.specs.Names.{sizeOk, bytesOk}
 use Rattle.props.specs.declared.Size.{Size}
 use Rattle.props.specs.declared.Size.the-variants.{Bytes, Text, NoSuch}
@@ -18,7 +22,12 @@ use Rattle.props.specs.declared.Extent.the-variants.{Refused as noData}
 use Rattle.props.specs.declared.Step.{Step}
 use Rattle.props.specs.declared.Step.the-variants.{Refused}
 use Rattle.props.specs.Types.{sizeOf, noSuch}
-use Rattle.props.specs.Step.{headerRefusal, nameRefusal, toZero, fit, dataOf, unless, past, codeAt, sizeAt, lengthAt, nameAt, startAt, stepAt}
+use Rattle.props.specs.Step.{headerRefusal, nameRefusal, dataRefusal, toZero, fit, extentOf, unless, dataOf, past, codeAt, sizeAt, lengthAt, nameAt, startAt, stepAt}
+
+-- a number other than 0 refuses
+unless-refused : {A : Type 0} (refused : ℕ → A) (n : ℕ) (next : A) → (n ≡ 0 → ⊥) → refused n ≡ unless refused n next
+unless-refused refused zero next h = absurd (h refl)
+unless-refused refused (suc n) next h = refl
 
 -- ---- the header
 module _ (code size room : ℕ) where
@@ -59,6 +68,10 @@ name-fits code size room e =
     ltb-false room (8 + size) (name-fits-by (ltb room 8) (noSuch (sizeOf code)) (not (sizeOk size)) (ltb room (8 + size)) e)
 
 -- ---- the data
+-- the product of two numbers of 32 bits does not wrap
+pub product-fits : {m n : ℕ} → m ≤ 4294967295 → n ≤ 4294967295 → Fits w64 (m * n)
+product-fits h k = omega (arith, mul-le-mul h k)
+
 module _ (n room : ℕ) where
   pub fit-out : room < n → noData 10 ≡ fit n room
   fit-out h = rw (lt-ltb _ _ h)
@@ -66,47 +79,39 @@ module _ (n room : ℕ) where
   pub fit-in : n ≤ room → Takes n ≡ fit n room
   fit-in h = rw (le-ltb _ _ h)
 
-module _ (len : ℕ) (bs : List ℕ) where
-  pub bytes-fit : (w : ℕ) {e : Extent} → e ≡ fit (len * w) (length bs) → e ≡ dataOf (Bytes w) len bs
+module _ (size : Size) (len : ℕ) (bs : List ℕ) where
+  pub data-refused : {n : ℕ} → n ≡ dataRefusal size len (length bs) → (n ≡ 0 → ⊥) → noData n ≡ dataOf size len bs
   unfolding dataOf
-  bytes-fit w p = p
+  data-refused {n} e h = unless-refused noData n (extentOf size len bs) h ∙ rw e
 
-  pub text-long : (len ≡ 1 → ⊥) → noData 11 ≡ dataOf Text len bs
+  pub data-right : dataRefusal size len (length bs) ≡ 0 → extentOf size len bs ≡ dataOf size len bs
   unfolding dataOf
-  text-long h = rw (ne-eqb _ _ h)
+  data-right e = rw e
 
-  pub text-fit : len ≡ 1 → {e : Extent} → e ≡ fit (toZero bs) (length bs) → e ≡ dataOf Text len bs
-  unfolding dataOf
-  text-fit h p = rw (eq-eqb _ _ h) p
-
-  pub none-fit : noData 11 ≡ dataOf NoSuch len bs
-  unfolding dataOf
-  none-fit = refl
+-- elements of a size fit, or are refused by their numbers
+pub elements-fit : (w len : ℕ) (bs : List ℕ) → dataOf (Bytes w) len bs ≡ fit (len * w) (length bs)
+unfolding dataRefusal dataOf
+elements-fit w len bs = by-test (ltb (length bs) (len * w)) (λ t. rw t) (λ t. rw t)
 
 -- data takes no more than there is
 abbrev pub Within : ℕ → Extent → Type 0
 Within n (Takes k) = k ≤ n
 Within n (noData k) = Unit
 
-fit-within-by : (k n : ℕ) (b : Bool) → ltb n k ≡ b → Within n (cond b (noData 10) (Takes k))
-fit-within-by k n true e = tt
-fit-within-by k n false e = ltb-false n k e
-
-text-within-by : (n : ℕ) (b : Bool) (x : Extent) → Within n x → Within n (cond b (noData 11) x)
-text-within-by n true x p = tt
-text-within-by n false x p = p
+fit-within : (n room : ℕ) → Within room (fit n room)
+fit-within n room = by-test (ltb room n) (λ t. rw t tt) (λ t. rw t (ltb-false room n t))
 
 pub data-within : (size : Size) (len : ℕ) (bs : List ℕ) → Within (length bs) (dataOf size len bs)
-unfolding dataOf
-data-within (Bytes w) len bs = fit-within-by (len * w) (length bs) (ltb (length bs) (len * w)) refl
-data-within Text len bs = text-within-by (length bs) (not (eqb len 1)) (fit (toZero bs) (length bs)) (fit-within-by (toZero bs) (length bs) (ltb (length bs) (toZero bs)) refl)
+unfolding dataRefusal dataOf
+data-within (Bytes w) len bs = rw (elements-fit w len bs) (fit-within (len * w) (length bs))
+data-within Text len bs = by-test (eqb len 1) (λ t. rw t (fit-within (toZero bs) (length bs))) (λ t. rw t tt)
 data-within NoSuch len bs = tt
 
 -- ---- the step, over the part of the body that starts with the header
 abbrev pub stepOf : ℕ → ℕ → ℕ → ℕ → List ℕ → Step
 stepOf at code size len header =
-    unless (headerRefusal code size (length header))
-    (unless (nameRefusal (take size (drop 8 header)))
+    unless Refused (headerRefusal code size (length header))
+    (unless Refused (nameRefusal (take size (drop 8 header)))
     (past at (at + (8 + size)) (dataOf (sizeOf code) len (drop (8 + size) header))))
 
 module _ (s : List ℕ) (at : ℕ) where
@@ -121,18 +126,14 @@ module _ (s : List ℕ) (at : ℕ) where
   pub past-end : length s < at → Refused 10 ≡ stepAt s at
   unfolding stepAt
   past-end h =
-      ap (λ n. unless n (unless (nameRefusal (nameAt s at)) (past at (startAt s at) (dataOf (sizeOf (codeAt s at)) (lengthAt s at) (drop (startAt s at) s)))))
+      ap (λ n. unless Refused n (unless Refused (nameRefusal (nameAt s at)) (past at (startAt s at) (dataOf (sizeOf (codeAt s at)) (lengthAt s at) (drop (startAt s at) s)))))
       (no-header (codeAt s at) (sizeAt s at) (length s - at) (omega arith))
-
-pub unless-refused : (n : ℕ) (next : Step) → (n ≡ 0 → ⊥) → Refused n ≡ unless n next
-unless-refused zero next h = absurd (h refl)
-unless-refused (suc n) next h = refl
 
 -- the step by what was read of the header's part: refused by the header, by the name, or as the data says
 module _ (s : List ℕ) (at : ℕ) {code size : ℕ} (c : code ≡ numberAt 2 (rest s at) 0) (z : size ≡ numberAt 2 (rest s at) 2) where
   pub header-refused : {n : ℕ} → n ≡ headerRefusal code size (length (rest s at)) → (n ≡ 0 → ⊥) → Refused n ≡ stepAt s at
   header-refused {n} e h =
-      unless-refused n (unless (nameRefusal (take size (drop 8 (rest s at)))) (past at (at + (8 + size)) (dataOf (sizeOf code) (numberAt 4 (rest s at) 4) (drop (8 + size) (rest s at))))) h
+      unless-refused Refused n (unless Refused (nameRefusal (take size (drop 8 (rest s at)))) (past at (at + (8 + size)) (dataOf (sizeOf code) (numberAt 4 (rest s at) 4) (drop (8 + size) (rest s at))))) h
       ∙ rw e (step-rest s at c z refl)
 
   module _ (right : headerRefusal code size (length (rest s at)) ≡ 0) where

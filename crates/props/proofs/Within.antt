@@ -21,7 +21,7 @@ StepWithin s at (Past p next) = (dataAt s at ≡ p .start) × (p .start ≤ next
 StepWithin s at (Refused n) = Unit
 
 module _ (s : List ℕ) (at : ℕ) where
-  unless-within : (n : ℕ) (next : Step) → (n ≡ 0 → StepWithin s at next) → StepWithin s at (unless n next)
+  unless-within : (n : ℕ) (next : Step) → (n ≡ 0 → StepWithin s at next) → StepWithin s at (unless Refused n next)
   unless-within zero next h = h refl
   unless-within (suc n) next h = tt
 
@@ -35,7 +35,7 @@ module _ (s : List ℕ) (at : ℕ) where
       let start = startAt s at in
       let extent = dataOf (sizeOf (codeAt s at)) (lengthAt s at) (drop start s) in
       let name = nameRefusal (nameAt s at) in
-      unless-within (headerRefusal (codeAt s at) (sizeAt s at) (length s - at)) (unless name (past at start extent))
+      unless-within (headerRefusal (codeAt s at) (sizeAt s at) (length s - at)) (unless Refused name (past at start extent))
       (λ right. unless-within name (past at start extent)
       (λ named. let fits : start ≤ length s = omega (arith, name-fits (codeAt s at) (sizeAt s at) (length s - at) right) in
       past-within start (data-here s at fits) fits extent

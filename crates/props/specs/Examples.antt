@@ -9,14 +9,14 @@ use Rattle.props.specs.declared.Size.the-variants.{Bytes, Text, NoSuch}
 use Rattle.props.specs.declared.Step.{Step}
 use Rattle.props.specs.declared.Step.the-variants.{Past, Refused}
 use Rattle.props.specs.Types.{sizeOf}
-use Rattle.props.specs.Step.{headerRefusal, toZero, dataOf, stepAt, dataAt, nameAt}
+use Rattle.props.specs.Step.{headerRefusal, dataRefusal, toZero, dataOf, stepAt, dataAt, nameAt}
 
 -- b h i l f d v2 v3 v4 s, by their letters; and v2 with its letters exchanged
 types : map sizeOf (98 ∷ 104 ∷ 105 ∷ 108 ∷ 102 ∷ 100 ∷ 0x7632 ∷ 0x7633 ∷ 0x7634 ∷ 115 ∷ 0x3276 ∷ []) ≡ Bytes 1 ∷ Bytes 2 ∷ Bytes 4 ∷ Bytes 8 ∷ Bytes 4 ∷ Bytes 8 ∷ Bytes 8 ∷ Bytes 12 ∷ Bytes 16 ∷ Text ∷ NoSuch ∷ []
 types = refl
 
 unfoldable step : List ℕ → ℕ → Step
-unfolding val numberAt bytesOk headerRefusal toZero dataOf nameAt stepAt
+unfolding val numberAt bytesOk headerRefusal dataRefusal toZero dataOf nameAt stepAt
 step s at = stepAt s at
 
 -- past a property with a name of one byte

@@ -30,25 +30,36 @@ headerRefusal code size room =
 abbrev pub nameRefusal : List ℕ → ℕ
 nameRefusal name = cond (bytesOk name) 0 11
 
--- Stage 3, a string's end: "the data runs up to and including the first zero byte". One past all bytes where there is
+-- Stage 3, the data by the header's numbers: from its size, its array length and the bytes left after the name.
+-- string length; and data fits, where it has a size
+unfoldable pub dataRefusal : Size → (len room : ℕ) → ℕ
+dataRefusal (Bytes w) len room = cond (ltb room (len * w)) 10 0
+dataRefusal Text len room = cond (eqb len 1) 0 11
+dataRefusal NoSuch len room = 11
+
+-- Stage 4, a string's end: "the data runs up to and including the first zero byte". One past all bytes where there is
 -- no zero.
 unfoldable pub toZero : List ℕ → ℕ
 toZero [] = 1
 toZero (b ∷ bs) = cond (eqb b 0) 1 (suc (toZero bs))
 
--- Stage 4, the data's end: how many of the bytes after the name it takes. string length, data fits
+-- Stage 5, the data's end: how many of the bytes after the name it takes. data fits, of a string
 abbrev pub fit : ℕ → ℕ → Extent
 fit n room = cond (ltb room n) (noData 10) (Takes n)
 
-unfoldable pub dataOf : Size → ℕ → List ℕ → Extent
-dataOf (Bytes w) len rest = fit (len * w) (length rest)
-dataOf Text len rest = cond (not (eqb len 1)) (noData 11) (fit (toZero rest) (length rest))
-dataOf NoSuch len rest = noData 11
+abbrev pub extentOf : Size → ℕ → List ℕ → Extent
+extentOf (Bytes w) len rest = Takes (len * w)
+extentOf Text len rest = fit (toZero rest) (length rest)
+extentOf NoSuch len rest = noData 11
 
--- the stages, one after the other
-abbrev pub unless : ℕ → Step → Step
-unless zero next = next
-unless (suc n) next = Refused (suc n)
+-- the stages, one after the other: a number other than 0 refuses
+abbrev pub unless : {A : Type 0} → (ℕ → A) → ℕ → A → A
+unless refused zero next = next
+unless refused (suc n) next = refused (suc n)
+
+-- those of the data, 3 to 5
+unfoldable pub dataOf : Size → ℕ → List ℕ → Extent
+dataOf size len rest = unless noData (dataRefusal size len (length rest)) (extentOf size len rest)
 
 abbrev pub past : ℕ → ℕ → Extent → Step
 past at start (Takes n) = Past (record { name = at + 8; start = start }) (record { at = start + n })
@@ -73,8 +84,8 @@ startAt s at = at + 8 + sizeAt s at
 -- one step past it
 unfoldable pub stepAt : List ℕ → ℕ → Step
 stepAt s at =
-    unless (headerRefusal (codeAt s at) (sizeAt s at) (length s - at))
-    (unless (nameRefusal (nameAt s at))
+    unless Refused (headerRefusal (codeAt s at) (sizeAt s at) (length s - at))
+    (unless Refused (nameRefusal (nameAt s at))
     (past at (startAt s at) (dataOf (sizeOf (codeAt s at)) (lengthAt s at) (drop (startAt s at) s))))
 
 -- where its data starts, or the end of the bytes where that is past it

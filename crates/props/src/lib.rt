@@ -4,7 +4,7 @@ ghost use Prim.Native.Nat.{_+_, _≤_, _<_};
 ghost use lib.Dec.{leb};
 ghost use lib.ListN.{length, drop};
 ghost use Rattle.props.specs.Types.{sizeOf, noSuch};
-ghost use Rattle.props.specs.Step.{headerRefusal, toZero, dataOf, stepAt, dataAt, nameAt};
+ghost use Rattle.props.specs.Step.{headerRefusal, dataRefusal, toZero, dataOf, stepAt, dataAt, nameAt};
 
 // The size of one element, by type code. A string's size is found in its data.
 pub enum Size {
@@ -66,6 +66,28 @@ pub fn header_refusal(code: u16, size: u16, room: usize) -> u32
     0
 }
 
+// What a property's data is refused with by the header's numbers, where `room` bytes are left behind the name: a string's
+// length, or elements that do not fit; 0 for nothing. A string's end is looked for in its bytes.
+pub fn data_refusal(size: Size, length: u32, room: usize) -> u32
+    ensures { λ r. ⌜ r ≡ dataRefusal size length room ⌝ }
+{
+    match size {
+        Size::Bytes(w) => {
+            if room < length as usize * w as usize {
+                return 10;
+            }
+            0
+        }
+        Size::Text => {
+            if length != 1 {
+                return 11;
+            }
+            0
+        }
+        Size::NoSuch => 11,
+    }
+}
+
 // Whether any byte is zero. It has no early way out, so that it is compiled to a few wide comparisons.
 fn has_zero(block: &[u8]) -> bool
     ensures { λ r. ⌜ r ≡ leb (toZero (now (block .entry))) (length (now (block .entry))) ⌝ }
@@ -118,18 +140,16 @@ enum Extent {
 fn data_of(size: Size, length: u32, rest: &[u8]) -> Extent
     ensures { λ r. ⌜ r ≡ dataOf size length (now (rest .entry)) ⌝ }
 {
+    let number = data_refusal(size, length, rest.len());
+    if number != 0 {
+        return Extent::Refused(number);
+    }
     match size {
         Size::Bytes(w) => {
             let n = length as usize * w as usize;
-            if rest.len() < n {
-                return Extent::Refused(10);
-            }
             Extent::Takes(n)
         }
         Size::Text => {
-            if length != 1 {
-                return Extent::Refused(11);
-            }
             let n = to_zero(rest);
             if rest.len() < n {
                 return Extent::Refused(10);

@@ -8,7 +8,7 @@ use Rattle.names.specs.Names.{bytesOk}
 use Rattle.kinds.specs.declared.Parent.{Parent}
 use Rattle.kinds.specs.declared.Parent.the-variants.{None, Kind}
 use Rattle.kinds.specs.Kinds.{root, model, mesh, lines, lineIn, lineOf, isKnown, standsAtTop, standsUnder, mayStand}
-use Rattle.props.specs.Step.{headerRefusal, toZero, dataOf, nameAt, stepAt}
+use Rattle.props.specs.Step.{headerRefusal, dataRefusal, toZero, dataOf, nameAt, stepAt}
 use Rattle.body.specs.Body.{pass, properties}
 use Rattle.table.specs.declared.Row.{Row}
 use Rattle.table.specs.Table.{noParent}
@@ -17,7 +17,7 @@ use Rattle.walk.specs.declared.Answer.{Answer}
 use Rattle.walk.specs.Walk.{Walked, refuse, headerAt, nodeRefusal, andThen, children, knownNode, nodeBy, node, nodeAt, childrenAt, walkOf, limited, answerOf}
 
 unfoldable walk : List ℕ → Walked
-unfolding val numberAt bytesOk lines lineIn lineOf isKnown standsAtTop standsUnder mayStand headerRefusal toZero dataOf nameAt stepAt pass properties headerAt nodeRefusal andThen children knownNode nodeBy node nodeAt childrenAt walkOf limited
+unfolding val numberAt bytesOk lines lineIn lineOf isKnown standsAtTop standsUnder mayStand headerRefusal dataRefusal toZero dataOf nameAt stepAt pass properties headerAt nodeRefusal andThen children knownNode nodeBy node nodeAt childrenAt walkOf limited
 walk s = limited s
 
 unfoldable answer : List ℕ → Answer
