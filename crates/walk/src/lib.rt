@@ -242,7 +242,7 @@ pub fn walk(file: &[u8], table: &mut [u32]) -> Answer
         table,
         16,
         kinds::Parent::None,
-        0xFFFF_FFFF,
+        0xFFFF_FFFF, // no parent
         0,
         1,
         roots,
