@@ -3,7 +3,7 @@ use Prim.Native.Nat.{ℕ, zero, suc, _+_}
 use native.Mathlib.Omega.{arith}
 use native.Mathlib.Nat.{zero-add}
 use mathlib.Core.Path.{_≡_, refl, ap, sym, _∙_}
-use mathlib.Core.List.{List, [], _∷_, _++_, append-assoc}
+use mathlib.Core.List.{List, [], _∷_, _++_, append-assoc, flatMap}
 use lib.Dec.{ltb}
 use lib.ListN.{length, take, drop, length-append}
 use lib.Seq.{take-at, take-append-seam}
@@ -15,17 +15,17 @@ use Rattle.props.specs.declared.Step.the-variants.{Past, Refused}
 use Rattle.props.specs.Step.{stepAt}
 use Rattle.body.specs.Body.{byStep, pass, properties}
 use Rattle.body.proofs.Laws.{few, many}
-use Rattle.format.specs.Layout.{Each, Property, propertyBytes, GoodProperty, propertiesBytes, GoodBody}
+use Rattle.format.specs.Layout.{Each, Property, propertyBytes, GoodProperty, GoodBody}
 use Rattle.format.proofs.Properties.{step-good, step-sound, step-told}
 
 -- ---- a good body is walked to its end
-pass-good : (ps : List Property) (pre rest : List ℕ) → Each GoodProperty ps → {s : List ℕ} → s ≡ pre ++ (propertiesBytes ps ++ rest) →
-    (pass s (length ps) (length pre) .number ≡ 0) × (pass s (length ps) (length pre) .at ≡ length pre + length (propertiesBytes ps))
-unfolding pass
+pass-good : (ps : List Property) (pre rest : List ℕ) → Each GoodProperty ps → {s : List ℕ} → s ≡ pre ++ (flatMap propertyBytes ps ++ rest) →
+    (pass s (length ps) (length pre) .number ≡ 0) × (pass s (length ps) (length pre) .at ≡ length pre + length (flatMap propertyBytes ps))
+unfolding pass flatMap
 pass-good [] pre rest h e = (refl, omega arith)
 pass-good (p ∷ ps) pre rest h {s} e =
-    let step = step-good p pre (propertiesBytes ps ++ rest) (h .0) in
-    let here = rw (← append-assoc (propertyBytes p) (propertiesBytes ps) rest, ← e) at (step .1) in
+    let step = step-good p pre (flatMap propertyBytes ps ++ rest) (h .0) in
+    let here = rw (← append-assoc (propertyBytes p) (flatMap propertyBytes ps) rest, ← e) at (step .1) in
     let ih = rw length-append at (pass-good ps (pre ++ propertyBytes p) rest (h .1) (e ∙ simp append-assoc)) in
     rw here (ih .0, ih .1 ∙ simp length-append (omega arith))
 
@@ -47,11 +47,11 @@ record Lie (s : List ℕ) (k at to : ℕ) : Type 0 where
   list : List Property
   good : Each GoodProperty list
   counted : length list ≡ k
-  bytes : drop at s ≡ propertiesBytes list ++ drop to s
-  size : at + length (propertiesBytes list) ≡ to
+  bytes : drop at s ≡ flatMap propertyBytes list ++ drop to s
+  size : at + length (flatMap propertyBytes list) ≡ to
 
 pass-sound : (s : List ℕ) (k at : ℕ) → AreBytes s → pass s k at .number ≡ 0 → Lie s k at (pass s k at .at)
-unfolding pass
+unfolding pass flatMap
 pass-sound s zero at h e = record { list = []; good = tt; counted = refl; bytes = refl; size = omega arith }
 pass-sound s (suc k) at h e = by (stepAt s at) refl (λ next. pass-sound s k next h) e
   where
@@ -76,7 +76,7 @@ body-sound s k h e =
     let most = ltb-false 64 k t in
     let walk = few s k most in
     let r : Lie s k 0 (properties s k .at) = rw walk at (pass-sound s k 0 h (rw walk e)) in
-    let whole = take-at (propertiesBytes (r .list)) (drop (properties s k .at) s) (properties s k .at) (omega (arith, r .size)) in
+    let whole = take-at (flatMap propertyBytes (r .list)) (drop (properties s k .at) s) (properties s k .at) (omega (arith, r .size)) in
     record {
       properties = r .list;
       good = r .good;

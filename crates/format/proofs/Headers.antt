@@ -1,12 +1,11 @@
 -- Laws of headers: their numbers are read back, and bytes that are read are a header's.
-use Prim.Native.Nat.{ℕ, _+_, _*_, _/_, _%_, _^_, _≤_, _<_}
+use Prim.Native.Nat.{ℕ, _/_, _%_, _^_, _≤_, _<_}
 use native.Mathlib.Omega.{arith}
 use mathlib.Core.Path.{_≡_, refl, ap, sym, _∙_}
 use mathlib.Core.List.{List, [], _∷_, _++_, append-assoc}
 use lib.ListN.{length, take, drop}
-use lib.Seq.{drop-drop}
 use Rattle.le.specs.Le.{val, numberAt, le, AreBytes}
-use Rattle.le.proofs.Laws.{val-le, val-split, numberAt-lt, le-numberAt, le-front, part-front, le-halves}
+use Rattle.le.proofs.Laws.{val-le, numberAt-lt, le-numberAt, le-front, part-front, le-halves}
 use Rattle.format.specs.Forest.{header, fileHeader}
 use Rattle.format.specs.Layout.{Fits}
 
@@ -52,18 +51,6 @@ module _ (k s h p c : ℕ) where
       unfolding numberAt header le
       header-children = val-le 4 c (fits .4)
 
--- the halves of the number of eight bytes
-module _ (bs : List ℕ) (at : ℕ) (y : AreBytes bs) where
-  halves : numberAt 8 bs at ≡ numberAt 4 bs at + 256 ^ 4 * numberAt 4 bs (at + 4)
-  unfolding numberAt
-  halves = val-split 4 4 (drop at bs) ∙ ap (λ l. val (take 4 (drop at bs)) + 256 ^ 4 * val (take 4 l)) (drop-drop 4 at bs)
-
-  pub low-half : numberAt 8 bs at % 256 ^ 4 ≡ numberAt 4 bs at
-  low-half = omega (arith, halves, numberAt-lt 4 bs at y)
-
-  pub high-half : numberAt 8 bs at / 256 ^ 4 ≡ numberAt 4 bs (at + 4)
-  high-half = omega (arith, halves, numberAt-lt 4 bs at y)
-
 module _ (bs : List ℕ) (y : AreBytes bs) (room : 24 ≤ length bs) where
   pub header-of : header (numberAt 4 bs 0) (numberAt 4 bs 4) (numberAt 8 bs 8) (numberAt 4 bs 16) (numberAt 4 bs 20) ++ drop 24 bs ≡ bs
   unfolding header
@@ -73,8 +60,7 @@ module _ (bs : List ℕ) (y : AreBytes bs) (room : 24 ≤ length bs) where
         le-front 4 bs 20 24 y refl room,
         le-front 4 bs 16 20 y refl (omega arith),
         le-front 8 bs 8 16 y refl (omega arith),
-        le-front 4 bs 4 8 y
-            refl (omega arith),
+        le-front 4 bs 4 8 y refl (omega arith),
       )
       (le-front 4 bs 0 4 y refl (omega arith)))
 

@@ -7,7 +7,7 @@ use lib.ListN.{length, length-append}
 use Rattle.table.specs.declared.Row.{Row}
 use Rattle.table.specs.Table.{noParent}
 use Rattle.format.specs.Forest.{Forest, end, known, unknown, count, nodes, encode, fileHeader, fileOf}
-use Rattle.format.specs.Rows.{rows, allOwnBytes}
+use Rattle.format.specs.Rows.{nodeRow, rows, allOwnBytes}
 use Rattle.format.specs.Laws.{OwnBytesAddUp}
 use Rattle.format.proofs.Headers.{length-header, length-fileHeader}
 
@@ -26,6 +26,24 @@ length-rows (known k h p body kids next) parent row at =
           (at + 24 + length body + length (encode kids)),
     ))
 length-rows (unknown k h p c rest next) parent row at = ap suc (length-rows next parent (suc row) (at + 24 + length rest))
+
+-- the rows of a first node of so many bytes, and of those next to it
+module _ (k h p : ℕ) (next : Forest) (parent row at s : ℕ) where
+  pub rows-unknown : (c : ℕ) (rest : List ℕ) → 24 + length rest ≡ s
+      → nodeRow k h parent (at + 24) (at + s) p c ∷ rows next parent (row + 1) (at + s) ≡ rows (unknown k h p c rest next) parent row at
+  rows-unknown c rest e =
+      let stop : at + s ≡ at + 24 + length rest = omega (arith, e) in
+      let after : row + 1 ≡ suc row = omega arith in
+      rw (stop, after)
+
+  pub rows-known : (body : List ℕ) (kids : Forest) (first : ℕ) → first ≡ suc row → 24 + length body + length (encode kids) ≡ s
+      → (let below = rows kids row first (at + 24 + length body) in
+      nodeRow k h parent (at + 24) (at + 24 + length body) p (count kids) ∷ (below ++ rows next parent (row + suc (length below)) (at + s))
+      ≡ rows (known k h p body kids next) parent row at)
+  rows-known body kids first f e =
+      let stop : at + s ≡ at + 24 + length body + length (encode kids) = omega (arith, e) in
+      let after : row + suc (nodes kids) ≡ suc row + nodes kids = omega arith in
+      rw (f, length-rows kids row (suc row) (at + 24 + length body), stop, after)
 
 pub own-rows : (f : Forest) (parent row at : ℕ) → allOwnBytes (rows f parent row at) ≡ length (encode f)
 own-rows end parent row at = refl

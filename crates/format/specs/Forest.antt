@@ -5,8 +5,8 @@ use lib.ListN.{length}
 use Rattle.le.specs.Le.{le}
 
 -- Nodes side by side: none; or a first one, the nodes below it, and those next to it. `properties` and `children` are the
--- header's counts; of an unknown node they say nothing. Document 01's "body" of a known node is "what follows the header
--- up to the first child; for an unknown node it is all the rest".
+-- header's counts; of an unknown node they say nothing. Document 01's "body" is "what follows the header up to the first
+-- child; for an unknown node it is all the rest": `body` and `rest`.
 pub data Forest : Type 0 where
   end : Forest
   known : (kind hash properties : ℕ) (body : List ℕ) (kids next : Forest) → Forest

@@ -2,7 +2,7 @@
 use Prim.Native.Nat.{ℕ, _+_, _*_, _^_, _≤_, _<_}
 use mathlib.Core.Path.{_≡_}
 use mathlib.Core.Bool.{true, false}
-use mathlib.Core.List.{List, [], _∷_, _++_}
+use mathlib.Core.List.{List, [], _∷_, _++_, flatMap}
 use lib.ListN.{length}
 use Rattle.le.specs.Le.{le, AreBytes}
 use Rattle.kinds.specs.declared.Parent.{Parent}
@@ -55,16 +55,12 @@ GoodProperty p = (p .code < 256 ^ 2) × (p .elements < 256 ^ 4) × Name (p .name
 
 -- ---- a known node's body: so many properties, not "over 64"
 
-abbrev pub propertiesBytes : List Property → List ℕ
-propertiesBytes [] = []
-propertiesBytes (p ∷ ps) = propertyBytes p ++ propertiesBytes ps
-
 pub record GoodBody (n : ℕ) (body : List ℕ) : Type 0 where
   pub properties : List Property
   pub good : Each GoodProperty properties
   pub counted : length properties ≡ n
   pub most : n ≤ 64
-  pub bytes : body ≡ propertiesBytes properties
+  pub bytes : body ≡ flatMap propertyBytes properties
 
 -- ---- nodes
 

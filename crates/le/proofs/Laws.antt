@@ -1,7 +1,7 @@
 -- Laws of numbers in bytes, each over the width.
 use Prim.Native.Nat.{ℕ, zero, suc, _+_, _-_, _*_, _/_, _%_, _^_, _≤_, _<_}
 use native.Mathlib.Omega.{arith}
-use native.Mathlib.Nat.{zero-add, add-zero, suc-add, mul-assoc, pow-succ', div-one, div-div-eq-div-mul, mod-add-div, one-le-pow, mod-eq-of-lt, add-mul-mod-self-left}
+use native.Mathlib.Nat.{zero-add, add-zero, suc-add, mul-assoc, pow-succ', div-one, div-div-eq-div-mul, mod-add-div, one-le-pow, mod-eq-of-lt, add-mul-mod-self-left, div-eq-of-lt, add-mul-div-left}
 use mathlib.Core.Path.{_≡_, refl, ap, sym, _∙_}
 use mathlib.Core.List.{List, [], _∷_, _++_}
 use lib.ListN.{length, take, drop, getD, drop-of-length-le, length-drop, take-append-drop}
@@ -76,6 +76,18 @@ numberAt-short w v l at h =
     ap (λ n. n % 256 ^ w) (val-split w v (drop at l))
     ∙ add-mul-mod-self-left (val (take w (drop at l))) (256 ^ w) (val (take v (drop w (drop at l))))
     ∙ mod-eq-of-lt (val-lt w (drop at l) (bytes-drop at l h))
+
+-- and the others are the quotient
+pub numberAt-high : (w v : ℕ) (l : List ℕ) (at : ℕ) → AreBytes l → numberAt (w + v) l at / 256 ^ w ≡ numberAt v l (at + w)
+unfolding numberAt
+numberAt-high w v l at h =
+    let low = val (take w (drop at l)) in
+    let high = val (take v (drop w (drop at l))) in
+    let less : low < 256 ^ w = val-lt w (drop at l) (bytes-drop at l h) in
+    let none : low / 256 ^ w ≡ 0 = div-eq-of-lt less in
+    ap (λ n. n / 256 ^ w) (val-split w v (drop at l))
+    ∙ add-mul-div-left low high {y = 256 ^ w} (omega (arith, less))
+    ∙ ap (λ n. n + high) none ∙ zero-add high ∙ ap (λ k. val (take v k)) (drop-drop w at l)
 
 pub numberAt-four : (l : List ℕ) → getD l 0 0 + 256 * getD l 1 0 + 65536 * getD l 2 0 + 16777216 * getD l 3 0 ≡ numberAt 4 l 0
 unfolding numberAt val

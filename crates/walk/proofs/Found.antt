@@ -13,7 +13,7 @@ use Rattle.kinds.specs.Kinds.{isKnown, mayStand}
 use Rattle.format.specs.Forest.{Forest, end, known, unknown, count, nodes, encode, header}
 use Rattle.format.specs.Rows.{nodeRow, rows}
 use Rattle.format.specs.Layout.{GoodBody, Fits, WellFormed, Placed}
-use Rattle.format.proofs.Rows.{length-rows}
+use Rattle.format.proofs.Rows.{length-rows, rows-unknown, rows-known}
 use Rattle.walk.specs.Walk.{Walked, behind, nodeAt, childrenAt}
 use Rattle.walk.proofs.Lists.{list-over, list-done, list-next, list-first}
 
@@ -49,7 +49,6 @@ module _ (parent : Parent) (above at row : ℕ) (bs : List ℕ) (k s h p c : ℕ
       → ((x : List ℕ) → take s bs ++ x ≡ header k s h p c ++ (rest ++ x))
       → First parent above at row bs (record { number = 0; at = at + s; rows = nodeRow k h above (at + 24) (at + s) p c ∷ [] })
   unknown-first rest u y e f b =
-      let stop : at + s ≡ at + 24 + length rest = omega (arith, e) in
       record {
         before = unknown k h p c rest;
         size = s;
@@ -61,8 +60,7 @@ module _ (parent : Parent) (above at row : ℕ) (bs : List ℕ) (k s h p c : ℕ
         wellFormed = λ next w. (u, subst (λ n. Fits k n h p c) (sym e) fits, y, w);
         placed = λ next w. (stands, w);
         numbered = λ next. omega arith;
-        walked = λ next. rw stop (ap (λ r. nodeRow k h above (at + 24) (at + 24 + length rest) p c ∷ rows next above r (at + 24 + length rest))
-            (omega arith));
+        walked = λ next. rows-unknown k h p next above row at s c rest e;
       }
 
   pub known-first : (body : List ℕ) (kids : Forest) → isKnown k ≡ true → AreBytes body → GoodBody p body → WellFormed kids → Placed (Kind k) kids
@@ -76,7 +74,6 @@ module _ (parent : Parent) (above at row : ℕ) (bs : List ℕ) (k s h p c : ℕ
             (at + 24 + length body);
       })
   known-first body kids u y g w q n e f b =
-      let stop : at + s ≡ at + 24 + length body + length (encode kids) = omega (arith, e) in
       let number : length (rows kids row (suc row) (at + 24 + length body)) ≡ nodes kids = length-rows kids row (suc row) (at + 24 + length body) in
       record {
         before = known k h p body kids;
@@ -89,9 +86,7 @@ module _ (parent : Parent) (above at row : ℕ) (bs : List ℕ) (k s h p c : ℕ
         wellFormed = λ next v. (u, subst (λ i. Fits k i h p (count kids)) (sym e) (subst (λ i. Fits k s h p i) (sym n) fits), y, g, w, v);
         placed = λ next v. (stands, q, v);
         numbered = λ next. omega (arith, number);
-        walked = λ next. rw (stop, number, n)
-            (ap (λ r. nodeRow k h above (at + 24) (at + 24 + length body) p c ∷
-            (rows kids row (suc row) (at + 24 + length body) ++ rows next above r (at + 24 + length body + length (encode kids)))) (omega arith));
+        walked = λ next. rw (← n) (rows-known k h p next above row at s body kids (suc row) refl e);
       }
 
 -- ---- a list, from its first node and the rest

@@ -84,57 +84,47 @@ node-same (suc n) (suc m) parent above depth at row bs l k =
     children-same (node n p a d) (node m p a d) (length x) (λ at row y less. node-same n m p a d at row y (omega arith) (omega arith)) c at row x
     (omega arith))
 
--- the node, with no bound
-pub nodeAt-by : (parent : Parent) (above depth at row : ℕ) (bs : List ℕ) → nodeAt parent above depth at row bs
-    ≡ nodeBy childrenAt parent above depth at row bs
+pub unbounded : Unbounded
 unfolding nodeAt childrenAt node
-nodeAt-by parent above depth at row bs =
+unbounded parent above depth at row bs =
     node-same (length bs) (suc (length bs)) parent above depth at row bs (omega arith) (omega arith)
     ∙ nodeBy-same _ _ parent above depth at row bs
     (λ p a d c at row x short.
     children-same (node (length bs) p a d) (nodeAt p a d) (length x)
     (λ at row y less. node-same (length bs) (length y) p a d at row y (omega arith) (omega arith)) c at row x (omega arith))
 
-pub unbounded : Unbounded
-unbounded = nodeAt-by
-
 pub limited-is : Limited
 unfolding limited
 limited-is s = (λ h. rw (le-ltb 16777216 (length s) h), λ h. rw (lt-ltb 16777216 (length s) h))
 
 -- ---- the cases of a node
-module _ (parent : Parent) (above depth at row : ℕ) (bs : List ℕ) where
-  refused-by : (n : ℕ) (f : Unit {0} → Walked) → (n ≡ 0 → ⊥) → unless n at f ≡ refuse n at
-  refused-by zero f z = absurd (z refl)
-  refused-by (suc n) f z = refl
+unless-refused : (n at : ℕ) (f : Unit {0} → Walked) → (n ≡ 0 → ⊥) → unless n at f ≡ refuse n at
+unless-refused zero at f z = absurd (z refl)
+unless-refused (suc n) at f z = refl
 
+module _ (parent : Parent) (above depth at row : ℕ) (bs : List ℕ) where
   -- refused for its header
   pub node-refused : {n : ℕ} → nodeRefusal (headerAt bs) (length bs) parent row depth ≡ n → (n ≡ 0 → ⊥) → nodeAt parent above depth at row bs
       ≡ refuse n at
   unfolding nodeBy
-  node-refused {n} e z = nodeAt-by parent above depth at row bs ∙ rw e (refused-by n _ z)
+  node-refused {n} e z = unbounded parent above depth at row bs ∙ rw e (unless-refused n at _ z)
 
   module _ (right : nodeRefusal (headerAt bs) (length bs) parent row depth ≡ 0) where
     pub node-unknown : isKnown (headerAt bs .kind) ≡ false → nodeAt parent above depth at row bs ≡ unknownNode (headerAt bs) above at
     unfolding nodeBy
-    node-unknown e = nodeAt-by parent above depth at row bs ∙ rw (right, e)
+    node-unknown e = unbounded parent above depth at row bs ∙ rw (right, e)
 
     pub node-known : isKnown (headerAt bs .kind) ≡ true → nodeAt parent above depth at row bs
         ≡ knownNode childrenAt (headerAt bs) above depth at row (inside (headerAt bs) bs)
     unfolding nodeBy
-    node-known e = nodeAt-by parent above depth at row bs ∙ rw (right, e)
+    node-known e = unbounded parent above depth at row bs ∙ rw (right, e)
 
 -- a known node, refused for its properties, or with its children
 module _ (h : Header) (above depth at row : ℕ) (bs : List ℕ) where
   pub body-refused : {n : ℕ} → properties bs (h .properties) .number ≡ n → (n ≡ 0 → ⊥)
       → knownNode childrenAt h above depth at row bs ≡ refuse n (at + 24 + properties bs (h .properties) .at)
   unfolding knownNode
-  body-refused {n} e z = rw e (by n _ z)
-    where
-      by : (n : ℕ) (f : Unit {0} → Walked) → (n ≡ 0 → ⊥) → unless n (at + 24 + properties bs (h .properties) .at) f
-          ≡ refuse n (at + 24 + properties bs (h .properties) .at)
-      by zero f z = absurd (z refl)
-      by (suc n) f z = refl
+  body-refused {n} e z = rw e (unless-refused n _ _ z)
 
   pub body-passed : properties bs (h .properties) .number ≡ 0
       → knownNode childrenAt h above depth at row bs

@@ -1,8 +1,9 @@
 -- What the bytes of a well-formed list of nodes walk to: the list, or a refusal for its kinds or number.
-use Prim.Native.Nat.{ℕ, suc, _+_, _-_, _≤_, _<_, _/_, _%_, _^_}
+use Prim.Native.Nat.{ℕ, suc, _+_, _-_, _/_, _%_, _^_, _≤_, _<_}
 use native.Mathlib.Omega.{arith}
 use mathlib.Core.Path.{_≡_, refl, ap, sym, _∙_}
-use mathlib.Core.Bool.{true, cond, not, true≢false, false}
+use mathlib.Core.Logic.{_⊎_, inl, inr}
+use mathlib.Core.Bool.{true, false, cond, not, true≢false}
 use mathlib.Core.List.{List, _++_}
 use lib.Dec.{leb}
 use lib.ListN.{length, drop}
@@ -11,18 +12,16 @@ use Rattle.le.proofs.Tests.{by-test}
 use Rattle.kinds.specs.declared.Parent.{Parent}
 use Rattle.kinds.specs.declared.Parent.the-variants.{None, Kind}
 use Rattle.kinds.specs.Kinds.{isKnown, mayStand}
+use Rattle.kinds.proofs.Levels.{level, level-bounds, deeper}
 use Rattle.table.specs.declared.Row.{Row}
 use Rattle.format.specs.Forest.{Forest, count, nodes, encode, header}
 use Rattle.format.specs.Rows.{rows}
 use Rattle.format.specs.Layout.{Placed, Fits}
+use Rattle.format.proofs.Headers.{header-kind, header-size, header-low, header-high, header-properties, header-children}
+use Rattle.walk.specs.declared.Header.{Header}
 use Rattle.walk.specs.Walk.{Walked, behind, nodeAt, childrenAt, headerAt, nodeRefusal, tooMany}
 use Rattle.walk.proofs.Laws.{node-refused}
 use Rattle.walk.proofs.Lists.{list-next, list-refused}
-use mathlib.Core.Logic.{_⊎_, inl, inr}
-use Rattle.kinds.proofs.Levels.{level, level-bounds, deeper}
-use Rattle.body.specs.Body.{properties}
-use Rattle.format.proofs.Headers.{header-kind, header-size, header-low, header-high, header-properties, header-children}
-use Rattle.walk.specs.declared.Header.{Header}
 
 -- ---- how deep the rule of kinds lets a child lie
 abbrev pub Shallow : Parent → ℕ → Type 0

@@ -8,9 +8,9 @@ use mathlib.Core.List.{List, [], _∷_, _++_, append-assoc}
 use lib.Dec.{leb, eqb}
 use lib.ListN.{length, take, drop, take-append-drop, length-take, length-drop, length-append}
 use lib.Seq.{take-append-add}
-use borrow.Author.Tests.{leb-true, eqb-true}
+use borrow.Author.Tests.{eqb-true}
 use Rattle.le.specs.Le.{numberAt, AreBytes}
-use Rattle.le.proofs.Laws.{bytes-take, bytes-drop, numberAt-lt}
+use Rattle.le.proofs.Laws.{bytes-take, bytes-drop, numberAt-lt, numberAt-short, numberAt-high}
 use Rattle.le.proofs.Tests.{by-test}
 use Rattle.kinds.specs.declared.Parent.{Parent}
 use Rattle.kinds.specs.declared.Parent.the-variants.{None, Kind}
@@ -21,7 +21,7 @@ use Rattle.body.specs.Body.{properties}
 use Rattle.format.specs.Forest.{encode, header, fileHeader, fileOf}
 use Rattle.format.specs.Rows.{nodeRow, rows}
 use Rattle.format.specs.Layout.{Fits}
-use Rattle.format.proofs.Headers.{length-header, header-of, header-fits, low-half, high-half, fileHeader-of}
+use Rattle.format.proofs.Headers.{length-header, header-of, header-fits, fileHeader-of}
 use Rattle.format.proofs.Bodies.{body-sound}
 use Rattle.body.proofs.Places.{properties-end}
 use Rattle.walk.specs.declared.Header.{Header}
@@ -29,6 +29,8 @@ use Rattle.walk.specs.Walk.{Walked, refuse, behind, knownNode, inside, n
 use Rattle.walk.specs.Statements.{Sound}
 use Rattle.walk.proofs.Laws.{node-refused, node-unknown, node-known, body-refused, body-passed}
 use Rattle.walk.proofs.Cases.{Right, passes}
+use Rattle.walk.proofs.Nodes.{length-inside}
+use Rattle.walk.proofs.Whole.{header-there}
 use Rattle.walk.proofs.Found.{Nodes, First, unknown-first, known-first, NodeSound, list-sound}
 
 -- ---- a node
@@ -49,7 +51,7 @@ module _ (bs : List ℕ) (y : AreBytes bs) where
   row-of : (above start stop : ℕ) → rowOf (headerAt bs) above start stop
       ≡ nodeRow (headerAt bs .kind) (numberAt 8 bs 8) above start stop (headerAt bs .properties) (headerAt bs .children)
   unfolding headerAt
-  row-of above start stop = rw (low-half bs 8 y, high-half bs 8 y)
+  row-of above start stop = rw (numberAt-short 4 4 bs 8 y, numberAt-high 4 4 bs 8 y)
 
   module _ (room : 24 ≤ length bs) where
     of-widths : Fits (headerAt bs .kind) (headerAt bs .size) (numberAt 8 bs 8) (headerAt bs .properties) (headerAt bs .children)
@@ -92,7 +94,7 @@ module _ (parent : Parent) (above depth at row : ℕ) (bs : List ℕ) (y : AreBy
     room = omega (arith, r .own, r .within)
 
     rest-size : 24 + length x ≡ h .size
-    rest-size = simp (length-take, length-drop) (omega (arith, r .own, r .within))
+    rest-size = omega (arith, length-inside h bs (r .within), r .own)
 
     unknown-sound : isKnown (h .kind) ≡ false → First parent above at row bs (nodeAt parent above depth at row bs)
     unknown-sound u =
@@ -176,7 +178,7 @@ sound s y e =
     let w = childrenAt None noParent 1 roots 16 0 (drop 16 s) in
     let right-file = file-right (isCast s) (eqb (numberAt 4 s 4) 1) w e in
     let cast = and-eq-true-iff (leb 16 (length s)) (eqb (numberAt 4 s 0) 0x74736163) .0 (right-file .0) in
-    let room : 16 ≤ length s = leb-true 16 (length s) (cast .0) in
+    let room : 16 ≤ length s = header-there s (right-file .0) in
     let walk : walkOf s ≡ w = rw (right-file .0, right-file .1) in
     let all = list-sound (length s) (node-sound (length s)) None noParent 1 roots 16 0 (drop 16 s) (omega (arith, length-drop 16 s))
     (bytes-drop 16 s y) (omega arith) (sym (ap (λ v. v .number) walk) ∙ e) in

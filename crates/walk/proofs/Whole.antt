@@ -14,7 +14,7 @@ use Rattle.kinds.specs.declared.Parent.the-variants.{None}
 use Rattle.table.specs.Table.{noParent, putRows}
 use Rattle.walk.specs.declared.Answer.{Answer}
 use Rattle.walk.specs.declared.Reached.{Reached}
-use Rattle.walk.specs.Walk.{Walked, refuse, isCast, walkOf, limited, flagsOf, refusedWith, answerBy, answerOf, answer, tableAfter, childrenAt}
+use Rattle.walk.specs.Walk.{Walked, refuse, isCast, walkOf, limited, flagsOf, refusedWith, answerBy, answer, tableAfter, childrenAt}
 use Rattle.walk.specs.Contract.{Came}
 use Rattle.walk.proofs.Laws.{limited-is}
 
@@ -32,7 +32,7 @@ module _ (s t : List ℕ) where
 
   -- refused before its first node
   at-once : (n place : ℕ) {r : Answer} → limited s ≡ refuse (suc n) place → r ≡ refusedWith (suc n) place → Ends r t
-  unfolding answerOf putRows
+  unfolding answer putRows
   at-once n place e a = rw e (a, refl, omega arith)
 
   pub too-long : 16777216 < length s → {r : Answer} → r ≡ refusedWith 2 0 → Ends r t
@@ -62,7 +62,7 @@ module _ (s t : List ℕ) where
         is = walked (rw (cast, eq-eqb _ _ version, counted, rest-drop s 16))
 
         by-nodes : {a : Answer} → a ≡ answerBy (r .number) s w → Ends a t′
-        unfolding answerOf
+        unfolding answer
         by-nodes e = rw is (e ∙ ap (λ n. answerBy n s w) (c .number), c .table, omega (arith, c .rows, c .few))
 
         pub nodes-refused : (r .number ≡ 0 → ⊥) → {a : Answer} → a ≡ refusedWith (r .number) (r .at) → Ends a t′

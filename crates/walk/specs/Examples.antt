@@ -14,15 +14,15 @@ use Rattle.table.specs.declared.Row.{Row}
 use Rattle.table.specs.Table.{noParent}
 use Rattle.format.specs.Forest.{header, fileHeader}
 use Rattle.walk.specs.declared.Answer.{Answer}
-use Rattle.walk.specs.Walk.{Walked, refuse, headerAt, nodeRefusal, andThen, children, knownNode, nodeBy, node, nodeAt, childrenAt, walkOf, limited, answerOf}
+use Rattle.walk.specs.Walk.{Walked, refuse, headerAt, nodeRefusal, andThen, children, knownNode, nodeBy, node, nodeAt, childrenAt, walkOf, limited, answer}
 
 unfoldable walk : List ℕ → Walked
 unfolding val numberAt bytesOk lines lineIn lineOf isKnown standsAtTop standsUnder mayStand headerRefusal dataRefusal toZero dataOf nameAt stepAt pass properties headerAt nodeRefusal andThen children knownNode nodeBy node nodeAt childrenAt walkOf limited
 walk s = limited s
 
-unfoldable answer : List ℕ → Answer
-unfolding walk answerOf
-answer s = answerOf s (walk s)
+unfoldable answered : List ℕ → Answer
+unfolding walk answer
+answered s = answer s
 
 -- a file of so many roots, and a node's header alone; hashes and flags are 0
 unfoldable cast : ℕ → List ℕ → List ℕ
@@ -34,9 +34,9 @@ unfolding le header
 head kind size properties children = header kind size 0 properties children
 
 -- E1 and E2; E9, and the first four bytes wrong
-headers : (answer (cast 0 []) ≡ record { number = 0; place = 0; nodes = 0; flags = 0 }) × (walk [] ≡ refuse 3 0)
+headers : (answered (cast 0 []) ≡ record { number = 0; place = 0; nodes = 0; flags = 0 }) × (walk [] ≡ refuse 3 0)
     × (walk (0x63 ∷ 0x61 ∷ 0x73 ∷ 0x74 ∷ 2 ∷ replicate 11 0) ≡ refuse 4 4) × (walk (0x63 ∷ 0x61 ∷ 0x73 ∷ 0x75 ∷ 1 ∷ replicate 11 0) ≡ refuse 3 0)
-unfolding answer walk cast
+unfolding answered walk cast
 headers = (refl, refl, refl, refl)
 
 -- the row of a first root without properties
@@ -44,9 +44,9 @@ abbrev rootRow : ℕ → Row
 rootRow children = record { kind = root; low = 0; high = 0; parent = noParent; start = 40; end = 40; properties = 0; children = children }
 
 -- E3
-bare : (answer (cast 1 (head root 24 0 0)) ≡ record { number = 0; place = 0; nodes = 1; flags = 0 })
+bare : (answered (cast 1 (head root 24 0 0)) ≡ record { number = 0; place = 0; nodes = 1; flags = 0 })
     × (walk (cast 1 (head root 24 0 0)) .rows ≡ rootRow 0 ∷ [])
-unfolding answer walk cast head
+unfolding answered walk cast head
 bare = (refl, refl)
 
 -- E4 to E8; in E5 and E6 the root's row was put
@@ -85,12 +85,12 @@ believed = refl
 one : ℕ → List ℕ
 one code = code ∷ 0 ∷ 1 ∷ 0 ∷ 1 ∷ 0 ∷ 0 ∷ 0 ∷ 97 ∷ 5 ∷ []
 
-bodies : map answer
+bodies : map answered
     (cast 1 (head root 34 1 0 ++ one 0x62) ∷ cast 1 (head root 34 1 0 ++ one 0x61) ∷
     cast 1 (head root 33 1 0 ++ one 0x62) ∷ cast 1 (head root 24 65 0) ∷ []) ≡
     record { number = 0; place = 0; nodes = 1; flags = 0 } ∷ record { number = 11; place = 40; nodes = 0; flags = 0 } ∷
     record { number = 10; place = 40; nodes = 0; flags = 0 } ∷ record { number = 9; place = 16; nodes = 0; flags = 0 } ∷ []
-unfolding answer walk cast head one
+unfolding answered walk cast head one
 bodies = refl
 
 -- the order 5, 6, 7, 8, 9, each refused also for the next: of kind, size, property count, room, parent, row and depth

@@ -178,11 +178,8 @@ abbrev pub answerBy : ℕ → List ℕ → Walked → Answer
 answerBy zero s w = record { number = 0; place = 0; nodes = length (w .rows); flags = flagsOf s }
 answerBy (suc n) s w = refusedWith (suc n) (w .at)
 
-unfoldable pub answerOf : List ℕ → Walked → Answer
-answerOf s w = answerBy (w .number) s w
-
-abbrev pub answer : List ℕ → Answer
-answer s = answerOf s (limited s)
+unfoldable pub answer : List ℕ → Answer
+answer s = answerBy (limited s .number) s (limited s)
 
 -- the table at exit, accepted or refused: the rows of the nodes whose body's end was found
 abbrev pub tableAfter : List ℕ → List ℕ → List ℕ
