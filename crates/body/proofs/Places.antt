@@ -6,13 +6,15 @@ use Prim.Native.Nat.{ℕ, zero, suc, _<_, _≤_}
 use native.Mathlib.Omega.{arith}
 use native.Mathlib.Nat.{zero-add}
 use lib.Dec.{ltb}
-use lib.ListN.{length, getD, take, drop, replicate, length-append, List·getD-append}
-use lib.Seq.{sets-eq, take-append-le, take-append-seam, getD-append-seam}
-use borrow.Author.Tests.{ltb-false}
+use lib.ListN.{length, getD, take, drop, replicate, length-append, List·getD-append, List·getD-eq-default}
+use lib.Seq.{sets-eq, length-sets, take-append-le, take-append-seam, getD-append-seam}
+use borrow.Author.Tests.{ltb-true, ltb-false}
+use Rattle.le.proofs.Tests.{by-test}
 use Rattle.props.specs.declared.Step.{Step}
 use Rattle.props.specs.declared.Step.the-variants.{Past, Refused}
 use Rattle.props.specs.Step.{stepAt, dataAt}
 use Rattle.props.proofs.Within.{StepWithin, within}
+use Rattle.body.specs.declared.Index.{Index}
 use Rattle.body.specs.Body.{Walked, stop, byStep, pass, properties, places, indexOf}
 
 module _ (s : List ℕ) where
@@ -89,6 +91,14 @@ module _ (s : List ℕ) where
   pub properties-data : (k j : ℕ) → j < length (properties s k .starts) → dataAt s (getD (properties s k .starts) j 0) ≤ getD (places (properties s k)) (suc j) 0
   properties-data k j = by-count (λ w. j < length (w .starts) → dataAt s (getD (w .starts) j 0) ≤ getD (places w) (suc j) 0) k (λ h. absurd (omega (arith, h))) (λ h. pass-data k 0 j)
 
+-- each property starts in the body
+pub starts-within : (s : List ℕ) (k i : ℕ) → getD (properties s k .starts) i 0 ≤ length s
+starts-within s k i =
+    let w = properties s k in
+    by-test (ltb i (length (w .starts)))
+    (λ t. subst (λ at. at ≤ length s) (List·getD-append (w .starts) (w .at ∷ []) 0 i (ltb-true i _ t)) (properties-places s k i))
+    (λ t. rw (List·getD-eq-default (w .starts) 0 {n = i} (ltb-false i _ t)) (omega arith))
+
 -- ---- the index of a walk over at most 64 properties
 module _ (w : Walked) (few : length (w .starts) ≤ 64) where
   long : length (places w) ≤ 65
@@ -107,3 +117,13 @@ module _ (w : Walked) (few : length (w .starts) ≤ 64) where
       ap (take (length (w .starts))) array
       ∙ take-append-le (length (w .starts)) (places w) (drop (length (places w)) (replicate 65 0)) (omega (arith, length-append (w .starts) (w .at ∷ [])))
       ∙ take-append-seam (w .starts) (w .at ∷ [])
+
+-- what the index answers of the properties of a body
+module _ (s : List ℕ) (k : ℕ) {r : Index} (e : r ≡ indexOf (properties s k)) where
+  pub starts-taken : take (r .count) (r .starts) ≡ properties s k .starts
+  starts-taken = ap (λ r. take (r .count) (r .starts)) e ∙ index-starts (properties s k) (properties-few s k)
+
+  pub starts-room : r .count ≤ 64 → r .count ≤ length (r .starts)
+  starts-room h =
+      let long : length (r .starts) ≡ 65 = ap (λ r. length (r .starts)) e ∙ length-sets (replicate 65 0) 0 (places (properties s k)) in
+      omega (arith, h, long)

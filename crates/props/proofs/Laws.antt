@@ -8,7 +8,7 @@ use native.Mathlib.Numerals.{add-one}
 use native.Mathlib.Omega.{arith}
 use lib.Dec.{leb, eqb, ltb, leb·zero, leb·suc-suc}
 use lib.ListN.{length, getD, take, drop, drop-of-length-le, length-drop}
-use lib.Seq.{drop-cons, take-all, take-nil}
+use lib.Seq.{drop-cons, drop-length, take-all, take-nil}
 use borrow.Author.Tests.{eq-eqb, ne-eqb, ltb-true, ltb-false, lt-ltb, le-ltb}
 use Rattle.le.proofs.Tests.{by-test}
 use Rattle.props.specs.Step.{toZero, sizeAt, nameAt, startAt, dataAt}
@@ -65,6 +65,16 @@ module _ (s : List ℕ) (at : ℕ) where
   pub data-past : length s < startAt s at → dataAt s at ≡ length s
   unfolding dataAt
   data-past h = rw (lt-ltb _ _ h)
+
+  -- what follows is the same from the data's start on, also where that is past the end
+  pub drop-dataAt : drop (dataAt s at) s ≡ drop (startAt s at) s
+  drop-dataAt =
+      by-test
+      (ltb (length s) (startAt s at))
+      (λ e.
+      let short : length s < startAt s at = ltb-true _ _ e in
+      rw (data-past short, drop-length s) (sym (drop-of-length-le s {i = startAt s at} (omega (arith, short)))))
+      (λ e. rw (data-here (ltb-false _ _ e)))
 
   -- the part from a name's start to the data's is the name
   pub name-none : dataAt s at < at + 8 → [] ≡ nameAt s at

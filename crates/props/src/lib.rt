@@ -4,7 +4,7 @@ ghost use Prim.Native.Nat.{_+_, _≤_, _<_};
 ghost use lib.Dec.{leb};
 ghost use lib.ListN.{length, drop};
 ghost use Rattle.props.specs.Types.{sizeOf, noSuch};
-ghost use Rattle.props.specs.Step.{headerRefusal, dataRefusal, toZero, dataOf, stepAt, dataAt, nameAt};
+ghost use Rattle.props.specs.Step.{headerRefusal, dataRefusal, toZero, dataOf, stepAt, codeAt, lengthAt, nameAt, startAt, dataAt};
 
 // The size of one element, by type code. A string's size is found in its data.
 pub enum Size {
@@ -242,4 +242,29 @@ pub fn name_at(body: &[u8], at: usize) -> &[u8]
     }
     let start = at + 8;
     &body[start..data]
+}
+
+// The type code of the property at a place.
+pub fn code_at(body: &[u8], at: usize) -> u16
+    ensures { λ r. ⌜ r ≡ codeAt (now (body .entry)) at ⌝ }
+{
+    le::u16_at(body, at)
+}
+
+// The array length of the property at a place.
+pub fn length_at(body: &[u8], at: usize) -> u32
+    ensures { λ r. ⌜ r ≡ lengthAt (now (body .entry)) at ⌝ }
+{
+    if body.len() < at {
+        return 0;
+    }
+    le::u32_at(&body[at..], 4)
+}
+
+// The data of the property at a place, and all that follows it.
+pub fn rest_at(body: &[u8], at: usize) -> &[u8]
+    ensures { λ r. ⌜ now r ≡ drop (startAt (now (body .entry)) at) (now (body .entry)) ⌝ }
+{
+    let start = data_at(body, at);
+    &body[start..]
 }

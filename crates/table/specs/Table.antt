@@ -1,6 +1,6 @@
 -- Document 01's table: "One row of eight u32 per node, in the file order of their headers: kind, hash low, hash high,
 -- parent row (0xFFFFFFFF for none), body start, body end, property count, child count." The layout is known here alone.
-use Prim.Native.Nat.{ℕ, suc, _+_, _-_, _*_}
+use Prim.Native.Nat.{ℕ, zero, suc, _+_, _-_, _*_}
 use mathlib.Core.Bool.{Bool, cond}
 use mathlib.Core.List.{List, [], _∷_, _++_}
 use lib.Dec.{leb}
@@ -41,6 +41,11 @@ blank = rowFrom [] 0
 -- a row of the table; one of zeros where it does not lie wholly in it
 unfoldable pub rowAt : List ℕ → ℕ → Row
 rowAt t k = cond (hasRow t k) (rowFrom t (k * 8)) blank
+
+-- so many rows of the table, from row k on
+unfoldable pub rowsAt : List ℕ → (k n : ℕ) → List Row
+rowsAt t k zero = []
+rowsAt t k (suc n) = rowAt t k ∷ rowsAt t (suc k) n
 
 -- the table with one row put; the same table where the row does not lie wholly in it
 unfoldable pub withRow : List ℕ → ℕ → Row → List ℕ

@@ -1,0 +1,113 @@
+-- What one property breaks: the number of a bone by comparisons of the unsigned number, and the faces that count.
+use Prim.Native.Nat.{ℕ, zero, suc, _+_, _-_, _/_, _%_, _≤_, _<_}
+use native.Mathlib.Omega.{arith}
+use mathlib.Core.Path.{_≡_, refl, sym, ap, _∙_}
+use mathlib.Core.Bool.{Bool, true, false, cond, _&&_, _||_}
+use mathlib.Core.List.{List, [], _∷_}
+use lib.Dec.{eqb, ltb}
+use lib.IntN.{negsuc}
+use lib.ListN.{length}
+use borrow.Author.Tests.{eq-eqb, ne-eqb, eqb-true, eqb-false, ltb-true}
+use Rattle.le.specs.Le.{AreBytes}
+use Rattle.le.proofs.Laws.{numberAt-lt}
+use Rattle.le.proofs.Tests.{by-test}
+use Rattle.props.specs.Step.{codeAt, lengthAt}
+use Rattle.faces.specs.declared.Face.{Face}
+use Rattle.faces.specs.declared.Values.{Values}
+use Rattle.faces.specs.declared.Values.the-variants.{Below, Past}
+use Rattle.faces.specs.declared.Scanned.{Scanned}
+use Rattle.faces.specs.Faces.{widthOf, facesIn, below, isDegenerate, degenerate, countedBy, scanOf}
+use Rattle.faces.proofs.Laws.{length-facesIn}
+use Rattle.rules.specs.declared.Line.{Line}
+use Rattle.judge.specs.declared.Beside.{Beside}
+use Rattle.judge.specs.declared.Fault.{Fault}
+use Rattle.judge.specs.declared.Fault.the-variants.{Right, Whole, Element}
+use Rattle.judge.specs.declared.Kept.{Kept}
+use Rattle.judge.specs.Properties.{restAt}
+use Rattle.judge.specs.Judge.{signed, parentOk, byValues, facesAt, faceFault, faultOf}
+use Rattle.judge.specs.Contract.{keptBy, keptAt}
+
+-- ---- the number of a bone
+below-none : (n bones : ℕ) → (n ≡ 0 → ⊥) → false ≡ parentOk (negsuc n) bones
+below-none zero bones h = absurd (h refl)
+below-none (suc n) bones h = refl
+
+pub parent : (p bones : ℕ) → p ≤ 0xFFFF_FFFF → (eqb p 0xFFFF_FFFF || (ltb p 0x8000_0000 && ltb p bones)) ≡ parentOk (signed p) bones
+parent p bones h =
+    by-test (ltb p 0x8000_0000)
+    (λ t. rw (t, ne-eqb p 0xFFFF_FFFF (λ e. absurd (omega (arith, ltb-true p 0x8000_0000 t, e)))))
+    (λ t.
+    by-test (eqb p 0xFFFF_FFFF)
+    (λ u. rw (eqb-true p 0xFFFF_FFFF u))
+    (λ u. rw (t, u) (below-none (0xFFFF_FFFF - p) bones (λ e. eqb-false p 0xFFFF_FFFF u (omega (arith, e, h))))))
+
+-- ---- faces
+-- what is kept of a scan
+abbrev pub keptOf : Values → Scanned → Kept
+keptOf Below r = record { fault = Right; faces = r .faces .0; degenerate = r .degenerate }
+keptOf (Past k) r = record { fault = Element k; faces = 0; degenerate = 0 }
+
+counted-values : (v : Values) (fs : List Face) → countedBy v fs .values ≡ v
+counted-values Below fs = refl
+counted-values (Past k) fs = refl
+
+counted-kept : (v : Values) (fs : List Face) → keptOf v (countedBy v fs) ≡ keptBy (byValues v) fs
+counted-kept Below fs = refl
+counted-kept (Past k) fs = refl
+
+scan-kept : (limit : ℕ) (fs : List Face) {r : Scanned} → r ≡ scanOf limit fs → keptOf (r .values) r ≡ keptBy (byValues (below limit 0 fs)) fs
+unfolding scanOf
+scan-kept limit fs e =
+    ap (λ r. keptOf (r .values) r) e
+    ∙ ap (λ v. keptOf v (countedBy (below limit 0 fs) fs)) (counted-values (below limit 0 fs) fs)
+    ∙ counted-kept (below limit 0 fs) fs
+
+module _ (s : List ℕ) (at limit : ℕ) {n : ℕ} (e : n ≡ lengthAt s at) where
+  pub faces-cut : (n % 3 ≡ 0 → ⊥) → record { fault = Whole; faces = 0; degenerate = 0 } ≡ keptBy (faceFault s at limit) (facesAt s at)
+  faces-cut m = rw (← e, ne-eqb _ _ m)
+
+  pub faces-kept : n % 3 ≡ 0 → {code : ℕ} → code ≡ codeAt s at → {rest : List ℕ} → rest ≡ restAt s at →
+      {r : Scanned} → r ≡ scanOf limit (facesIn (widthOf code) (n / 3) rest) → {v : Values} → r .values ≡ v →
+      keptOf v r ≡ keptBy (faceFault s at limit) (facesAt s at)
+  faces-kept m c d q u = rw (eq-eqb _ 0 (ap (λ n. n % 3) (sym e) ∙ m), ← u) (scan-kept limit (facesAt s at) (q ∙ rw (c, e, d)))
+
+-- ---- what a property counts
+degenerate-most : (fs : List Face) → degenerate fs ≤ length fs
+unfolding degenerate
+degenerate-most [] = omega arith
+degenerate-most (f ∷ fs) = by (isDegenerate f) (degenerate-most fs)
+  where
+    by : (b : Bool) {n : ℕ} → n ≤ length fs → cond b (suc n) n ≤ suc (length fs)
+    by true h = omega (arith, h)
+    by false h = omega (arith, h)
+
+kept-few : (f : Fault) (fs : List Face) → (keptBy f fs .faces ≤ length fs) × (keptBy f fs .degenerate ≤ length fs)
+kept-few Right fs = (omega arith, degenerate-most fs)
+kept-few Whole fs = (omega arith, omega arith)
+kept-few (Element k) fs = (omega arith, omega arith)
+
+faces-few : (s : List ℕ) (at : ℕ) → AreBytes s → length (facesAt s at) < 4294967296
+faces-few s at h =
+    let n : length (facesAt s at) ≡ lengthAt s at / 3 = length-facesIn (widthOf (codeAt s at)) (lengthAt s at / 3) (restAt s at) in
+    omega (arith, n, numberAt-lt 4 s (at + 4) h)
+
+-- a property that is held to be faces, and any other
+module _ (l : Line) (s : List ℕ) (at : ℕ) (b : Beside) where
+  pub held-faces : l .held ≡ 5 → AreBytes s → {r : Kept} → r ≡ keptBy (faceFault s at (b .vertices)) (facesAt s at) →
+      (r ≡ keptAt l s at b) × (r .faces < 4294967296) × (r .degenerate < 4294967296)
+  unfolding keptAt faultOf
+  held-faces e h k =
+      let few = kept-few (faceFault s at (b .vertices)) (facesAt s at) in
+      let less = faces-few s at h in
+      (rw e k, rw k (omega (arith, few, less)), rw k (omega (arith, few, less)))
+
+  no-faces : (f : Fault) → record { fault = f; faces = 0; degenerate = 0 } ≡ keptBy f []
+  unfolding degenerate
+  no-faces Right = refl
+  no-faces Whole = refl
+  no-faces (Element k) = refl
+
+  pub held-other : (l .held ≡ 5 → ⊥) → {f : Fault} → f ≡ faultOf l s at b → {r : Kept} → r ≡ record { fault = f; faces = 0; degenerate = 0 } →
+      (r ≡ keptAt l s at b) × (r .faces < 4294967296) × (r .degenerate < 4294967296)
+  unfolding keptAt
+  held-other n e k = (k ∙ rw (e, ne-eqb (l .held) 5 n) (no-faces (faultOf l s at b)), rw k (omega arith), rw k (omega arith))

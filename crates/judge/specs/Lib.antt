@@ -1,0 +1,4 @@
+pub mod Properties
+pub mod Judge
+pub mod Contract
+pub mod Examples

@@ -1,0 +1,82 @@
+-- The line of a kind and name, what it says of a type and a length, and the strings of a set.
+use Prim.Native.Nat.{ℕ, suc, _+_, _-_}
+use mathlib.Core.Bool.{Bool, true, false, cond, not, _&&_, _||_}
+use mathlib.Core.List.{List, [], _∷_}
+use lib.Dec.{eqb}
+use lib.ListN.{length, take, drop, getD}
+use Rattle.names.specs.Names.{same}
+use Rattle.names.specs.Names.{numbered as numberIn}
+use Rattle.names.specs.declared.Numeral.{Numeral}
+use Rattle.names.specs.declared.Numeral.the-variants.{Is, Not}
+use Rattle.rules.specs.declared.Line.{Line}
+use Rattle.rules.specs.declared.Span.{Span}
+use Rattle.rules.specs.declared.Text.{Text}
+use Rattle.rules.specs.Table.{byte, short, int, float, v4, N, keyType, anyType, numbered, single, lines, free, nameOf, texts, stringOf}
+
+-- "`N` any of `b h i`"
+abbrev pub isN : ℕ → Bool
+isN code = (eqb code byte || eqb code short) || eqb code int
+
+-- the types of a line have a type
+abbrev pub takes : (types code : ℕ) → Bool
+takes types code =
+    cond (eqb types N) (isN code)
+    (cond (eqb types keyType) ((isN code || eqb code float) || eqb code v4)
+    (cond (eqb types anyType) true (eqb types code)))
+
+-- "listed name with another type or length", for 13: "`[]` array of any length (else length 1)"
+abbrev pub misfits : Line → (code elements : ℕ) → Bool
+misfits l code elements = not (takes (l .types) code) || (eqb (l .array) single && not (eqb elements 1))
+
+abbrev pub isNumber : Numeral → Bool
+isNumber (Is n) = true
+isNumber Not = false
+
+-- the line has the name: as it stands, or "`%d`" after it
+unfoldable pub lists : Line → List ℕ → Bool
+lists l name = cond (eqb (l .numbered) numbered) (isNumber (numberIn name (nameOf l))) (same name (nameOf l))
+
+-- ---- the line of a kind and name, among some
+unfoldable pub ruleIn : List Line → (kind : ℕ) (name : List ℕ) → Line
+ruleIn [] kind name = free
+ruleIn (l ∷ ls) kind name = cond (eqb (l .kind) kind && lists l name) l (ruleIn ls kind name)
+
+unfoldable pub ruleOf : (kind : ℕ) (name : List ℕ) → Line
+ruleOf kind name = ruleIn lines kind name
+
+-- ---- the same by places: a kind's lines stand together
+
+-- how many lines come before the first of a kind
+unfoldable pub before : List Line → ℕ → ℕ
+before [] kind = 0
+before (l ∷ ls) kind = cond (eqb (l .kind) kind) 0 (suc (before ls kind))
+
+-- how many lines of a kind come first
+unfoldable pub run : List Line → ℕ → ℕ
+run [] kind = 0
+run (l ∷ ls) kind = cond (eqb (l .kind) kind) (suc (run ls kind)) 0
+
+unfoldable pub spanOf : ℕ → Span
+spanOf kind = record { from = before lines kind; to = before lines kind + run (drop (before lines kind) lines) kind }
+
+-- the place of the first of some lines, the first of which is at i, that has the name; 81 where none has
+unfoldable pub place : ℕ → List Line → List ℕ → ℕ
+place i [] name = 81
+place i (l ∷ ls) name = cond (lists l name) i (place (suc i) ls name)
+
+unfoldable pub findIn : Span → List ℕ → ℕ
+findIn span name = place (span .from) (take (span .to - span .from) (drop (span .from) lines)) name
+
+-- ---- strings
+
+-- a string stands at the start of some bytes: its letters, and then a zero
+unfoldable pub isText : (bytes string : List ℕ) → Bool
+isText bytes string = same (take (length string) bytes) string && eqb (getD bytes (length string) 1) 0
+
+-- the string at the start of some bytes is of a set
+unfoldable pub inSet : List Text → (set : ℕ) → List ℕ → Bool
+inSet [] set bytes = false
+inSet (t ∷ ts) set bytes = (eqb (t .set) set && isText bytes (stringOf t)) || inSet ts set bytes
+
+unfoldable pub isOneOf : (set : ℕ) → List ℕ → Bool
+isOneOf set bytes = inSet texts set bytes
