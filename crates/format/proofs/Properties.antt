@@ -26,23 +26,23 @@ length-property p = omega (arith, length-append (p .name) (p .content))
 
 -- ---- a good property is passed: its parts, read again
 module _ (p : Property) (pre more : List ℕ) (good : GoodProperty p) where
-  code-read : numberAt 2 (propertyBytes p ++ more) 0 ≡ p .code
+  pub code-read : numberAt 2 (propertyBytes p ++ more) 0 ≡ p .code
   unfolding propertyBytes le numberAt
   code-read = val-le 2 (p .code) (good .0)
 
-  size-read : numberAt 2 (propertyBytes p ++ more) 2 ≡ length (p .name)
+  pub size-read : numberAt 2 (propertyBytes p ++ more) 2 ≡ length (p .name)
   unfolding propertyBytes le numberAt
   size-read = val-le 2 (length (p .name)) (omega (arith, good .2 .1))
 
-  elements-read : numberAt 4 (propertyBytes p ++ more) 4 ≡ p .elements
+  pub elements-read : numberAt 4 (propertyBytes p ++ more) 4 ≡ p .elements
   unfolding propertyBytes le numberAt
   elements-read = val-le 4 (p .elements) (good .1)
 
-  name-read : take (length (p .name)) (drop 8 (propertyBytes p ++ more)) ≡ p .name
+  pub name-read : take (length (p .name)) (drop 8 (propertyBytes p ++ more)) ≡ p .name
   unfolding propertyBytes le
   name-read = rw (append-assoc (p .name) (p .content) more) (take-append-seam (p .name) (p .content ++ more))
 
-  content-read : drop (8 + length (p .name)) (propertyBytes p ++ more) ≡ p .content ++ more
+  pub content-read : drop (8 + length (p .name)) (propertyBytes p ++ more) ≡ p .content ++ more
   unfolding propertyBytes le
   content-read =
       sym (drop-drop (length (p .name)) 8 (propertyBytes p ++ more))

@@ -1,7 +1,7 @@
 -- The rows of a forest, and its charges.
-use Prim.Native.Nat.{ℕ, suc, _+_, _-_, _/_, _%_, _^_}
+use Prim.Native.Nat.{ℕ, suc, _+_, _-_, _*_, _/_, _%_, _^_}
 use mathlib.Core.List.{List, [], _∷_, _++_}
-use lib.ListN.{length}
+use lib.ListN.{length, take, drop}
 use Rattle.table.specs.declared.Row.{Row}
 use Rattle.table.specs.Table.{noParent}
 use Rattle.format.specs.Forest.{Forest, end, known, unknown, count, nodes, encode}
@@ -19,6 +19,10 @@ nodeRow kind hash parent start stop properties children = record {
   children = children;
 }
 
+-- a row's hash, all 64 bits of it
+abbrev pub hashOf : Row → ℕ
+hashOf r = r .low + 256 ^ 4 * r .high
+
 -- "One row of eight u32 per node, in the file order of their headers": under a parent's row, the first node's row and the
 -- place of its header given
 abbrev pub rows : Forest → (parent row at : ℕ) → List Row
@@ -34,6 +38,10 @@ rows (unknown k h p c rest next) parent row at =
 -- of a file: the first header comes just behind the file's
 abbrev pub rowsOf : Forest → List Row
 rowsOf f = rows f noParent 0 16
+
+-- document 01's "body": the part of the file's bytes that a row tells of
+abbrev pub bodyOf : (s : List ℕ) → Row → List ℕ
+bodyOf s r = take (r .end - r .start) (drop (r .start) s)
 
 -- document 01's "own bytes" of a node: "24 plus, for a known node, the sizes of its properties, and for an unknown one its
 -- body". A known node's body is its properties, so that either is the body's length.

@@ -1,0 +1,81 @@
+-- The hashes of the four kinds that links reach, counted, tell how many rows a link reaches.
+use Prim.Native.Nat.{ℕ, suc, min}
+use mathlib.Core.Path.{_≡_, refl, ap}
+use mathlib.Core.Bool.{Bool, true, cond, _&&_, _||_, and-eq-true-iff}
+use mathlib.Core.List.{List, [], _∷_}
+use lib.Dec.{eqb}
+use lib.ListN.{length}
+use borrow.Author.Tests.{eq-eqb, eqb-true}
+use Rattle.le.proofs.Tests.{by-test}
+use Rattle.kinds.specs.Kinds.{mesh, bone, material, file}
+use Rattle.table.specs.declared.Row.{Row}
+use Rattle.rules.specs.declared.Line.{Line}
+use Rattle.rules.specs.Table.{linkTo, lines}
+use Rattle.rules.specs.Rules.{lists, ruleIn, ruleOf}
+use Rattle.format.specs.Rows.{hashOf}
+use Rattle.links.specs.Ascending.{hashesOf, occurrences}
+use Rattle.links.specs.Links.{reached}
+use Rattle.links.specs.Contract.{Count, ofKind, countIn}
+
+pub reached-count : (kind hash i : ℕ) (rs : List Row) → length (reached kind hash i rs) ≡ occurrences hash (hashesOf kind rs)
+unfolding reached hashesOf occurrences
+reached-count kind hash i [] = refl
+reached-count kind hash i (r ∷ rs) =
+    by-test
+    (eqb (r .kind) kind)
+    (λ e. by-test
+    (eqb (hashOf r) hash)
+    (λ f. rw (e, f) (ap suc (reached-count kind hash (suc i) rs)))
+    (λ f. rw (e, f) (reached-count kind hash (suc i) rs)))
+    (λ e. rw e (reached-count kind hash (suc i) rs))
+
+-- ---- a link's target is one of the four kinds
+abbrev isTarget : ℕ → Bool
+isTarget kind = eqb kind material || (eqb kind mesh || (eqb kind bone || eqb kind file))
+
+abbrev aims : Line → Bool
+aims l = cond (eqb (l .held) (linkTo 0 .held)) (isTarget (l .target)) true
+
+unfoldable all-aim : List Line → Bool
+all-aim [] = true
+all-aim (l ∷ ls) = aims l && all-aim ls
+
+lines-aim : all-aim lines ≡ true
+unfolding all-aim lines
+lines-aim = refl
+
+module _ (kind : ℕ) (name : List ℕ) where
+  rule-aims : (ls : List Line) → all-aim ls ≡ true → aims (ruleIn ls kind name) ≡ true
+  unfolding ruleIn all-aim
+  rule-aims [] e = refl
+  rule-aims (l ∷ ls) e =
+      let both = and-eq-true-iff (aims l) (all-aim ls) .0 e in
+      by-test (eqb (l .kind) kind && lists l name) (λ t. rw t (both .0)) (λ t. rw t (rule-aims ls (both .1)))
+
+  target : ruleOf kind name .held ≡ linkTo 0 .held → isTarget (ruleOf kind name .target) ≡ true
+  unfolding ruleOf
+  target e = rw (eq-eqb _ _ e) at (rule-aims lines lines-aim)
+
+-- ---- the counts of four lists that have the hashes of the four kinds
+pub record Reaches (count : Count) (rows : List Row) : Type 0 where
+  pub right : (kind : ℕ) (name : List ℕ) (hash : ℕ) → ruleOf kind name .held ≡ linkTo 0 .held
+      → count (ruleOf kind name .target) hash ≡ min (length (reached (ruleOf kind name .target) hash 0 rows)) 2
+
+abbrev Same : List ℕ → (kind : ℕ) → List Row → Type 0
+Same xs kind rows = (x : ℕ) → occurrences x xs ≡ occurrences x (hashesOf kind rows)
+
+module _ (rows : List Row) (m e b f : List ℕ) (sm : Same m material rows) (se : Same e mesh rows) (sb : Same b bone rows)
+    (sf : Same f file rows) where
+  same-kind : (kind : ℕ) → isTarget kind ≡ true → Same (ofKind m e b f kind) kind rows
+  same-kind kind h x =
+      by-test (eqb kind material) (λ t. rw (t, eqb-true kind material t) (sm x))
+      (λ t. by-test (eqb kind mesh) (λ u. rw (t, u, eqb-true kind mesh u) (se x))
+      (λ u. by-test (eqb kind bone) (λ v. rw (t, u, v, eqb-true kind bone v) (sb x))
+      (λ v. rw (t, u, v, eqb-true kind file (rw (t, u, v) at h)) (sf x))))
+
+  pub count-reaches : Reaches (countIn m e b f) rows
+  count-reaches = record {
+    right = λ kind name hash h.
+        let to : ℕ = ruleOf kind name .target in
+        rw (same-kind to (target kind name h) hash, reached-count to hash 0 rows);
+  }

@@ -1,0 +1,126 @@
+-- Links, a property at a time and a row at a time.
+use Prim.Native.Nat.{ℕ, suc, _+_, _-_, _≤_, _<_}
+use native.Mathlib.Omega.{arith}
+use native.Mathlib.Numerals.{add-one}
+use mathlib.Core.Path.{_≡_, ap, _∙_, subst}
+use mathlib.Core.Bool.{true, false}
+use mathlib.Core.List.{List, [], _∷_}
+use lib.Dec.{ltb}
+use lib.ListN.{length, getD, take, drop, replicate, length-take, length-drop, drop-of-length-le, List·getD-append, List·getD-eq-default}
+use lib.Seq.{drop-cons, length-sets}
+use borrow.Author.Tests.{eq-eqb, ne-eqb, ltb-true, ltb-false}
+use Rattle.le.specs.Le.{numberAt}
+use Rattle.le.proofs.Tests.{by-test}
+use Rattle.kinds.specs.Kinds.{isKnown}
+use Rattle.table.specs.declared.Row.{Row}
+use Rattle.table.specs.Table.{rowAt, rowsAt}
+use Rattle.props.specs.Step.{nameAt}
+use Rattle.body.specs.declared.Index.{Index}
+use Rattle.body.specs.Body.{properties, places, indexOf}
+use Rattle.body.proofs.Places.{properties-few, properties-places, index-starts}
+use Rattle.rules.specs.declared.Line.{Line}
+use Rattle.rules.specs.declared.Span.{Span}
+use Rattle.rules.specs.Table.{lineAt}
+use Rattle.rules.specs.Rules.{spanOf, findIn}
+use Rattle.rules.proofs.Found.{found}
+use Rattle.judge.specs.Properties.{ruleAt, restAt}
+use Rattle.format.specs.Rows.{bodyOf}
+use Rattle.links.specs.declared.Linked.{Linked}
+use Rattle.links.specs.Links.{refuse}
+use Rattle.judge.specs.Contract.{Within}
+use Rattle.links.specs.Contract.{Count, byCount, nodeLinked, rowLinked, onBy, rowsLinked}
+
+-- the line of a property, as it is found
+pub ruled : (kind : ℕ) (s : List ℕ) (at : ℕ) {span : Span} {name : List ℕ} {k : ℕ} {l : Line} → span ≡ spanOf kind → name ≡ nameAt s at
+    → k ≡ findIn span name → l ≡ lineAt k → l ≡ ruleAt kind s at
+ruled kind s at e f g h = rw (h, g, f, e) (found kind (nameAt s at))
+
+module _ (count : Count) (kind start : ℕ) (s starts : List ℕ) (n i : ℕ) where
+  abbrev from : (n i : ℕ) → Linked
+  from n i = nodeLinked count kind start s n (drop i starts)
+
+  abbrev at : ℕ
+  at = getD starts i 0
+
+  module _ (h : i < length starts) {l : Line} (e : l ≡ ruleAt kind s at) where
+    pub node-other : (l .held ≡ 9 → ⊥) → from n i ≡ from n (i + 1)
+    unfolding nodeLinked
+    node-other f = rw (add-one, drop-cons starts i 0 h, ← e, ne-eqb (l .held) 9 f)
+
+    module _ (f : l .held ≡ 9) {r hash : ℕ} {bytes : List ℕ} (x : r ≡ count (l .target) hash) (y : hash ≡ numberAt 8 bytes 0)
+        (z : bytes ≡ restAt s at) where
+      abbrev by : ℕ → Linked
+      by k = byCount k (start + at) (from (n + 1) (i + 1))
+
+      linking : from n i ≡ by r
+      unfolding nodeLinked
+      linking = rw (x, y, z, add-one n, add-one i, drop-cons starts i 0 h, ← e, eq-eqb (l .held) 9 f)
+
+      pub node-none : r ≡ 0 → from n i ≡ refuse 16 (start + at)
+      node-none g = linking ∙ ap by g
+
+      pub node-one : r ≡ 1 → from n i ≡ from (n + 1) (i + 1)
+      node-one g = linking ∙ ap by g
+
+      pub node-many : (r ≡ 0 → ⊥) → (r ≡ 1 → ⊥) → from n i ≡ refuse 17 (start + at)
+      node-many g k = let m : r ≡ suc (suc (r - 2)) = omega (arith, g, k) in linking ∙ ap by m
+
+  pub node-ended : length starts ≤ i → from n i ≡ record { number = 0; place = 0; links = n }
+  unfolding nodeLinked
+  node-ended h = rw (drop-of-length-le starts h)
+
+-- ---- a row: the places that its index tells of
+module _ (body : List ℕ) (k : ℕ) {index : Index} (e : index ≡ indexOf (properties body k)) where
+  abbrev starts : List ℕ
+  starts = properties body k .starts
+
+  pub index-room : index .count ≤ length (index .starts)
+  index-room = rw e (omega (arith, properties-few body k, length-sets (replicate 65 0) 0 (places (properties body k))))
+
+  pub index-listed : take (index .count) (index .starts) ≡ starts
+  index-listed = rw e (index-starts (properties body k) (properties-few body k))
+
+  pub index-few : length (take (index .count) (index .starts)) ≤ 64
+  index-few = rw index-listed (properties-few body k)
+
+  pub index-within : Within body (take (index .count) (index .starts))
+  index-within i =
+      rw index-listed
+      (by-test (ltb i (length starts))
+      (λ t.
+      let inner = List·getD-append starts (properties body k .at ∷ []) 0 i (ltb-true i (length starts) t) in
+      subst (λ at. at ≤ length body) inner (properties-places body k i))
+      (λ t. rw (List·getD-eq-default starts 0 {n = i} (ltb-false i (length starts) t)) (omega arith)))
+
+module _ (count : Count) (s : List ℕ) (n : ℕ) (r : Row) where
+  pub row-unknown : isKnown (r .kind) ≡ false → record { number = 0; place = 0; links = n } ≡ rowLinked count s n r
+  unfolding rowLinked
+  row-unknown k = rw k
+
+  pub row-known : {body : List ℕ} {index : Index} → isKnown (r .kind) ≡ true → body ≡ bodyOf s r → index ≡ indexOf (properties body (r .properties))
+      → nodeLinked count (r .kind) (r .start) body n (take (index .count) (index .starts)) ≡ rowLinked count s n r
+  unfolding rowLinked
+  row-known {body} k e f = rw (k, ← e, index-listed body (r .properties) f)
+
+pub body-fits : (s : List ℕ) (r : Row) → {body : List ℕ} → body ≡ bodyOf s r → length body ≤ length s
+body-fits s r e = rw e (simp (length-take, length-drop) (omega arith))
+
+-- ---- rows
+module _ (count : Count) (s t : List ℕ) (n i nodes : ℕ) where
+  abbrev rest : (n i : ℕ) → Linked
+  rest n i = rowsLinked count s n (rowsAt t i (nodes - i))
+
+  module _ (h : i < nodes) {r : Row} {w : Linked} (e : r ≡ rowAt t i) (f : w ≡ rowLinked count s n r) where
+    next : rest n i ≡ onBy (w .number) w (λ m. rest m (i + 1))
+    unfolding rowsLinked rowsAt
+    next = let one : nodes - i ≡ suc (nodes - (i + 1)) = omega arith in rw (one, ← e, ← f, add-one i)
+
+    pub rows-refused : (w .number ≡ 0 → ⊥) → rest n i ≡ w
+    rows-refused g = let more : w .number ≡ suc (w .number - 1) = omega (arith, g) in next ∙ ap (λ k. onBy k w (λ m. rest m (i + 1))) more
+
+    pub rows-passed : w .number ≡ 0 → rest n i ≡ rest (w .links) (i + 1)
+    rows-passed g = next ∙ ap (λ k. onBy k w (λ m. rest m (i + 1))) g
+
+  pub rows-ended : nodes ≤ i → rest n i ≡ record { number = 0; place = 0; links = n }
+  unfolding rowsLinked rowsAt
+  rows-ended h = let none : nodes - i ≡ 0 = omega arith in rw none

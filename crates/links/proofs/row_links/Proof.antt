@@ -1,0 +1,69 @@
+-- `links::row_links`: the properties that the index tells of are those of the body.
+use Prim.Native.Nat.{_+_, _^_, _<_}
+use native.Mathlib.Omega.{arith}
+use mathlib.Core.Path.{sym, _∙_}
+use lib.ListN.{length}
+use lib.Seq.{length-take-le}
+use borrow.Author.Tests.{not-true, not-false}
+use Rattle.links.proofs.Turns.{index-room, index-few, index-within, row-unknown, row-known, body-fits}
+use borrow.Author.Needs.{needs}
+use Rattle.links.proofs.row_links.Statement.{statement}
+use Rattle.links.proofs.row_links.Tie as tie
+
+known-requires : tie.Need-known-requires
+known-requires c κs = search needs
+
+returns : tie.Need-returns
+returns c = (row-unknown _ _ _ _ (sym (c .before .known .ensures) ∙ not-true _ (c .if1 .taken)), omega arith)
+
+body-of-requires : tie.Need-body-of-requires
+body-of-requires c κs = search needs
+
+index-of-requires : tie.Need-index-of-requires
+index-of-requires c κs = search needs
+
+cast-start : tie.Need-cast-start
+cast-start c = search needs
+
+array-share-prefix-starts : tie.Need-array-share-prefix-starts
+array-share-prefix-starts c = index-room _ _ (c .before .before .index-of .ensures .0)
+
+slice-aggregate-node-links : tie.Need-slice-aggregate-node-links
+slice-aggregate-node-links c = sym (length-take-le _ _ (index-room _ _ (c .before .before .before .index-of .ensures .0)))
+
+node-links-requires : tie.Need-node-links-requires
+node-links-requires c κs =
+    let i = c .before .before .before .index-of .ensures .0 in
+    let b = c .before .before .before .before in
+    let s = b .before .before .before .before .before .before .before .before in
+    let size = body-fits (s .args .file .now) (s .args .row) (b .body-of .ensures) in
+    let room : s .args .row .start + length (b .body-of .result .now) < 2 ^ 64
+    = omega (arith, s .good .0 .1, c .before .struct-known .given, size) in (
+      s .pre .0,
+      index-within _ _ i,
+      room,
+      omega (arith, index-few _ _ i, s .pre .1),
+    )
+
+returns-2 : tie.Need-returns-2
+returns-2 c =
+    let i = c .before .before .before .before .index-of .ensures .0 in
+    let b = c .before .before .before .before .before in
+    let k = b .before .before .known .ensures in (
+      c .node-links .ensures .0 ∙ row-known _ _ _ _ (sym k ∙ not-false _ (b .before .if1 .left)) (b .body-of .ensures) i,
+      omega (arith, c .node-links .ensures .1, index-few _ _ i),
+    )
+
+pub row-links-spec : {M : Type 1} → statement M
+row-links-spec =
+    tie.close
+    (tie.spec
+    known-requires
+    returns
+    body-of-requires
+    index-of-requires
+    cast-start
+    array-share-prefix-starts
+    slice-aggregate-node-links
+    node-links-requires
+    returns-2)

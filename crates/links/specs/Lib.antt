@@ -1,0 +1,4 @@
+pub mod Ascending
+pub mod Links
+pub mod Contract
+pub mod Examples
