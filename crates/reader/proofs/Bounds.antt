@@ -1,0 +1,58 @@
+-- Numbers of a file's reading are bounded by its length: the places of its links, and its faces.
+use Prim.Native.Nat.{ℕ, zero, suc, _+_, _-_, _≤_}
+use native.Mathlib.Omega.{arith}
+use native.Mathlib.Nat.{min-le-left}
+use mathlib.Core.List.{List, [], _∷_}
+use lib.Dec.{eqb}
+use lib.ListN.{length, getD, drop, length-take}
+use Rattle.le.proofs.Tests.{by-test}
+use Rattle.kinds.specs.Kinds.{isKnown}
+use Rattle.table.specs.declared.Row.{Row}
+use Rattle.body.specs.Body.{properties}
+use Rattle.body.proofs.Places.{starts-within}
+use Rattle.rules.specs.Table.{linkTo}
+use Rattle.judge.specs.Properties.{ruleAt}
+use Rattle.format.specs.Rows.{bodyOf}
+use Rattle.format.specs.Layout.{Each}
+use Rattle.format.proofs.Each.{each-append}
+use Rattle.links.specs.declared.Linked.{Linked}
+use Rattle.links.specs.Links.{Link, linksAt, linksFrom, refusalOf, unless, resolved}
+use Rattle.reader.specs.Contract.{RowOk}
+
+-- ---- links lie in the file
+abbrev Lies : (size : ℕ) → Link → Type 0
+Lies size l = l .property ≤ size
+
+each-at : (n : ℕ) (xs : List ℕ) → ((i : ℕ) → getD xs i 0 ≤ n) → Each (λ x. x ≤ n) xs
+each-at n [] h = tt
+each-at n (x ∷ xs) h = (h 0, each-at n xs (λ i. h (suc i)))
+
+at-lie : (all : List Row) (kind row start size : ℕ) (s starts : List ℕ) → start + length s ≤ size → Each (λ at. at ≤ length s) starts
+    → Each (Lies size) (linksAt all kind row start s starts)
+unfolding linksAt
+at-lie all kind row start size s [] fits h = tt
+at-lie all kind row start size s (at ∷ more) fits h =
+    let ih = at-lie all kind row start size s more fits (h .1) in
+    by-test (eqb (ruleAt kind s at .held) (linkTo 0 .held)) (λ t. rw t (omega (arith, h .0), ih)) (λ t. rw t ih)
+
+pub body-length : (s : List ℕ) (r : Row) → length (bodyOf s r) ≤ r .end - r .start
+body-length s r = rw (length-take (r .end - r .start) (drop (r .start) s)) (min-le-left _ _)
+
+pub links-lie : (s : List ℕ) (all : List Row) (size n i : ℕ) (rs : List Row) → Each (RowOk size n) rs → Each (Lies size) (linksFrom s all i rs)
+unfolding linksFrom
+links-lie s all size n i [] h = tt
+links-lie s all size n i (r ∷ rs) h =
+    let ih = links-lie s all size n (suc i) rs (h .1) in
+    let body = bodyOf s r in
+    let fits : r .start + length body ≤ size = omega (arith, body-length s r, h .0 .onward, h .0 .within) in
+    let here = at-lie all (r .kind) i (r .start) size body (properties body (r .properties) .starts) fits (each-at (length body) (properties body (r .properties) .starts) (starts-within body (r .properties))) in
+    by-test (isKnown (r .kind)) (λ t. rw t (each-append (Lies size) (linksAt all (r .kind) i (r .start) body (properties body (r .properties) .starts)) (linksFrom s all (suc i) rs) .1 (here, ih))) (λ t. rw t ih)
+
+unless-lies : (k place size : ℕ) (w : Linked) → place ≤ size → w .place ≤ size → unless k place w .place ≤ size
+unless-lies zero place size w a b = b
+unless-lies (suc k) place size w a b = a
+
+pub resolved-lies : (n size : ℕ) (ls : List Link) → Each (Lies size) ls → resolved n ls .place ≤ size
+unfolding resolved
+resolved-lies n size [] h = omega arith
+resolved-lies n size (l ∷ ls) h = unless-lies (refusalOf (l .targets)) (l .property) size (resolved (suc n) ls) (h .0) (resolved-lies (suc n) size ls (h .1))

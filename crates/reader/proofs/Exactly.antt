@@ -1,0 +1,233 @@
+-- The reading accepts exactly the valid files: the walk by its soundness and completeness, the rules and links node by node.
+use Prim.Native.Nat.{ℕ, zero, suc, _+_, _≤_}
+use native.Mathlib.Omega.{arith}
+use mathlib.Core.Path.{_≡_, refl, ap, sym, _∙_, subst}
+use mathlib.Core.Logic.{_↔_, inr}
+use mathlib.Core.Bool.{true}
+use mathlib.Core.List.{List, [], _++_, append-nil}
+use lib.Dec.{ltb}
+use lib.ListN.{length}
+use borrow.Author.Tests.{ltb-true, ltb-false}
+use Rattle.le.specs.Le.{val, AreBytes}
+use Rattle.le.proofs.Tests.{by-test}
+use Rattle.table.specs.declared.Row.{Row}
+use Rattle.table.specs.Table.{noParent, hasRoom}
+use Rattle.body.specs.Body.{properties}
+use Rattle.rules.specs.Rules.{ruleOf}
+use Rattle.judge.specs.Judge.{judged}
+use Rattle.format.specs.Forest.{Forest, end, known, unknown, nodes, encode, count, fileHeader, fileOf}
+use Rattle.format.specs.Rows.{rows, rowsOf, bodyOf}
+use Rattle.format.specs.Layout.{Property, WellFormed}
+use Rattle.format.proofs.Each.{each-both, each-map}
+use Rattle.format.proofs.Headers.{length-fileHeader}
+use Rattle.format.proofs.Rows.{ownBytesAddUp}
+use Rattle.format.proofs.Unique.{encodingUnique}
+use Rattle.links.specs.Links.{reached, linksAt, linksOf, resolved, linked}
+use Rattle.walk.specs.Walk.{limited, walkOf, flagsOf}
+use Rattle.walk.specs.Statements.{Holds}
+use Rattle.walk.proofs.Laws.{limited-is}
+use Rattle.walk.proofs.Sound.{sound}
+use Rattle.walk.proofs.Complete.{complete}
+use Rattle.valid.specs.Valid.{bones, reaches, EachKnown, NodeRuled, NodeLinked, Valid}
+use Rattle.valid.proofs.Rules.{obeyed, accepted}
+use Rattle.valid.proofs.Links.{links-reach, links-good}
+use Rattle.reader.specs.declared.Account.{Account}
+use Rattle.reader.specs.declared.Reading.{Reading}
+use Rattle.reader.specs.declared.Reading.the-variants.{Accepted, Refused}
+use Rattle.reader.specs.Reading.{bonesUnder, judgedRow, ruled, byNumber, accountOf, checked, verdict, readingOf, tableAfter}
+use Rattle.reader.specs.Acceptance.{IsValid, Exactly, AnswerOf, AnswersTheRules, OneForest}
+use Rattle.reader.proofs.Counts.{own-under, reached-nodes}
+use Rattle.reader.proofs.Nodes.{KnownRow, UnknownRow, each-known}
+use Rattle.reader.proofs.Charges.{own-split, ruled-counts, resolved-counts}
+use Rattle.reader.proofs.Judging.{judged-known, judged-unknown}
+use Rattle.reader.proofs.Stages.{RightRow, LinkedRow, ruled-each, linked-each}
+
+-- ---- pairs
+abbrev NodeP : Type 1
+NodeP = (beside kind count : ℕ) (body : List ℕ) → Type 0
+
+known-both : (P Q : NodeP) (beside : ℕ) (f : Forest) →
+    (EachKnown P beside f × EachKnown Q beside f) ↔ EachKnown (λ b k n body. P b k n body × Q b k n body) beside f
+known-both P Q beside end = (λ h. tt, λ h. (tt, tt))
+known-both P Q beside (known k h p body kids next) =
+    let a = known-both P Q (bones kids) kids in
+    let b = known-both P Q beside next in (
+      λ h. ((h .0 .0, h .1 .0), a .0 (h .0 .1, h .1 .1), b .0 (h .0 .2, h .1 .2)),
+      λ h. let x = a .1 (h .1) in let y = b .1 (h .2) in ((h .0 .0, x .0, y .0), (h .0 .1, x .1, y .1)),
+    )
+known-both P Q beside (unknown k h p c rest next) = known-both P Q beside next
+
+module _ (s : List ℕ) (f : Forest) where
+  abbrev all : List Row
+  all = rowsOf f
+
+  abbrev Q : Row → Type 0
+  Q r = RightRow s all r × LinkedRow s all r
+
+  abbrev P : NodeP
+  P b k n body = NodeRuled b k n body × NodeLinked f b k n body
+
+  reach-here : (kind : ℕ) (p : Property) → length (reached (ruleOf kind (p .name) .target) (val (p .content)) 0 all)
+      ≡ reaches (ruleOf kind (p .name) .target) (val (p .content)) f
+  reach-here kind p = reached-nodes (ruleOf kind (p .name) .target) (val (p .content)) f 0 noParent 0 16
+
+  known-row : KnownRow s all Q P
+  known-row r beside body good here under k =
+      let kind = r .kind in
+      let n = r .properties in
+      let judge : judgedRow s all r ≡ judged kind n body beside = judged-known s r (bonesUnder all (r .parent)) k ∙ rw (here, under) in
+      let links : resolved 0 (linksAt all kind 0 (r .start) (bodyOf s r) (properties (bodyOf s r) n .starts)) .number
+      ≡ resolved 0 (linksAt all kind 0 (r .start) body (properties body n .starts)) .number = rw here in (
+        λ q.
+            let obeys : NodeRuled beside kind n body = λ g. obeyed kind n body beside g (ap (λ j. j .number) (sym judge) ∙ q .0) in (
+              obeys,
+              λ g.
+                  each-map (λ p reach h. sym (reach-here kind p) ∙ reach h) (g .properties)
+                  (links-reach all kind 0 (r .start) n 0 body g (obeys g .fits) (sym links ∙ q .1 k)),
+            ),
+        λ p. (
+          ap (λ j. j .number) judge ∙ accepted kind n body beside good (p .0 good),
+          λ _. links ∙ links-good all kind 0 (r .start) n 0 body good (p .0 good .fits)
+              (each-map (λ q reach h. reach-here kind q ∙ reach h) (good .properties) (p .1 good)),
+        ),
+      )
+
+  unknown-row : UnknownRow s all Q P
+  unknown-row r u = (ap (λ j. j .number) (judged-unknown s r (bonesUnder all (r .parent)) u), λ k. cc)
+
+  -- the rules and the links of a well-formed file
+  rows-valid : (flags : ℕ) → s ≡ fileOf flags f → WellFormed f → nodes f ≤ 1024
+      → ((ruled s all all .number ≡ 0) × (linked s all .number ≡ 0)) ↔ (EachKnown NodeRuled (bones f) f × EachKnown (NodeLinked f) (bones f) f)
+  unfolding fileOf linked
+  rows-valid flags e well few =
+      let whole : s ≡ fileHeader (count f) flags ++ (encode f ++ []) = e ∙ ap (λ l. fileHeader (count f) flags ++ l) (sym (append-nil (encode f))) in
+      let nodes-rows = each-known s all Q P known-row unknown-row f (fileHeader (count f) flags) [] noParent 0 16 (bones f) well whole
+      (sym (length-fileHeader (count f) flags)) (own-under f noParent 0 16 (inr (omega arith))) (λ p a b. refl) (inr (omega arith)) in
+      let rules = ruled-each s all all in
+      let links = linked-each s all 0 0 all in
+      let rows-both = each-both (RightRow s all) (LinkedRow s all) all in
+      let nodes-both = known-both NodeRuled (NodeLinked f) (bones f) f in (
+        λ h. nodes-both .1 (nodes-rows .0 (rows-both .0 (rules .0 (h .0), links .0 (h .1)))),
+        λ h. let each = rows-both .1 (nodes-rows .1 (nodes-both .0 h)) in (rules .1 (each .0), links .1 (each .1)),
+      )
+
+-- ---- the verdict
+byNumber-accepted : (n place : ℕ) (next : Reading) {a : Account} → byNumber n place next ≡ Accepted a → (n ≡ 0) × (next ≡ Accepted a)
+byNumber-accepted zero place next e = (refl, e)
+byNumber-accepted (suc n) place next e = (cc, cc)
+
+module _ (s : List ℕ) where
+  pub accepted-parts : {a : Account} → verdict s ≡ Accepted a → (limited s .number ≡ 0) × (checked s (limited s .rows) ≡ Accepted a)
+  unfolding verdict
+  accepted-parts e = byNumber-accepted (limited s .number) (limited s .at) (checked s (limited s .rows)) e
+
+  pub checked-parts : (rs : List Row) {a : Account} → checked s rs ≡ Accepted a
+      → (ruled s rs rs .number ≡ 0) × (linked s rs .number ≡ 0) × (Accepted (accountOf s rs (ruled s rs rs) (linked s rs)) ≡ Accepted a)
+  unfolding checked
+  checked-parts rs e =
+      let rules = byNumber-accepted (ruled s rs rs .number) (ruled s rs rs .place) _ e in
+      let links = byNumber-accepted (linked s rs .number) (linked s rs .place) _ (rules .1) in
+      (rules .0, links .0, links .1)
+
+  pub checked-right : (rs : List Row) → ruled s rs rs .number ≡ 0 → linked s rs .number ≡ 0 → checked s rs ≡ Accepted (accountOf s rs (ruled s rs rs) (linked s rs))
+  unfolding checked
+  checked-right rs r l = rw (r, l)
+
+  pub short : limited s .number ≡ 0 → length s ≤ 16777216
+  short e = by-test (ltb 16777216 (length s)) (λ t. absurd (omega (arith, ap (λ w. w .number) (sym (limited-is s .1 (ltb-true 16777216 (length s) t))) ∙ e))) (λ t. ltb-false 16777216 (length s) t)
+
+-- a valid file is walked to its nodes' rows
+module _ (s : List ℕ) (flags : ℕ) (f : Forest) (v : Valid flags f) (e : s ≡ fileOf flags f) where
+  walk-holds : Holds s flags f
+  walk-holds = record { wellFormed = v .wellFormed; placed = v .placed; few = v .few; bytes = e }
+
+  walk-limited : limited s ≡ walkOf s
+  walk-limited = limited-is s .0 (subst (λ l. length l ≤ 16777216) (sym e) (v .short))
+
+  pub valid-number : limited s .number ≡ 0
+  valid-number = ap (λ w. w .number) walk-limited ∙ complete s flags f walk-holds .0
+
+  pub valid-rows : limited s .rows ≡ rowsOf f
+  valid-rows = ap (λ w. w .rows) walk-limited ∙ complete s flags f walk-holds .1
+
+  pub valid-flags : flagsOf s ≡ flags
+  valid-flags = complete s flags f walk-holds .2
+
+  pub valid-stages : (ruled s (rowsOf f) (rowsOf f) .number ≡ 0) × (linked s (rowsOf f) .number ≡ 0)
+  valid-stages = rows-valid s f flags e (v .wellFormed .2) (v .few) .1 (v .ruled, v .linked)
+
+  pub valid-verdict : verdict s ≡ Accepted (accountOf s (rowsOf f) (ruled s (rowsOf f) (rowsOf f)) (linked s (rowsOf f)))
+  unfolding verdict
+  valid-verdict = rw (valid-number, valid-rows) (checked-right s (rowsOf f) (valid-stages .0) (valid-stages .1))
+
+pub verdict-valid : (s : List ℕ) → AreBytes s → {a : Account} → verdict s ≡ Accepted a → IsValid s
+verdict-valid s bytes h =
+    let parts = accepted-parts s h in
+    let long = short s (parts .0) in
+    let lim = limited-is s .0 long in
+    let walk = sound s bytes (ap (λ w. w .number) (sym lim) ∙ parts .0) in
+    let rows-are = ap (λ w. w .rows) lim ∙ walk .rows in
+    let f = walk .forest in
+    let stages = checked-parts s (rowsOf f) (ap (checked s) (sym rows-are) ∙ parts .1) in
+    let valid = rows-valid s f (flagsOf s) (walk .holds .bytes) (walk .holds .wellFormed .2) (walk .holds .few) .0 (stages .0, stages .1) in
+    record {
+      flags = flagsOf s;
+      forest = f;
+      valid = record {
+        wellFormed = walk .holds .wellFormed;
+        placed = walk .holds .placed;
+        few = walk .holds .few;
+        short = subst (λ l. length l ≤ 16777216) (walk .holds .bytes) long;
+        ruled = valid .0;
+        linked = valid .1;
+      };
+      bytes = walk .holds .bytes;
+    }
+
+in-room : (s t : List ℕ) → hasRoom t ≡ true → readingOf s t ≡ verdict s
+unfolding readingOf
+in-room s t h = rw h
+
+pub exactly : Exactly
+exactly s t bytes room = (
+  λ h. verdict-valid s bytes (sym (in-room s t room) ∙ h .accepts),
+  λ h. record { account = _; accepts = in-room s t room ∙ valid-verdict s (h .flags) (h .forest) (h .valid) (h .bytes) },
+)
+
+-- ---- what is answered
+abbrev account-of : Reading → Account → Account
+account-of (Accepted a) d = a
+account-of (Refused n p) d = d
+
+answered : (s : List ℕ) (flags : ℕ) (f : Forest) → Valid flags f → s ≡ fileOf flags f
+    → AnswerOf s (rowsOf f) (accountOf s (rowsOf f) (ruled s (rowsOf f) (rowsOf f)) (linked s (rowsOf f)))
+unfolding linked
+answered s flags f v e =
+    let stages = valid-stages s flags f v e in
+    let counts = ruled-counts s (rowsOf f) (rowsOf f) (stages .0) in
+    let links = resolved-counts 0 (linksOf s (rowsOf f)) (stages .1) in
+    record {
+      nodes = refl;
+      known = refl;
+      unknown = refl;
+      faces = counts .0;
+      degenerates = counts .1;
+      links = links .0 ∙ omega arith;
+      resolved = links .1;
+      sum = ap (λ n. 16 + n) (own-split (rowsOf f)) ∙ ownBytesAddUp flags f ∙ ap length (sym e);
+    }
+
+pub valid-answer : (s : List ℕ) (flags : ℕ) (f : Forest) → Valid flags f → s ≡ fileOf flags f → (a : Account) → verdict s ≡ Accepted a → AnswerOf s (rowsOf f) a
+valid-answer s flags f v e a r =
+    let same = ap (λ x. account-of x a) (sym (valid-verdict s flags f v e) ∙ r) in
+    subst (AnswerOf s (rowsOf f)) same (answered s flags f v e)
+
+pub answersTheRules : AnswersTheRules
+unfolding tableAfter
+answersTheRules s t flags f a v e room r =
+    let is = valid-verdict s flags f v e in
+    let r′ = sym (in-room s t room) ∙ r in
+    (ap (λ x. account-of x a .flags) (sym r′ ∙ is) ∙ valid-flags s flags f v e, valid-answer s flags f v e a r′, rw (room, is, valid-rows s flags f v e))
+
+pub oneForest : OneForest
+oneForest a b f g v w e = encodingUnique a b f g (v .wellFormed) (w .wellFormed) e

@@ -1,0 +1,10 @@
+pub mod Counts
+pub mod Nodes
+pub mod Judging
+pub mod Loops
+pub mod Stages
+pub mod Charges
+pub mod Exactly
+pub mod Bounds
+pub mod Sizes
+pub mod Whole

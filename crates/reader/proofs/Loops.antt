@@ -1,0 +1,138 @@
+-- Loops over a table's rows: what the row in turn adds, the rest being the rows from it on.
+use Prim.Native.Nat.{ℕ, zero, suc, _+_, _-_, _≤_, _<_}
+use native.Mathlib.Numerals.{add-one}
+use native.Mathlib.Nat.{zero-add, add-zero, add-assoc, sub-zero}
+use native.Mathlib.Omega.{arith}
+use mathlib.Core.Path.{_≡_, refl, sym, _∙_}
+use mathlib.Core.Bool.{true, false, _&&_}
+use mathlib.Core.List.{List, [], _∷_}
+use lib.Dec.{eqb}
+use lib.ListN.{length, getD, set}
+use lib.Seq.{getD-set-same, getD-set-other}
+use borrow.Author.Tests.{eq-eqb, ne-eqb, eqb-true, eqb-false}
+use Rattle.le.proofs.Tests.{by-test}
+use Rattle.kinds.specs.Kinds.{bone, isKnown}
+use Rattle.table.specs.declared.Row.{Row}
+use Rattle.table.specs.Table.{rowAt, rowsAt}
+use Rattle.judge.specs.declared.Judged.{Judged}
+use Rattle.judge.specs.Contract.{Bounded}
+use Rattle.format.specs.Rows.{ownBytes, bodyOf}
+use Rattle.reader.specs.declared.Ruled.{Ruled}
+use Rattle.reader.specs.Reading.{bonesUnder, judgedWith, ruledBy, ruled, ownKnown, ownUnknown}
+use Rattle.reader.specs.Contract.{RowOk, RowsOk}
+use Rattle.reader.proofs.Bounds.{body-length}
+
+-- of n rows, those from row i on
+abbrev pub rest : (t : List ℕ) (n i : ℕ) → List Row
+rest t n i = rowsAt t i (n - i)
+
+pub rest-all : (t : List ℕ) (n : ℕ) → rest t n 0 ≡ rowsAt t 0 n
+rest-all t n = rw (sub-zero n)
+
+rest-more : (t : List ℕ) (n i : ℕ) → i < n → rest t n i ≡ rowAt t i ∷ rest t n (i + 1)
+unfolding rowsAt
+rest-more t n i h = let one : n - i ≡ suc (n - (i + 1)) = omega arith in rw (one, add-one i)
+
+rest-none : (t : List ℕ) (n i : ℕ) → n ≤ i → rest t n i ≡ []
+unfolding rowsAt
+rest-none t n i h = let none : n - i ≡ 0 = omega arith in rw none
+
+-- ---- Bones
+pub bones-few : (t : List ℕ) (k n p : ℕ) → bonesUnder (rowsAt t k n) p ≤ n
+unfolding bonesUnder rowsAt
+bones-few t k zero p = omega arith
+bones-few t k (suc n) p =
+    let ih = bones-few t (suc k) n p in
+    by-test (eqb (rowAt t k .kind) bone && eqb (rowAt t k .parent) p) (λ e. rw e (omega (arith, ih))) (λ e. rw e (omega (arith, ih)))
+
+-- numbers that, with the Bones of the rest, tell those of all
+abbrev pub Counting : (bones : List ℕ) (t : List ℕ) (n i : ℕ) → Type 0
+Counting bones t n i = (p : ℕ) → getD bones p 0 + bonesUnder (rest t n i) p ≡ bonesUnder (rowsAt t 0 n) p
+
+pub counting-begun : (bones t : List ℕ) (n : ℕ) → ((p : ℕ) → getD bones p 0 ≡ 0) → Counting bones t n 0
+counting-begun bones t n h p = rw (h p, rest-all t n) (omega arith)
+
+module _ (bones t : List ℕ) (n i : ℕ) where
+  module _ (h : i < n) {r : Row} (e : r ≡ rowAt t i) (c : Counting bones t n i) where
+    pub counting-bone : (x : ℕ) → r .kind ≡ bone → r .parent < length bones → x ≡ getD bones (r .parent) 0 + 1
+        → Counting (set bones (r .parent) x) t n (i + 1)
+    unfolding bonesUnder
+    counting-bone x k b f p =
+        let now = rw (rest-more t n i h, ← e, eq-eqb (r .kind) bone k) at (c p) in
+        by-test
+        (eqb (r .parent) p)
+        (λ q. rw (← eqb-true (r .parent) p q, getD-set-same bones (r .parent) x 0 b, f)
+        (omega (arith, rw (← eqb-true (r .parent) p q, eq-eqb (r .parent) (r .parent) refl) at now)))
+        (λ q. rw (getD-set-other bones (r .parent) p x 0 (λ g. eqb-false (r .parent) p q (sym g))) (rw q at now))
+
+    pub counting-other : (r .kind ≡ bone → ⊥) → Counting bones t n (i + 1)
+    unfolding bonesUnder
+    counting-other k p = rw (rest-more t n i h, ← e, ne-eqb (r .kind) bone k) at (c p)
+
+  pub counting-ended : n ≤ i → Counting bones t n i → (p : ℕ) → getD bones p 0 ≡ bonesUnder (rowsAt t 0 n) p
+  unfolding bonesUnder
+  counting-ended h c p = sym (add-zero (getD bones p 0)) ∙ rw (rest-none t n i h) at (c p)
+
+-- ---- own bytes
+module _ (t : List ℕ) (n i : ℕ) where
+  module _ (h : i < n) {r : Row} {own : ℕ} (e : r ≡ rowAt t i) (f : own ≡ ownBytes r) where
+    pub own-known : isKnown (r .kind) ≡ true
+        → (ownKnown (rest t n i) ≡ own + ownKnown (rest t n (i + 1))) × (ownUnknown (rest t n i) ≡ ownUnknown (rest t n (i + 1)))
+    unfolding ownKnown ownUnknown
+    own-known k = rw (rest-more t n i h, ← e, k, f) (refl, refl)
+
+    pub own-unknown : isKnown (r .kind) ≡ false
+        → (ownKnown (rest t n i) ≡ ownKnown (rest t n (i + 1))) × (ownUnknown (rest t n i) ≡ own + ownUnknown (rest t n (i + 1)))
+    unfolding ownKnown ownUnknown
+    own-unknown k = rw (rest-more t n i h, ← e, k, f) (refl, refl)
+
+  pub own-ended : n ≤ i → (ownKnown (rest t n i) ≡ 0) × (ownUnknown (rest t n i) ≡ 0)
+  unfolding ownKnown ownUnknown
+  own-ended h = rw (rest-none t n i h) (refl, refl)
+
+-- ---- rules
+
+-- what some rows give, with what was counted before them
+abbrev pub onTop : (faces degenerate links : ℕ) → Ruled → Ruled
+onTop f d l u = record { number = u .number; place = u .place; faces = f + u .faces; degenerate = d + u .degenerate; links = l + u .links }
+
+-- a judgement's place lies behind the node's header, and in the file
+pub row-place : (s t : List ℕ) (n i : ℕ) {r : Row} {j : Judged} → RowsOk (length s) t n → i < n → r ≡ rowAt t i → Bounded j (length (bodyOf s r))
+    → (24 ≤ r .start + j .at) × (r .start + j .at ≤ 24 + length s)
+row-place s t n i {r} ok h e b =
+    let row : RowOk (length s) n r = rw e (ok i h) in
+    let size = body-length s r in
+    (omega (arith, row .first), omega (arith, b .place, size, row .onward, row .within))
+
+module _ (s t : List ℕ) (n : ℕ) where
+  abbrev all : List Row
+  all = rowsAt t 0 n
+
+  pub rules-begun : onTop 0 0 0 (ruled s all (rest t n 0)) ≡ ruled s all all
+  rules-begun = rw (rest-all t n) (simp zero-add)
+
+  module _ (f d l i : ℕ) where
+    refused-on-top : (m start : ℕ) (j : Judged) (u : Ruled) → (m ≡ 0 → ⊥)
+        → onTop f d l (ruledBy m start j u) ≡ record { number = m; place = (start + j .at) - 24; faces = f; degenerate = d; links = l }
+    refused-on-top zero start j u n = absurd (n refl)
+    refused-on-top (suc m) start j u n = simp add-zero
+
+    module _ (h : i < n) {r : Row} {b : ℕ} {j : Judged} (e : r ≡ rowAt t i) (g : b ≡ bonesUnder all (r .parent))
+        (k : j ≡ judgedWith s r b) where
+      next : ruled s all (rest t n i) ≡ ruledBy (j .number) (r .start) j (ruled s all (rest t n (i + 1)))
+      unfolding ruled
+      next = rw (rest-more t n i h, ← e, ← g, ← k)
+
+      pub rules-refused : (j .number ≡ 0 → ⊥)
+          → onTop f d l (ruled s all (rest t n i))
+          ≡ record { number = j .number; place = (r .start + j .at) - 24; faces = f; degenerate = d; links = l }
+      rules-refused m = rw next (refused-on-top (j .number) (r .start) j (ruled s all (rest t n (i + 1))) m)
+
+      pub rules-passed : j .number ≡ 0
+          → onTop f d l (ruled s all (rest t n i))
+          ≡ onTop (f + j .faces .0) (d + j .degenerate) (l + j .links) (ruled s all (rest t n (i + 1)))
+      rules-passed m = rw (next, m) (simp add-assoc)
+
+    pub rules-ended : n ≤ i → onTop f d l (ruled s all (rest t n i)) ≡ record { number = 0; place = 0; faces = f; degenerate = d; links = l }
+    unfolding ruled
+    rules-ended h = rw (rest-none t n i h) (simp add-zero)

@@ -1,0 +1,105 @@
+-- Each stage refuses nothing exactly when it refuses no row.
+use Prim.Native.Nat.{ℕ, zero, suc, _+_}
+use native.Mathlib.Omega.{arith}
+use mathlib.Core.Path.{_≡_, refl, sym, _∙_}
+use mathlib.Core.Logic.{_↔_}
+use mathlib.Core.Bool.{true}
+use mathlib.Core.List.{List, [], _∷_, _++_}
+use lib.Dec.{eqb}
+use Rattle.le.specs.Le.{numberAt}
+use Rattle.le.proofs.Tests.{by-test}
+use Rattle.kinds.specs.Kinds.{isKnown}
+use Rattle.table.specs.declared.Row.{Row}
+use Rattle.body.specs.Body.{properties}
+use Rattle.rules.specs.Table.{linkTo}
+use Rattle.judge.specs.declared.Judged.{Judged}
+use Rattle.judge.specs.Properties.{ruleAt, restAt}
+use Rattle.format.specs.Rows.{bodyOf}
+use Rattle.format.specs.Layout.{Each}
+use Rattle.links.specs.declared.Linked.{Linked}
+use Rattle.links.specs.Links.{Link, reached, linksAt, rowLinks, linksFrom, refusalOf, unless, resolved}
+use Rattle.reader.specs.declared.Ruled.{Ruled}
+use Rattle.reader.specs.Reading.{judgedRow, ruledBy, ruled}
+
+-- ---- rules
+abbrev pub RightRow : (s : List ℕ) (all : List Row) → Row → Type 0
+RightRow s all r = judgedRow s all r .number ≡ 0
+
+ruledBy-zero : (n start : ℕ) (j : Judged) (next : Ruled) → (ruledBy n start j next .number ≡ 0) ↔ ((n ≡ 0) × (next .number ≡ 0))
+ruledBy-zero zero start j next = (λ e. (refl, e), λ e. e .1)
+ruledBy-zero (suc n) start j next = (λ e. absurd (omega (arith, e)), λ e. absurd (omega (arith, e .0)))
+
+pub ruled-each : (s : List ℕ) (all rs : List Row) → (ruled s all rs .number ≡ 0) ↔ Each (RightRow s all) rs
+unfolding ruled
+ruled-each s all [] = (λ e. tt, λ e. refl)
+ruled-each s all (r ∷ rs) =
+    let ih = ruled-each s all rs in
+    let both = ruledBy-zero (judgedRow s all r .number) (r .start) (judgedRow s all r) (ruled s all rs) in
+    (λ e. let b = both .0 e in (b .0, ih .0 (b .1)), λ e. both .1 (e .0, ih .1 (e .1)))
+
+-- ---- links
+unless-same : (k place : ℕ) (a b : Linked) → a .number ≡ b .number → unless k place a .number ≡ unless k place b .number
+unless-same zero place a b e = e
+unless-same (suc k) place a b e = refl
+
+unless-zero : (k place : ℕ) (a : Linked) → (unless k place a .number ≡ 0) ↔ ((k ≡ 0) × (a .number ≡ 0))
+unless-zero zero place a = (λ e. (refl, e), λ e. e .1)
+unless-zero (suc k) place a = (λ e. absurd (omega (arith, e)), λ e. absurd (omega (arith, e .0)))
+
+resolved-none : (n : ℕ) → resolved n [] .number ≡ 0
+unfolding resolved
+resolved-none n = refl
+
+-- whether some are refused does not depend on how many came before
+resolved-any : (n m : ℕ) (ls : List Link) → resolved n ls .number ≡ resolved m ls .number
+unfolding resolved
+resolved-any n m [] = refl
+resolved-any n m (l ∷ ls) = unless-same (refusalOf (l .targets)) (l .property) (resolved (suc n) ls) (resolved (suc m) ls) (resolved-any (suc n) (suc m) ls)
+
+resolved-append : (n : ℕ) (xs ys : List Link) → (resolved n (xs ++ ys) .number ≡ 0) ↔ ((resolved n xs .number ≡ 0) × (resolved n ys .number ≡ 0))
+unfolding resolved
+resolved-append n [] ys = (λ e. (refl, e), λ e. e .1)
+resolved-append n (x ∷ xs) ys =
+    let k = refusalOf (x .targets) in
+    let whole = unless-zero k (x .property) (resolved (suc n) (xs ++ ys)) in
+    let first = unless-zero k (x .property) (resolved (suc n) xs) in
+    let ih = resolved-append (suc n) xs ys in
+    let any = resolved-any (suc n) n ys in (
+      λ e. let w = whole .0 e in let r = ih .0 (w .1) in (first .1 (w .0, r .0), sym any ∙ r .1),
+      λ e. let f = first .0 (e .0) in whole .1 (f .0, ih .1 (f .1, any ∙ e .1)),
+    )
+
+-- nor on the number of their row
+resolved-row : (all : List Row) (kind row row′ start n : ℕ) (s starts : List ℕ)
+    → resolved n (linksAt all kind row start s starts) .number ≡ resolved n (linksAt all kind row′ start s starts) .number
+unfolding resolved linksAt
+resolved-row all kind row row′ start n s [] = refl
+resolved-row all kind row row′ start n s (at ∷ more) =
+    let l = ruleAt kind s at in
+    let targets = reached (l .target) (numberAt 8 (restAt s at) 0) 0 all in
+    by-test (eqb (l .held) (linkTo 0 .held))
+    (λ t. rw t
+    (unless-same (refusalOf targets) (start + at) (resolved (suc n) (linksAt all kind row start s more)) (resolved (suc n) (linksAt all kind row′ start s more))
+    (resolved-row all kind row row′ start (suc n) s more)))
+    (λ t. rw t (resolved-row all kind row row′ start n s more))
+
+abbrev pub LinkedRow : (s : List ℕ) (all : List Row) → Row → Type 0
+LinkedRow s all r =
+    isKnown (r .kind) ≡ true → resolved 0 (linksAt all (r .kind) 0 (r .start) (bodyOf s r) (properties (bodyOf s r) (r .properties) .starts)) .number ≡ 0
+
+row-linked : (s : List ℕ) (all : List Row) (i n : ℕ) (r : Row) → (resolved n (rowLinks s all i r) .number ≡ 0) ↔ LinkedRow s all r
+row-linked s all i n r =
+    let starts = properties (bodyOf s r) (r .properties) .starts in
+    let same = resolved-any n 0 (linksAt all (r .kind) i (r .start) (bodyOf s r) starts) ∙ resolved-row all (r .kind) i 0 (r .start) 0 (bodyOf s r) starts in
+    by-test (isKnown (r .kind))
+    (λ t. rw t (λ e k. sym same ∙ e, λ h. same ∙ h refl))
+    (λ t. rw t (λ e k. cc, λ h. resolved-none n))
+
+pub linked-each : (s : List ℕ) (all : List Row) (i n : ℕ) (rs : List Row) → (resolved n (linksFrom s all i rs) .number ≡ 0) ↔ Each (LinkedRow s all) rs
+unfolding linksFrom
+linked-each s all i n [] = (λ e. tt, λ e. resolved-none n)
+linked-each s all i n (r ∷ rs) =
+    let both = resolved-append n (rowLinks s all i r) (linksFrom s all (suc i) rs) in
+    let row = row-linked s all i n r in
+    let ih = linked-each s all (suc i) n rs in
+    (λ e. let b = both .0 e in (row .0 (b .0), ih .0 (b .1)), λ e. both .1 (row .1 (e .0), ih .1 (e .1)))

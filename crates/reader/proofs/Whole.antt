@@ -1,0 +1,177 @@
+-- The reading put together: what a walked file's rows are, and each way to its end.
+use Prim.Native.Nat.{ℕ, zero, suc, _+_, _≤_, _<_}
+use native.Mathlib.Omega.{arith}
+use mathlib.Core.Path.{_≡_, refl, ap, sym, _∙_, subst}
+use mathlib.Core.Bool.{true, false}
+use mathlib.Core.List.{List, [], _∷_, _++_}
+use lib.Dec.{ltb}
+use lib.ListN.{length, getD, replicate, length-append, length-replicate, getD-replicate, List·getD-eq-default}
+use borrow.Author.Tests.{ltb-true, ltb-false}
+use Rattle.le.specs.Le.{AreBytes}
+use Rattle.le.proofs.Tests.{by-test}
+use Rattle.kinds.specs.declared.Parent.the-variants.{None}
+use Rattle.table.specs.declared.Row.{Row}
+use Rattle.table.specs.Table.{blank, noParent, rowAt, rowsAt, putRows, hasRoom, cleared}
+use Rattle.table.proofs.Clearing.{cleared-again, filled-putRows, rowAt-filled}
+use Rattle.format.specs.declared.OwnBytes.{OwnBytes}
+use Rattle.format.specs.Forest.{Forest, nodes, encode, count, fileHeader, fileOf}
+use Rattle.format.specs.Rows.{rows, rowsOf}
+use Rattle.format.specs.Layout.{Each, Placed}
+use Rattle.format.proofs.Each.{each-both, each-map}
+use Rattle.format.proofs.Headers.{length-fileHeader}
+use Rattle.format.proofs.Rows.{length-rows}
+use Rattle.format.proofs.Within.{Lies, BoneUnder, rows-lie, bones-under}
+use Rattle.links.specs.Links.{linksOf, linked}
+use Rattle.walk.specs.declared.Answer.{Answer}
+use Rattle.walk.specs.Walk.{Walked, limited, answerBy, answer, flagsOf}
+use Rattle.walk.proofs.Laws.{limited-is}
+use Rattle.walk.proofs.Sound.{sound}
+use Rattle.reader.specs.declared.Reading.{Reading}
+use Rattle.reader.specs.declared.Reading.the-variants.{Accepted, Refused}
+use Rattle.reader.specs.Reading.{ruled, ownKnown, ownUnknown, byNumber, checked, verdict, readingOf, leftBy, tableAfter}
+use Rattle.reader.specs.Contract.{RowOk, RowsOk, BoneParents, leftIn}
+use Rattle.reader.proofs.Bounds.{links-lie, resolved-lies}
+use Rattle.reader.proofs.Exactly.{short, checked-right}
+
+-- ---- rows in a table
+each-get : (P : Row → Type 0) (rs : List Row) (d : Row) → Each P rs → (i : ℕ) → i < length rs → P (getD rs i d)
+each-get P [] d h i b = absurd (omega arith)
+each-get P (r ∷ rs) d h zero b = h .0
+each-get P (r ∷ rs) d h (suc i) b = each-get P rs d (h .1) i (omega arith)
+
+each-rows : (P : Row → Type 0) (t : List ℕ) (k n : ℕ) → ((i : ℕ) → i < n → P (rowAt t (k + i))) → Each P (rowsAt t k n)
+unfolding rowsAt
+each-rows P t k zero h = tt
+each-rows P t k (suc n) h =
+    let first : k + 0 ≡ k = omega arith in (
+      subst (λ i. P (rowAt t i)) first (h 0 (omega arith)),
+      each-rows P t (suc k) n (λ i b. let next : k + suc i ≡ suc k + i = omega arith in subst (λ j. P (rowAt t j)) next (h (suc i) (omega arith))),
+    )
+
+rows-are : (t : List ℕ) (k : ℕ) (rs : List Row) → ((j : ℕ) → j < length rs → rowAt t (k + j) ≡ getD rs j blank) → rowsAt t k (length rs) ≡ rs
+unfolding rowsAt
+rows-are t k [] h = refl
+rows-are t k (r ∷ rs) h =
+    let first : rowAt t k ≡ r = (let z : k ≡ k + 0 = omega arith in ap (rowAt t) z) ∙ h 0 (omega arith) in
+    let rest = rows-are t (suc k) rs (λ j b. (let z : suc k + j ≡ k + suc j = omega arith in ap (rowAt t) z) ∙ h (suc j) (omega arith)) in
+    rw (first, rest)
+
+-- rows that were put into a cleared table with room
+module _ (t : List ℕ) (rs : List Row) (room : hasRoom t ≡ true) (few : length rs ≤ 1024) where
+  put-rowAt : (j : ℕ) → j < length rs → rowAt (putRows (cleared t) 0 rs) j ≡ getD rs j blank
+  put-rowAt j b = ap (λ u. rowAt u j) (filled-putRows t rs room few) ∙ rowAt-filled t rs room few j (omega arith)
+
+  pub put-rows : rowsAt (putRows (cleared t) 0 rs) 0 (length rs) ≡ rs
+  put-rows = rows-are (putRows (cleared t) 0 rs) 0 rs (λ j b. (let z : 0 + j ≡ j = omega arith in ap (rowAt (putRows (cleared t) 0 rs)) z) ∙ put-rowAt j b)
+
+  pub put-ok : (size : ℕ) → Each (RowOk size (length rs)) rs → RowsOk size (putRows (cleared t) 0 rs) (length rs)
+  put-ok size h i b = subst (RowOk size (length rs)) (sym (put-rowAt i b)) (each-get (RowOk size (length rs)) rs blank h i b)
+
+-- ---- the rows of a file that was walked
+row-ok : (size n : ℕ) (r : Row) → Lies 16 size r × BoneUnder n r → RowOk size n r
+row-ok size n r h = record { first = omega (arith, h .0 .0); onward = h .0 .1; within = h .0 .2; boneParent = h .1 }
+
+rows-ok : (flags : ℕ) (f : Forest) → Placed None f → Each (RowOk (length (fileOf flags f)) (length (rowsOf f))) (rowsOf f)
+unfolding fileOf
+rows-ok flags f placed =
+    let size : length (fileHeader (count f) flags ++ encode f) ≡ 16 + length (encode f)
+    = length-append (fileHeader (count f) flags) (encode f) ∙ ap (λ n. n + length (encode f)) (length-fileHeader (count f) flags) in
+    let each = each-both (Lies 16 (16 + length (encode f))) (BoneUnder (0 + nodes f)) (rowsOf f) .0 (rows-lie f noParent 0 16, bones-under f 0 16 placed) in
+    let all : Each (RowOk (16 + length (encode f)) (0 + nodes f)) (rowsOf f) = each-map (row-ok (16 + length (encode f)) (0 + nodes f)) (rowsOf f) each in
+    let n : length (rowsOf f) ≡ 0 + nodes f = length-rows f noParent 0 16 ∙ omega arith in
+    subst (λ k. Each (RowOk (length (fileHeader (count f) flags ++ encode f)) k) (rowsOf f)) (sym n)
+    (subst (λ k. Each (RowOk k (0 + nodes f)) (rowsOf f)) (sym size) all)
+
+pub walked-ok : (s : List ℕ) → AreBytes s → limited s .number ≡ 0 → Each (RowOk (length s) (length (limited s .rows))) (limited s .rows)
+walked-ok s bytes e =
+    let lim = limited-is s .0 (short s e) in
+    let walk = sound s bytes (ap (λ w. w .number) (sym lim) ∙ e) in
+    let are : limited s .rows ≡ rowsOf (walk .forest) = ap (λ w. w .rows) lim ∙ walk .rows in
+    subst (λ rs. Each (RowOk (length s) (length rs)) rs) (sym are)
+    (subst (λ l. Each (RowOk (length l) (length (rowsOf (walk .forest)))) (rowsOf (walk .forest))) (sym (walk .holds .bytes))
+    (rows-ok (flagsOf s) (walk .forest) (walk .holds .placed)))
+
+-- ---- the stages after the walk
+module _ (s : List ℕ) (rs : List Row) where
+  pub by-rules : (n place : ℕ) (next : Reading) → (n ≡ 0 → ⊥) → Refused n place ≡ byNumber n place next
+  by-rules zero place next h = absurd (h refl)
+  by-rules (suc n) place next h = refl
+
+  pub refused-rules : (ruled s rs rs .number ≡ 0 → ⊥) → Refused (ruled s rs rs .number) (ruled s rs rs .place) ≡ checked s rs
+  unfolding checked
+  refused-rules h = by-rules (ruled s rs rs .number) (ruled s rs rs .place) _ h
+
+  pub refused-links : ruled s rs rs .number ≡ 0 → (linked s rs .number ≡ 0 → ⊥) → Refused (linked s rs .number) (linked s rs .place) ≡ checked s rs
+  unfolding checked
+  refused-links r h = rw r (by-rules (linked s rs .number) (linked s rs .place) _ h)
+
+  pub links-place : (size n : ℕ) → Each (RowOk size n) rs → linked s rs .place ≤ size
+  unfolding linked
+  links-place size n h = resolved-lies 0 size (linksOf s rs) (links-lie s rs size n 0 rs h)
+
+  -- the account, from its numbers
+  pub account-checked : ruled s rs rs .number ≡ 0 → linked s rs .number ≡ 0 → (n flags : ℕ) (known unknown : OwnBytes) (f d l : ℕ)
+      → n ≡ length rs → flags ≡ flagsOf s → known .0 ≡ ownKnown rs → unknown .0 ≡ ownUnknown rs
+      → f ≡ ruled s rs rs .faces → d ≡ ruled s rs rs .degenerate → l ≡ linked s rs .links
+      → Accepted (record { nodes = n; flags = flags; known = known; unknown = unknown; faces = record { 0 = f }; degenerate = d; links = l }) ≡ checked s rs
+  account-checked r l n flags known unknown f d k a b c e g h i =
+      let own : (x : OwnBytes) (m : ℕ) → x .0 ≡ m → x ≡ record { 0 = m } = λ x m p. ap (λ q. record { 0 = q }) p in
+      rw (a, b, own known (ownKnown rs) c, own unknown (ownUnknown rs) e, g, h, i) (sym (checked-right s rs r l))
+
+pub length-rowsAt : (t : List ℕ) (k n : ℕ) → n ≡ length (rowsAt t k n)
+unfolding rowsAt
+length-rowsAt t k zero = refl
+length-rowsAt t k (suc n) = ap suc (length-rowsAt t (suc k) n)
+
+pub table-ok : (size : ℕ) (t : List ℕ) (n : ℕ) → RowsOk size t n → Each (RowOk size n) (rowsAt t 0 n)
+table-ok size t n h = each-rows (RowOk size n) t 0 n (λ i b. (let z : i ≡ 0 + i = omega arith in subst (λ j. RowOk size n (rowAt t j)) z (h i b)))
+
+pub bones-ok : (size : ℕ) (t : List ℕ) (n : ℕ) → n ≤ 1024 → RowsOk size t n → BoneParents t n
+bones-ok size t n few h i b e = omega (arith, h i b .boneParent e)
+
+pub no-bones : (n p : ℕ) → getD {A = ℕ} (replicate n 0) p 0 ≡ 0
+no-bones n p =
+    by-test (ltb p n) (λ t. getD-replicate n p 0 0 (ltb-true p n t))
+    (λ t. List·getD-eq-default (replicate n 0) 0 {n = p} (omega (arith, ltb-false p n t, length-replicate {A = ℕ} n 0)))
+
+-- ---- the reading
+module _ (s t : List ℕ) where
+  pub short-table : hasRoom t ≡ false → (Refused 1 0 ≡ readingOf s t) × (t ≡ tableAfter s t)
+  unfolding readingOf tableAfter
+  short-table h = (rw h, rw h)
+
+  -- the walk's answer
+  refused-by : (n : ℕ) (w : Walked) {a : Answer} → a ≡ answerBy n s w → (a .number ≡ 0 → ⊥) → n ≡ w .number → (a .number ≡ w .number) × (a .place ≡ w .at)
+  refused-by zero w e h m = absurd (h (ap (λ x. x .number) e))
+  refused-by (suc n) w e h m = (ap (λ x. x .number) e ∙ m, ap (λ x. x .place) e)
+
+  accepted-by : (n : ℕ) (w : Walked) {a : Answer} → a ≡ answerBy n s w → a .number ≡ 0 → (n ≡ 0) × (a .nodes ≡ length (w .rows)) × (a .flags ≡ flagsOf s)
+  accepted-by zero w e h = (refl, ap (λ x. x .nodes) e, ap (λ x. x .flags) e)
+  accepted-by (suc n) w e h = absurd (omega (arith, sym (ap (λ x. x .number) e) ∙ h))
+
+  module _ {a : Answer} (e : a ≡ answer s) where
+    pub walk-refused : (a .number ≡ 0 → ⊥) → (a .number ≡ limited s .number) × (a .place ≡ limited s .at)
+    unfolding answer
+    walk-refused h = refused-by (limited s .number) (limited s) e h refl
+
+    pub walk-accepted : a .number ≡ 0 → (limited s .number ≡ 0) × (a .nodes ≡ length (limited s .rows)) × (a .flags ≡ flagsOf s)
+    unfolding answer
+    walk-accepted h = accepted-by (limited s .number) (limited s) e h
+
+  -- what is answered, and what is left in a table with room
+  module _ (room : hasRoom t ≡ true) (few : length (limited s .rows) ≤ 1024) where
+    pub refused-read : (limited s .number ≡ 0 → ⊥) → {u : List ℕ} → u ≡ putRows (cleared t) 0 (limited s .rows)
+        → (Refused (limited s .number) (limited s .at) ≡ readingOf s t) × (cleared u ≡ tableAfter s t)
+    unfolding readingOf tableAfter verdict
+    refused-read h e =
+        let is = by-rules s [] (limited s .number) (limited s .at) (checked s (limited s .rows)) h in
+        (rw room is, rw room (rw (← is) (ap cleared e ∙ cleared-again t (limited s .rows) room few)))
+
+    left : (r : Reading) → leftIn r (putRows (cleared t) 0 (limited s .rows)) ≡ leftBy r (limited s .rows) t
+    left (Accepted a) = filled-putRows t (limited s .rows) room few
+    left (Refused n place) = cleared-again t (limited s .rows) room few
+
+    pub checked-read : limited s .number ≡ 0 → {r : Reading} → r ≡ checked s (limited s .rows) → {u : List ℕ} → u ≡ putRows (cleared t) 0 (limited s .rows)
+        → (r ≡ readingOf s t) × (leftIn r u ≡ tableAfter s t) × (r ≡ verdict s)
+    unfolding readingOf tableAfter verdict
+    checked-read h {r} e f = (rw (room, h) e, rw (room, h, ← e) (ap (leftIn r) f ∙ left r), rw h e)

@@ -1,0 +1,22 @@
+-- `reader::beside`: behind the last number there is none.
+use native.Mathlib.Omega.{arith}
+use mathlib.Core.Path.{sym}
+use lib.ListN.{List·getD-eq-default}
+use borrow.Author.Needs.{needs}
+use Rattle.reader.proofs.beside.Statement.{statement}
+use Rattle.reader.proofs.beside.Tie as tie
+
+mul-result : tie.Need-mul-result
+mul-result c = search needs
+
+shared-slice-read-result : tie.Need-shared-slice-read-result
+shared-slice-read-result c = search needs
+
+returns : tie.Need-returns
+returns c = search needs
+
+returns-2 : tie.Need-returns-2
+returns-2 c = sym (List·getD-eq-default (c .before .args .bones .now) 0 (omega (arith, c .if1 .left)))
+
+pub beside-spec : {M : Type 1} → statement M
+beside-spec = tie.close (tie.spec mul-result shared-slice-read-result returns returns-2)

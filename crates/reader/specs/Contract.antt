@@ -1,0 +1,39 @@
+-- What private functions ask of a table, and promise of it.
+use Prim.Native.Nat.{ℕ, _≤_, _<_, _^_}
+use mathlib.Core.Path.{_≡_}
+use mathlib.Core.List.{List}
+use lib.ListN.{getD}
+use Rattle.kinds.specs.Kinds.{bone}
+use Rattle.table.specs.declared.Row.{Row}
+use Rattle.table.specs.Table.{rowAt, cleared}
+use Rattle.reader.specs.Reading.{bonesUnder}
+use Rattle.reader.specs.declared.Reading.{Reading}
+use Rattle.reader.specs.declared.Reading.the-variants.{Accepted, Refused}
+
+-- a row among n of a file of so many bytes: its body lies in the file behind a header, and a Bone is under one of them
+pub record RowOk (size n : ℕ) (r : Row) : Type 0 where
+  pub first : 24 ≤ r .start
+  pub onward : r .start ≤ r .end
+  pub within : r .end ≤ size
+  pub boneParent : r .kind ≡ bone → r .parent < n
+
+abbrev pub RowsOk : (size : ℕ) (t : List ℕ) (n : ℕ) → Type 0
+RowsOk size t n = (i : ℕ) → i < n → RowOk size n (rowAt t i)
+
+-- the Bones of n rows are under rows that a table has
+abbrev pub BoneParents : (t : List ℕ) (n : ℕ) → Type 0
+BoneParents t n = (i : ℕ) → i < n → rowAt t i .kind ≡ bone → rowAt t i .parent < 1024
+
+-- numbers that tell, by its place, the Bones under each row
+abbrev pub Counted : (bones : List ℕ) (rows : List Row) → Type 0
+Counted bones rows = (p : ℕ) → getD bones p 0 ≡ bonesUnder rows p
+
+-- rows are left where they are, and cleared on a refusal
+abbrev pub leftIn : Reading → List ℕ → List ℕ
+leftIn (Accepted a) t = t
+leftIn (Refused n place) t = cleared t
+
+-- an account's numbers are of 32 bits
+abbrev pub Small : Reading → Type 0
+Small (Accepted a) = (a .known .0 < 2 ^ 32) × (a .unknown .0 < 2 ^ 32) × (a .faces .0 < 2 ^ 32) × (a .degenerate < 2 ^ 32)
+Small (Refused n place) = Unit {0}

@@ -1,0 +1,69 @@
+-- What properties are held against, read over places, is what the properties say.
+use Prim.Native.Nat.{ℕ, _*_}
+use mathlib.Core.Path.{_≡_, sym, _∙_}
+use mathlib.Core.List.{List}
+use lib.Dec.{eqb}
+use Rattle.le.proofs.Tests.{by-test}
+use Rattle.kinds.specs.Kinds.{mesh, blendShape, curve}
+use Rattle.props.specs.Step.{lengthAt}
+use Rattle.rules.specs.Table.{letters, float}
+use Rattle.rules.specs.Rules.{ruleOf}
+use Rattle.judge.specs.declared.Beside.{Beside}
+use Rattle.judge.specs.Properties.{restAt, valueAt, lengthOf, valueOf, keyTypes, typesOf, besideOf}
+use Rattle.format.specs.Layout.{Each, Property}
+use Rattle.valid.specs.Obeys.{FitsLine, value, elementsOf, firstValueOf, wanted, vertexCount}
+use Rattle.valid.proofs.Described.{Described, each-map}
+use Rattle.valid.proofs.Names.{said-elements, said-value, said-wanted, read-said}
+use Rattle.valid.proofs.Lines.{weights-each, key-text}
+use Rattle.valid.proofs.Values.{takes-number, takes-string, value-read, string-ends}
+use Rattle.valid.proofs.Strings.{key-alone}
+
+-- what the rules of each kind ask for
+pub record Beheld (kind : ℕ) (ps : List Property) (beside : ℕ) (b : Beside) : Type 0 where
+  pub vertices : kind ≡ mesh → b .vertices ≡ vertexCount ps
+  pub weights : kind ≡ mesh → b .weights ≡ firstValueOf (letters "mi") ps * vertexCount ps
+  pub indices : kind ≡ blendShape → b .indices ≡ elementsOf (letters "vi") ps
+  pub keys : kind ≡ curve → b .keys ≡ elementsOf (letters "kb") ps
+  pub types : kind ≡ curve → b .types ≡ wanted ps
+  pub bones : b .bones ≡ beside
+
+-- a property of a name fits the line of that name
+fits-named : (kind : ℕ) (p : Property) {k : ℕ} {name : List ℕ} → kind ≡ k → p .name ≡ name → FitsLine (ruleOf kind (p .name)) p → FitsLine (ruleOf k name) p
+fits-named kind p k e f = rw (k, e) at f
+
+module _ (kind : ℕ) (s : List ℕ) {starts : List ℕ} {ps : List Property} (d : Described s starts ps)
+    (fits : Each (λ p. FitsLine (ruleOf kind (p .name)) p) ps) where
+  length-of : (name : List ℕ) → lengthOf s starts name ≡ elementsOf name ps
+  unfolding lengthOf
+  length-of name = read-said s name (lengthAt s) (λ p. p .elements) 0 d (each-map (λ p f at a e. a .elements) ps fits) ∙ sym (said-elements name ps)
+
+  weights-of : kind ≡ mesh → valueOf s starts (letters "mi") ≡ firstValueOf (letters "mi") ps
+  unfolding valueOf
+  weights-of k =
+      read-said s (letters "mi") (valueAt s) (λ p. value p 0) 0 d
+      (each-map (λ p f at a e.
+      let g = fits-named kind p k e f in
+      value-read a (takes-number _ (p .code) (g .0) (weights-each .0)) (g .1 (weights-each .1))) ps fits)
+      ∙ sym (said-value (letters "mi") ps)
+
+  types-of : kind ≡ curve → typesOf s starts ≡ wanted ps
+  unfolding typesOf
+  types-of k =
+      read-said s (letters "kp") (λ at. keyTypes (restAt s at)) (λ p. keyTypes (p .content)) float d
+      (each-map (λ p f at a e.
+      rw (a .rest) (key-alone (string-ends a (takes-string _ (p .code) (fits-named kind p k e f .0) key-text)) (a .more))) ps fits)
+      ∙ sym (said-wanted ps)
+
+  pub beheld : (bones : ℕ) → Beheld kind ps bones (besideOf kind s starts bones)
+  unfolding besideOf
+  beheld bones = record {
+    vertices = λ k. rw k (length-of (letters "vp"));
+    weights = λ k. rw (k, length-of (letters "vp"), weights-of k);
+    indices = λ k. rw k (length-of (letters "vi"));
+    keys = λ k. rw k (length-of (letters "kb"));
+    types = λ k. rw k (types-of k);
+    bones =
+        by-test (eqb kind mesh) (λ e. rw e)
+        (λ e. by-test (eqb kind blendShape) (λ f. rw (e, f))
+        (λ f. by-test (eqb kind curve) (λ g. rw (e, f, g)) (λ g. rw (e, f, g))));
+  }

@@ -1,0 +1,166 @@
+-- 15 is given to no property exactly where each keeps what its line holds it to.
+use Prim.Native.Nat.{ℕ, zero, suc, _*_, _/_, _%_, _≤_, _<_}
+use native.Mathlib.Omega.{arith}
+use mathlib.Core.Path.{_≡_, refl, sym, ap, _∙_}
+use mathlib.Core.Logic.{_↔_, Iff·trans, Iff·rfl, Iff·and}
+use mathlib.Core.Bool.{Bool, true, false, cond, _&&_, false≢true}
+use mathlib.Core.List.{List, [], _∷_, _++_}
+use lib.Dec.{eqb, leb}
+use borrow.Author.Tests.{eqb-true}
+use lib.IntN.{ℤ, pos, negsuc}
+use Rattle.le.specs.Le.{numberAt}
+use Rattle.le.proofs.Tests.{by-test}
+use Rattle.props.specs.Step.{lengthAt, codeAt}
+use Rattle.faces.specs.declared.Values.{Values}
+use Rattle.faces.specs.declared.Values.the-variants.{Below, Past}
+use Rattle.faces.specs.Faces.{widthOf, facesIn, below}
+use Rattle.rules.specs.declared.Line.{Line}
+use Rattle.rules.specs.Table.{letters, texts, stringOf, byte, int, flag, oneOf, vertices, weights, faces, indices, keys, boneNumber}
+use Rattle.rules.specs.Rules.{isN, takes, ruleOf, isOneOf}
+use Rattle.judge.specs.declared.Verdict.{Verdict}
+use Rattle.judge.specs.declared.Beside.{Beside}
+use Rattle.judge.specs.declared.Fault.{Fault}
+use Rattle.judge.specs.declared.Fault.the-variants.{Right, Whole, Element}
+use Rattle.judge.specs.Properties.{restAt, valueAt}
+use Rattle.judge.specs.Judge.{whole, sole, signed, parentOk, byValues, faceFault, faultOf, byFault, valued}
+use Rattle.format.specs.Layout.{Each, Property}
+use Rattle.valid.specs.Obeys.{Some, FitsLine, value, elementsOf, wanted, vertexCount, AreFaces, BoneParent, Keeps}
+use Rattle.valid.proofs.Says.{Says, says-eqb, says-leb, says-ltb, says-and}
+use Rattle.valid.proofs.Described.{At, Described, none, one}
+use Rattle.valid.proofs.Lines.{flag-line, text-line, vertices-line, weights-line, faces-line, indices-line, keys-line, parent-line}
+use Rattle.valid.proofs.Values.{takes-number, takes-byte, takes-int, takes-string, values-read, value-read, string-ends}
+use Rattle.valid.proofs.Strings.{says-set}
+use Rattle.valid.proofs.Triples.{all-below}
+use Rattle.valid.proofs.Beside.{Beheld}
+
+-- ---- a fault is right
+whole-right : (t : Bool) → (whole t ≡ Right) ↔ (t ≡ true)
+whole-right true = (λ e. refl, λ e. refl)
+whole-right false = (λ e. cc, λ e. cc)
+
+sole-right : (t : Bool) → (sole t ≡ Right) ↔ (t ≡ true)
+sole-right true = (λ e. refl, λ e. refl)
+sole-right false = (λ e. cc, λ e. cc)
+
+values-right : (v : Values) → (byValues v ≡ Right) ↔ (v ≡ Below)
+values-right Below = (λ e. refl, λ e. refl)
+values-right (Past k) = (λ e. cc, λ e. cc)
+
+length-right : (t : Bool) (f : Fault) → (cond t f Whole ≡ Right) ↔ (t ≡ true) × (f ≡ Right)
+length-right true f = (λ e. (refl, e), λ h. h .1)
+length-right false f = (λ e. (cc, cc), λ h. cc)
+
+says-parent : (z : ℤ) (bones : ℕ) → Says (parentOk z bones) (BoneParent z bones)
+says-parent (pos n) bones = says-ltb n bones
+says-parent (negsuc zero) bones = (λ e. tt, λ h. refl)
+says-parent (negsuc (suc n)) bones = (λ e. absurd (false≢true e), λ h. absurd h)
+
+-- ---- one property, by what its line holds it to
+module _ (kind : ℕ) (s : List ℕ) (ps : List Property) (bones : ℕ) (b : Beside) (beside : Beheld kind ps bones b)
+    {at : ℕ} {p : Property} (a : At s at p) (fits : FitsLine (ruleOf kind (p .name)) p) where
+  abbrev l : Line
+  l = ruleOf kind (p .name)
+
+  flag-right : l .held ≡ flag .held → (sole (leb (valueAt s at) 1) ≡ Right) ↔ (value p 0 ≤ 1)
+  flag-right e =
+      let line = flag-line kind (p .name) e in
+      let code : p .code ≡ byte = takes-byte _ (p .code) (fits .0) (line .0) in
+      let n : isN (p .code) ≡ true = rw code in
+      rw (value-read a n (fits .1 (line .1))) (Iff·trans (sole-right (leb (value p 0) 1)) (says-leb (value p 0) 1))
+
+  text-right : l .held ≡ oneOf 0 .held →
+      (whole (isOneOf (l .set) (restAt s at)) ≡ Right) ↔ Some (λ t. (t .set ≡ l .set) × (p .content ≡ stringOf t ++ (0 ∷ []))) texts
+  text-right e =
+      let ends = string-ends a (takes-string _ (p .code) (fits .0) (text-line kind (p .name) e)) in
+      rw (a .rest) (Iff·trans (whole-right (isOneOf (l .set) (p .content ++ a .more))) (says-set ends (a .more) (l .set)))
+
+  count-right : {n m : ℕ} → n ≡ m → (whole (eqb (lengthAt s at) n) ≡ Right) ↔ (p .elements ≡ m)
+  count-right {n} {m} e = rw (a .elements, e) (Iff·trans (whole-right (eqb (p .elements) m)) (says-eqb (p .elements) m))
+
+  faces-right : l .held ≡ faces .held → (faceFault s at (b .vertices) ≡ Right) ↔ AreFaces (vertexCount ps) p
+  faces-right e =
+      let line = faces-line kind (p .name) e in
+      let n : isN (p .code) ≡ true = takes-number _ (p .code) (fits .0) (line .1) in
+      let w : ℕ = widthOf (p .code) in
+      let v : ℕ = vertexCount ps in
+      let count : ℕ = p .elements / 3 in
+      let fs = facesIn w count (restAt s at) in
+      let long = length-right (eqb (p .elements % 3) 0) (byValues (below v 0 fs)) in
+      let all = Iff·trans (values-right (below v 0 fs)) (all-below v w count (restAt s at)) in
+      rw (a .elements, a .code, beside .vertices (line .0)) (
+        λ q.
+            let threes : p .elements ≡ count * 3 = omega (arith, says-eqb (p .elements % 3) 0 .0 (long .0 q .0)) in
+            record { count = count; threes = threes; below = λ k h. rw (values-read a n k h) at (all .0 (long .0 q .1) k (omega arith)) },
+        λ f.
+            let threes : p .elements ≡ count * 3 = omega (arith, f .threes) in
+            long .1 (
+              says-eqb (p .elements % 3) 0 .1 (omega (arith, f .threes)),
+              all .1 (λ k h. let less : k < p .elements = omega arith in rw (values-read a n k less) (f .below k less)),
+            ),
+      )
+
+  keys-right : l .held ≡ keys .held →
+      (whole (eqb (lengthAt s at) (b .keys) && takes (b .types) (codeAt s at)) ≡ Right)
+      ↔ (p .elements ≡ elementsOf (letters "kb") ps) × (takes (wanted ps) (p .code) ≡ true)
+  keys-right e =
+      let line = keys-line kind (p .name) e in
+      let n : ℕ = elementsOf (letters "kb") ps in
+      let test = takes (wanted ps) (p .code) in
+      rw (a .elements, a .code, beside .keys line, beside .types line)
+      (Iff·trans (whole-right (eqb (p .elements) n && test)) (says-and (eqb (p .elements) n) test (says-eqb (p .elements) n) Iff·rfl))
+
+  parent-right : l .held ≡ boneNumber .held →
+      (sole (parentOk (signed (numberAt 4 (restAt s at) 0)) (b .bones)) ≡ Right) ↔ BoneParent (signed (value p 0)) bones
+  unfolding widthOf
+  parent-right e =
+      let line = parent-line kind (p .name) e in
+      let code : p .code ≡ int = takes-int _ (p .code) (fits .0) (line .0) in
+      let n : isN (p .code) ≡ true = rw code in
+      let four : widthOf (codeAt s at) ≡ 4 = rw (a .code, code) in
+      let read : numberAt 4 (restAt s at) 0 ≡ value p 0 = ap (λ w. numberAt w (restAt s at) 0) (sym four) ∙ value-read a n (fits .1 (line .1)) in
+      rw (read, beside .bones) (Iff·trans (sole-right (parentOk (signed (value p 0)) bones)) (says-parent (signed (value p 0)) bones))
+
+  kept : faultOf l s at b ≡ Right → Keeps l ps bones p
+  unfolding faultOf
+  kept q = record {
+    isFlag = λ e. flag-right e .0 (rw e at q);
+    isTaken = λ e. text-right e .0 (rw e at q);
+    perVertex = λ e. count-right (beside .vertices (vertices-line kind (p .name) e)) .0 (rw e at q);
+    perWeight = λ e. count-right (beside .weights (weights-line kind (p .name) e)) .0 (rw e at q);
+    areFaces = λ e. faces-right e .0 (rw e at q);
+    perIndex = λ e. count-right (beside .indices (indices-line kind (p .name) e)) .0 (rw e at q);
+    perKey = λ e. keys-right e .0 (rw e at q);
+    parentRight = λ e. parent-right e .0 (rw e at q);
+  }
+
+  right : Keeps l ps bones p → faultOf l s at b ≡ Right
+  unfolding faultOf
+  right k =
+      by-held (flag .held) (λ e. flag-right e .1 (k .isFlag e))
+      (by-held (oneOf 0 .held) (λ e. text-right e .1 (k .isTaken e))
+      (by-held (vertices .held) (λ e. count-right (beside .vertices (vertices-line kind (p .name) e)) .1 (k .perVertex e))
+      (by-held (weights .held) (λ e. count-right (beside .weights (weights-line kind (p .name) e)) .1 (k .perWeight e))
+      (by-held (faces .held) (λ e. faces-right e .1 (k .areFaces e))
+      (by-held (indices .held) (λ e. count-right (beside .indices (indices-line kind (p .name) e)) .1 (k .perIndex e))
+      (by-held (keys .held) (λ e. keys-right e .1 (k .perKey e))
+      (by-held (boneNumber .held) (λ e. parent-right e .1 (k .parentRight e)) refl)))))))
+    where
+      by-held : (h : ℕ) {f g : Fault} → (l .held ≡ h → f ≡ Right) → g ≡ Right → cond (eqb (l .held) h) f g ≡ Right
+      by-held h x y = by-test (eqb (l .held) h) (λ t. rw t (x (eqb-true (l .held) h t))) (λ t. rw t y)
+
+-- ---- all of 15
+passed : (f : Fault) (at : ℕ) (v : Verdict) → (byFault f at v .number ≡ 0) ↔ (f ≡ Right) × (v .number ≡ 0)
+passed Right at v = (λ e. (refl, e), λ h. h .1)
+passed Whole at v = (λ e. absurd (omega arith), λ h. cc)
+passed (Element k) at v = (λ e. absurd (omega arith), λ h. cc)
+
+pub valued-right : (kind : ℕ) (s : List ℕ) (all : List Property) (bones : ℕ) (b : Beside) → Beheld kind all bones b →
+    {starts : List ℕ} {ps : List Property} → Described s starts ps → Each (λ p. FitsLine (ruleOf kind (p .name)) p) ps →
+    (valued kind s b starts .number ≡ 0) ↔ Each (λ p. Keeps (ruleOf kind (p .name)) all bones p) ps
+unfolding valued
+valued-right kind s all bones b beside none fits = (λ e. tt, λ h. refl)
+valued-right kind s all bones b beside (one {at} {p} {starts} {ps} a d) fits =
+    rw (a .name)
+    (Iff·trans (passed (faultOf (ruleOf kind (p .name)) s at b) at (valued kind s b starts))
+    (Iff·and (kept kind s all bones b beside a (fits .0), right kind s all bones b beside a (fits .0))
+    (valued-right kind s all bones b beside d (fits .1))))

@@ -1,0 +1,14 @@
+pub mod Says
+pub mod Described
+pub mod Names
+pub mod Types
+pub mod Missing
+pub mod Lines
+pub mod Values
+pub mod Strings
+pub mod Triples
+pub mod Beside
+pub mod Held
+pub mod Rules
+pub mod Links
+pub mod Sizes

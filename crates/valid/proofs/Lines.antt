@@ -1,0 +1,113 @@
+-- What the table says of lines by what they hold a property to, computed over it: their kind, their types and their length.
+use Prim.Native.Nat.{ℕ}
+use mathlib.Core.Path.{_≡_, refl, ap, sym, _∙_}
+use mathlib.Core.Bool.{Bool, true, cond, _&&_, and-eq-true-iff}
+use mathlib.Core.List.{List, [], _∷_}
+use lib.Dec.{eqb}
+use borrow.Author.Tests.{eqb-true}
+use Rattle.le.specs.Le.{val, le, numberAt}
+use Rattle.le.proofs.Tests.{by-test}
+use Rattle.names.specs.Names.{same, decimal, number, bytesOk}
+use Rattle.names.specs.Names.{numbered as numberIn}
+use Rattle.kinds.specs.Kinds.{mesh, blendShape, curve}
+use Rattle.rules.specs.declared.Line.{Line}
+use Rattle.rules.specs.declared.Text.{Text}
+use Rattle.rules.specs.Table.{letters, lines, unpacked, single, byte, int, long, string, N, texts, stringOf}
+use Rattle.rules.specs.Table.{flag, oneOf, vertices, weights, faces, indices, keys, boneNumber, linkTo}
+use Rattle.rules.specs.Rules.{lists, ruleIn, ruleOf}
+use Rattle.valid.proofs.Says.{says-eqb, says-and}
+
+two : (a b c d : ℕ) → (eqb a b && eqb c d) ≡ true → (a ≡ b) × (c ≡ d)
+two a b c d = says-and (eqb a b) (eqb c d) (says-eqb a b) (says-eqb c d) .0
+
+-- what is said of a line that holds a property to h
+abbrev told : (h kind types array : ℕ) → Bool
+told h kind types array =
+    cond (eqb h (flag .held)) (eqb types byte && eqb array single)
+    (cond (eqb h (oneOf 0 .held)) (eqb types string)
+    (cond (eqb h (vertices .held)) (eqb kind mesh)
+    (cond (eqb h (weights .held)) (eqb kind mesh)
+    (cond (eqb h (faces .held)) (eqb kind mesh && eqb types N)
+    (cond (eqb h (indices .held)) (eqb kind blendShape)
+    (cond (eqb h (keys .held)) (eqb kind curve)
+    (cond (eqb h (boneNumber .held)) (eqb types int && eqb array single)
+    (cond (eqb h (linkTo 0 .held)) (eqb types long && eqb array single) true))))))))
+
+unfoldable all-told : List Line → Bool
+all-told [] = true
+all-told (l ∷ ls) = told (l .held) (l .kind) (l .types) (l .array) && all-told ls
+
+lines-told : all-told lines ≡ true
+unfolding all-told lines
+lines-told = refl
+
+module _ (kind : ℕ) (name : List ℕ) where
+  told-in : (ls : List Line) → all-told ls ≡ true → let l = ruleIn ls kind name in told (l .held) kind (l .types) (l .array) ≡ true
+  unfolding all-told ruleIn
+  told-in [] e = refl
+  told-in (l ∷ ls) e =
+      let both = and-eq-true-iff (told (l .held) (l .kind) (l .types) (l .array)) (all-told ls) .0 e in
+      by-test (eqb (l .kind) kind && lists l name)
+      (λ t. let same = eqb-true (l .kind) kind (and-eq-true-iff (eqb (l .kind) kind) (lists l name) .0 t .0) in
+      rw t (rw same at (both .0)))
+      (λ t. rw t (told-in ls (both .1)))
+
+  abbrev l : Line
+  l = ruleOf kind name
+
+  by : {h : ℕ} → l .held ≡ h → told h kind (l .types) (l .array) ≡ true
+  unfolding ruleOf
+  by e = ap (λ h. told h kind (l .types) (l .array)) (sym e) ∙ told-in lines lines-told
+
+  pub flag-line : l .held ≡ flag .held → (l .types ≡ byte) × (l .array ≡ single)
+  flag-line e = two (l .types) byte (l .array) single (by e)
+
+  pub text-line : l .held ≡ oneOf 0 .held → l .types ≡ string
+  text-line e = eqb-true _ _ (by e)
+
+  pub vertices-line : l .held ≡ vertices .held → kind ≡ mesh
+  vertices-line e = eqb-true _ _ (by e)
+
+  pub weights-line : l .held ≡ weights .held → kind ≡ mesh
+  weights-line e = eqb-true _ _ (by e)
+
+  pub faces-line : l .held ≡ faces .held → (kind ≡ mesh) × (l .types ≡ N)
+  faces-line e = two kind mesh (l .types) N (by e)
+
+  pub indices-line : l .held ≡ indices .held → kind ≡ blendShape
+  indices-line e = eqb-true _ _ (by e)
+
+  pub keys-line : l .held ≡ keys .held → kind ≡ curve
+  keys-line e = eqb-true _ _ (by e)
+
+  pub parent-line : l .held ≡ boneNumber .held → (l .types ≡ int) × (l .array ≡ single)
+  parent-line e = two (l .types) int (l .array) single (by e)
+
+  pub link-line : l .held ≡ linkTo 0 .held → (l .types ≡ long) × (l .array ≡ single)
+  link-line e = two (l .types) long (l .array) single (by e)
+
+-- ---- two lines that others are held against
+pub weights-each : (ruleOf mesh (letters "mi") .types ≡ N) × (ruleOf mesh (letters "mi") .array ≡ single)
+unfolding val numberAt le letters unpacked lines lists same numberIn decimal number ruleIn ruleOf
+weights-each = (refl, refl)
+
+pub key-text : ruleOf curve (letters "kp") .types ≡ string
+unfolding val numberAt le letters unpacked lines lists same numberIn decimal number ruleIn ruleOf
+key-text = refl
+
+-- ---- no string of the sets has a zero
+unfoldable pub all-letters : List Text → Bool
+all-letters [] = true
+all-letters (t ∷ ts) = bytesOk (stringOf t) && all-letters ts
+
+pub texts-letters : all-letters texts ≡ true
+unfolding all-letters texts bytesOk letters unpacked le val numberAt
+texts-letters = refl
+
+pub rotation-letters : bytesOk (letters "rq") ≡ true
+unfolding bytesOk letters
+rotation-letters = refl
+
+pub visible-letters : bytesOk (letters "vb") ≡ true
+unfolding bytesOk letters
+visible-letters = refl

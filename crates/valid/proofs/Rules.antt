@@ -1,0 +1,72 @@
+-- A node's verdict is no refusal exactly where its properties obey the rules.
+use Prim.Native.Nat.{ℕ, zero, suc}
+use native.Mathlib.Omega.{arith}
+use mathlib.Core.Path.{_≡_, refl}
+use mathlib.Core.Logic.{_↔_, Iff·trans}
+use mathlib.Core.Bool.{cond, false≢true}
+use mathlib.Core.List.{List, []}
+use Rattle.body.specs.Body.{firstNamed, properties}
+use Rattle.faces.specs.declared.Face.{Face}
+use Rattle.judge.specs.declared.Verdict.{Verdict}
+use Rattle.judge.specs.Properties.{has, besideOf}
+use Rattle.judge.specs.Judge.{refuse, typed, lacks, valued, nodeFaces, nodeLinks, andThen, verdictAt, judgedBy, judgedAt, judged}
+use Rattle.format.specs.Layout.{Property, GoodBody}
+use Rattle.valid.specs.Obeys.{Obeys}
+use Rattle.valid.proofs.Says.{Says}
+use Rattle.valid.proofs.Described.{Described, described, each-map}
+use Rattle.valid.proofs.Types.{refused, typed-right}
+use Rattle.valid.proofs.Missing.{lacks-none}
+use Rattle.valid.proofs.Beside.{beheld}
+use Rattle.valid.proofs.Held.{valued-right}
+
+both : (n : ℕ) (v w : Verdict) → v .number ≡ n → (andThen n v w .number ≡ 0) ↔ (n ≡ 0) × (w .number ≡ 0)
+both zero v w h = (λ e. (refl, e), λ p. p .1)
+both (suc n) v w h = (λ e. absurd (omega arith), λ p. absurd (omega (arith, p .0)))
+
+counted : (n : ℕ) (v : Verdict) (fs : List Face) (links : ℕ) → (judgedBy n v fs links .number ≡ 0) ↔ (n ≡ 0)
+counted zero v fs links = (λ e. refl, λ e. refl)
+counted (suc n) v fs links = (λ e. e, λ e. e)
+
+none-before : (s name : List ℕ) → Says (has s [] name) ⊥
+unfolding firstNamed
+none-before s name = (λ e. false≢true e, λ h. absurd h)
+
+module _ (kind : ℕ) (s : List ℕ) (bones : ℕ) where
+  verdict-right : {starts : List ℕ} {ps : List Property} → Described s starts ps → (verdictAt kind s starts bones .number ≡ 0) ↔ Obeys kind ps bones
+  unfolding verdictAt
+  verdict-right {starts} {ps} d =
+      let types = typed-right kind s (λ name. ⊥) [] (none-before s) d in
+      let missing = lacks-none kind s d in
+      let values = valued kind s (besideOf kind s starts bones) starts in
+      let first = typed kind s [] starts in
+      let second = cond (lacks kind s starts) (refuse 14 0) values in
+      let ordered = both (first .number) first second refl in
+      let after = refused (lacks kind s starts) 14 0 values (λ e. omega arith) in (
+        λ e.
+            let typing = types .0 (ordered .0 e .0) in
+            let rest = after .0 (ordered .0 e .1) in
+            let present = missing .0 (rest .0) in
+            let held = valued-right kind s ps bones (besideOf kind s starts bones) (beheld kind s d (typing .2) bones) d (typing .2) in
+            record { distinct = typing .1; fits = typing .2; complete = present .0; partnered = present .1; keeps = held .0 (rest .1) },
+        λ o.
+            let held = valued-right kind s ps bones (besideOf kind s starts bones) (beheld kind s d (o .fits) bones) d (o .fits) in
+            ordered .1 (
+              types .1 (each-map (λ p f h. h) ps (o .fits), o .distinct, o .fits),
+              after .1 (missing .1 (o .complete, o .partnered), held .1 (o .keeps)),
+            ),
+      )
+
+  judged-right : (n : ℕ) (good : GoodBody n s) → (judged kind n s bones .number ≡ 0) ↔ Obeys kind (good .properties) bones
+  unfolding judged judgedAt
+  judged-right n good =
+      let starts = properties s n .starts in
+      let verdict = verdictAt kind s starts bones in
+      Iff·trans (counted (verdict .number) verdict (nodeFaces kind s starts) (nodeLinks kind s starts)) (verdict-right (described n s good))
+
+-- for callers: what is not refused obeys the rules, and what obeys them is not refused
+module _ (kind n : ℕ) (s : List ℕ) (bones : ℕ) (good : GoodBody n s) where
+  pub obeyed : judged kind n s bones .number ≡ 0 → Obeys kind (good .properties) bones
+  obeyed = judged-right kind s bones n good .0
+
+  pub accepted : Obeys kind (good .properties) bones → judged kind n s bones .number ≡ 0
+  accepted = judged-right kind s bones n good .1

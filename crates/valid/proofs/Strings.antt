@@ -1,0 +1,70 @@
+-- A string stands at the start of some bytes exactly where it is the one that they begin with.
+use Prim.Native.Nat.{ℕ}
+use mathlib.Core.Path.{_≡_, refl, sym}
+use mathlib.Core.Logic.{_↔_, Iff·trans}
+use mathlib.Core.Bool.{true, _&&_, and-eq-true-iff, and-assoc, false≢true}
+use mathlib.Core.List.{List, [], _∷_, _++_, append-assoc, append-nil}
+use lib.Dec.{eqb}
+use lib.ListN.{length, take, getD}
+use borrow.Author.Tests.{ne-eqb}
+use Rattle.names.specs.Names.{same, bytesOk}
+use Rattle.rules.specs.declared.Text.{Text}
+use Rattle.rules.specs.Table.{letters, texts, stringOf}
+use Rattle.rules.specs.Rules.{isText, inSet, isOneOf}
+use Rattle.judge.specs.Properties.{keyTypes}
+use Rattle.format.specs.Layout.{Each, EndsInZero}
+use Rattle.format.proofs.Stages.{bytes-sound}
+use Rattle.valid.specs.Obeys.{Some}
+use Rattle.valid.proofs.Says.{Says, says-eqb, says-and, says-or, says-equal}
+use Rattle.valid.proofs.Described.{each-map}
+use Rattle.valid.proofs.Lines.{all-letters, texts-letters, rotation-letters, visible-letters}
+
+abbrev Nonzero : ℕ → Type 0
+Nonzero b = b ≡ 0 → ⊥
+
+cons-both : {x y : ℕ} {xs ys : List ℕ} → ((x ≡ y) × (xs ≡ ys)) ↔ (x ∷ xs ≡ y ∷ ys)
+cons-both = (λ p. cc (p .0, p .1), λ e. (cc, cc))
+
+text-there : (text string more : List ℕ) → Each Nonzero text → Each Nonzero string →
+    Says (isText (text ++ (0 ∷ more)) string) (text ++ (0 ∷ []) ≡ string ++ (0 ∷ []))
+unfolding isText same
+text-there [] [] more h k = (λ e. refl, λ e. refl)
+text-there [] (y ∷ string) more h k =
+    (λ e. absurd (false≢true (rw (ne-eqb 0 y (λ z. k .0 (sym z))) at e)), λ e. absurd (k .0 (sym (cons-both .1 e .0))))
+text-there (x ∷ text) [] more h k = (λ e. absurd (false≢true (rw (ne-eqb x 0 (h .0)) at e)), λ e. absurd (h .0 (cons-both .1 e .0)))
+text-there (x ∷ text) (y ∷ string) more h k =
+    let bytes : List ℕ = text ++ (0 ∷ more) in
+    rw (and-assoc (eqb x y) (same (take (length string) bytes) string) (eqb (getD bytes (length string) 1) 0))
+    (Iff·trans (says-and (eqb x y) _ (says-eqb x y) (text-there text string more (h .1) (k .1))) cons-both)
+
+-- a string of letters, where one that ends in a zero stands
+module _ {content : List ℕ} (c : EndsInZero content) (more : List ℕ) where
+  pub says-text : (string : List ℕ) → bytesOk string ≡ true → Says (isText (content ++ more) string) (content ≡ string ++ (0 ∷ []))
+  says-text string e =
+      rw (c .ends, append-assoc (c .text) (0 ∷ []) more)
+      (text-there (c .text) string more (c .nonzero) (each-map (λ b h. h .0) string (bytes-sound string e)))
+
+  set-there : (set : ℕ) (ts : List Text) → all-letters ts ≡ true →
+      Says (inSet ts set (content ++ more)) (Some (λ t. (t .set ≡ set) × (content ≡ stringOf t ++ (0 ∷ []))) ts)
+  unfolding inSet all-letters
+  set-there set [] e = (λ f. absurd (false≢true f), λ f. absurd f)
+  set-there set (t ∷ ts) e =
+      let both = and-eq-true-iff (bytesOk (stringOf t)) (all-letters ts) .0 e in
+      let test = isText (content ++ more) (stringOf t) in
+      says-or (eqb (t .set) set && test) (inSet ts set (content ++ more))
+      (says-and (eqb (t .set) set) test (says-eqb (t .set) set) (says-text (stringOf t) (both .0)))
+      (set-there set ts (both .1))
+
+  pub says-set : (set : ℕ) → Says (isOneOf set (content ++ more)) (Some (λ t. (t .set ≡ set) × (content ≡ stringOf t ++ (0 ∷ []))) texts)
+  unfolding isOneOf
+  says-set set = set-there set texts texts-letters
+
+-- so what follows does not matter
+module _ {content : List ℕ} (c : EndsInZero content) (more : List ℕ) where
+  text-alone : (string : List ℕ) → bytesOk string ≡ true → isText (content ++ more) string ≡ isText content string
+  text-alone string e =
+      says-equal (isText (content ++ more) string) (isText content string) (says-text c more string e)
+      (rw (append-nil content) at (says-text c [] string e))
+
+  pub key-alone : keyTypes (content ++ more) ≡ keyTypes content
+  key-alone = rw (text-alone (letters "rq") rotation-letters, text-alone (letters "vb") visible-letters)

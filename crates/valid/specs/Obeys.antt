@@ -1,0 +1,105 @@
+-- Document 01's rules of a node's properties, as propositions: no refusal's number, no place, no order.
+use Prim.Native.Nat.{ℕ, zero, suc, _*_, _≤_, _<_}
+use mathlib.Core.Path.{_≡_}
+use mathlib.Core.Logic.{_⊎_}
+use mathlib.Core.Bool.{true, cond}
+use mathlib.Core.List.{List, [], _∷_, _++_}
+use lib.IntN.{ℤ, pos, negsuc}
+use Rattle.le.specs.Le.{numberAt}
+use Rattle.names.specs.Names.{same}
+use Rattle.kinds.specs.Kinds.{mesh}
+use Rattle.faces.specs.Faces.{widthOf}
+use Rattle.rules.specs.declared.Line.{Line}
+use Rattle.rules.specs.Table.{letters, single, required, lines, nameOf, texts, stringOf, flag, oneOf, vertices, weights, faces, indices, keys, boneNumber}
+use Rattle.rules.specs.Rules.{takes, ruleOf}
+use Rattle.judge.specs.Judge.{signed}
+use Rattle.judge.specs.Properties.{keyTypes}
+use Rattle.format.specs.Layout.{Each, Property}
+
+abbrev pub Some : {A : Type 0} → (A → Type 0) → List A → Type 0
+Some P [] = ⊥
+Some P (x ∷ xs) = P x ⊎ Some P xs
+
+-- ---- what is asked of the properties of a node: its kind, its properties, and the Bones beside it
+
+-- a property has the name
+abbrev pub Has : (name : List ℕ) → List Property → Type 0
+Has name ps = Some (λ p. p .name ≡ name) ps
+
+-- not "name twice on a node"
+abbrev pub Distinct : List Property → Type 0
+Distinct [] = Unit {0}
+Distinct (p ∷ ps) = (Has (p .name) ps → ⊥) × Distinct ps
+
+-- not "listed name with another type or length"
+abbrev pub FitsLine : Line → Property → Type 0
+FitsLine l p = (takes (l .types) (p .code) ≡ true) × (l .array ≡ single → p .elements ≡ 1)
+
+-- not "required ... property missing"
+abbrev pub HasRequired : (kind : ℕ) → List Property → Type 0
+HasRequired kind ps = Each (λ l. l .kind ≡ kind → l .required ≡ required → Has (nameOf l) ps) lines
+
+-- not "partner property missing": "wb and wv come only together and with mi"
+abbrev pub Partnered : List Property → Type 0
+Partnered ps = Has (letters "wb") ps ⊎ Has (letters "wv") ps → Has (letters "wb") ps × Has (letters "wv") ps × Has (letters "mi") ps
+
+-- ---- what a property is held to
+
+-- the value at a place of its elements, "read unsigned"
+abbrev pub value : Property → ℕ → ℕ
+value p k = numberAt (widthOf (p .code)) (p .content) (k * widthOf (p .code))
+
+-- the property of a name, where no name stands twice: its length and its first value, 0 where there is none
+unfoldable pub elementsOf : (name : List ℕ) → List Property → ℕ
+elementsOf name [] = 0
+elementsOf name (p ∷ ps) = cond (same (p .name) name) (p .elements) (elementsOf name ps)
+
+unfoldable pub firstValueOf : (name : List ℕ) → List Property → ℕ
+firstValueOf name [] = 0
+firstValueOf name (p ∷ ps) = cond (same (p .name) name) (value p 0) (firstValueOf name ps)
+
+-- the types that kp wants of kv
+unfoldable pub wanted : List Property → ℕ
+wanted [] = keyTypes []
+wanted (p ∷ ps) = cond (same (p .name) (letters "kp")) (keyTypes (p .content)) (wanted ps)
+
+-- "Let V be a mesh's vp length"
+abbrev pub vertexCount : List Property → ℕ
+vertexCount ps = elementsOf (letters "vp") ps
+
+-- "a length divisible by 3 (three values a face) and each value below V"
+pub record AreFaces (v : ℕ) (p : Property) : Type 0 where
+  pub count : ℕ
+  pub threes : p .elements ≡ count * 3
+  pub below : (k : ℕ) → k < p .elements → value p k < v
+
+-- "-1 is no parent, otherwise it is from 0 to one less than the Bone children of that Skeleton"
+abbrev pub BoneParent : ℤ → (bones : ℕ) → Type 0
+BoneParent (pos n) bones = n < bones
+BoneParent (negsuc zero) bones = Unit {0}
+BoneParent (negsuc (suc n)) bones = ⊥
+
+-- what its line holds the property p to, among the properties of its node
+pub record Keeps (l : Line) (ps : List Property) (bones : ℕ) (p : Property) : Type 0 where
+  -- "`B` a `b` that is 0 or 1"
+  pub isFlag : l .held ≡ flag .held → value p 0 ≤ 1
+  -- "strings in brackets are the only ones taken"
+  pub isTaken : l .held ≡ oneOf 0 .held → Some (λ t. (t .set ≡ l .set) × (p .content ≡ stringOf t ++ (0 ∷ []))) texts
+  -- "vn, vt, c%d and u%d have length V"
+  pub perVertex : l .held ≡ vertices .held → p .elements ≡ vertexCount ps
+  -- "each of length mi times V"
+  pub perWeight : l .held ≡ weights .held → p .elements ≡ firstValueOf (letters "mi") ps * vertexCount ps
+  pub areFaces : l .held ≡ faces .held → AreFaces (vertexCount ps) p
+  -- "BlendShape vi and vp have equal lengths"
+  pub perIndex : l .held ≡ indices .held → p .elements ≡ elementsOf (letters "vi") ps
+  -- "as have Curve kb and kv; kv is v4 for rq, N for vb, f for any other kp"
+  pub perKey : l .held ≡ keys .held → (p .elements ≡ elementsOf (letters "kb") ps) × (takes (wanted ps) (p .code) ≡ true)
+  pub parentRight : l .held ≡ boneNumber .held → BoneParent (signed (value p 0)) bones
+
+-- all of it
+pub record Obeys (kind : ℕ) (ps : List Property) (bones : ℕ) : Type 0 where
+  pub distinct : Distinct ps
+  pub fits : Each (λ p. FitsLine (ruleOf kind (p .name)) p) ps
+  pub complete : HasRequired kind ps
+  pub partnered : kind ≡ mesh → Partnered ps
+  pub keeps : Each (λ p. Keeps (ruleOf kind (p .name)) ps bones p) ps
