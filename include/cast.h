@@ -3,7 +3,7 @@
  *
  * Every function answers for any contents of its buffers and any numbers. Of a buffer it takes for granted what C does of
  * an array: that its bytes can be read, are fewer than 2^63, and lie aligned for their type. A pointer with length 0 must
- * not be null, but may be any other that is aligned.
+ * not be null, but may be any other that is aligned. A buffer that is written must overlap no other.
  */
 #ifndef CAST_H
 #define CAST_H
@@ -14,6 +14,49 @@
 #ifdef __cplusplus
 extern "C" {
 #endif
+
+/*
+ * What a reading answers. The number is 0 where the file is accepted; else it is the first that holds of
+ *
+ *    1  the table is shorter than 8,192 numbers
+ *    2  the file is over 16,777,216 bytes
+ *    3  the file is under 16 bytes or does not start with "cast"
+ *    4  the version is not 1
+ *    5  a node's header or size does not fit what is around it
+ *    6  a kind stands where it may not
+ *    7  there is a 1,025th node
+ *    8  a node is deeper than 8; no file gets there, as no known kind may stand so deep
+ *    9  a known node has over 64 properties
+ *   10  a property passes its node's end
+ *   11  a type code, a name or a string's array length is wrong
+ *   12  bytes follow the last child of a known node, or the last root
+ *   13  a name is on a node twice, or a listed one has another type or length
+ *   14  a required property, or a partner, is missing
+ *   15  another rule of a listed property is broken
+ *   16  a link reaches no node
+ *   17  a link reaches two nodes or more
+ *
+ * and the place is where in the file that is found: 0 for 1 to 3, 4 for 4, the node's header for 5 to 9 and 14, the first
+ * such byte for 12, else the property's header. On refusal all other numbers are 0.
+ *
+ * Own bytes are those of the nodes themselves, not of their children; with the 16 of the file's header they are the whole
+ * file. Faces include the degenerate ones. Links are counted one per property.
+ */
+struct cast_reading {
+    uint32_t number, place, nodes, flags, own_known, own_unknown, faces, degenerate, links;
+};
+
+/*
+ * Reads a file into the table: a row of eight numbers for each node, in the order of their headers. The lengths count
+ * bytes and numbers. After a reading the first 8,192 numbers of the table are
+ *
+ *   on 0          the rows of the file's nodes, then zeros
+ *   on 1          what they were, and so is the whole table
+ *   on 2 to 17    zeros
+ *
+ * Numbers past 8,192 never change. What the table held before does not matter.
+ */
+struct cast_reading cast_read(const uint8_t *file, size_t file_len, uint32_t *table, size_t table_len);
 
 /*
  * What a lookup answers. The number is one of

@@ -2,8 +2,63 @@
 ghost use mathlib.Core.Path.{_≡_};
 ghost use Prim.Native.Nat.{_≤_};
 ghost use lib.ListN.{length};
-ghost use Rattle.cast.specs.Cast.{foundOf};
+ghost use Rattle.cast.specs.Cast.{answerOf, foundOf};
 ghost use Rattle.lookup.specs.Lookup.{lookupOf};
+ghost use Rattle.reader.specs.Reading.{readingOf, tableAfter};
+
+#[repr(C)]
+pub struct CastReading {
+    pub number: u32,
+    pub place: u32,
+    pub nodes: u32,
+    pub flags: u32,
+    pub own_known: u32,
+    pub own_unknown: u32,
+    pub faces: u32,
+    pub degenerate: u32,
+    pub links: u32,
+}
+
+// Reads a file, and puts its rows into the table.
+#[no_mangle]
+pub extern "C" fn cast_read(file: &[u8], table: &mut [u32]) -> CastReading
+    ensures { λ r. ⌜ (r ≡ answerOf (readingOf (now (file .entry)) (now (table .entry)))) × (now (table .exit) ≡ tableAfter (now (file .entry)) (now (table .entry))) ⌝ }
+{
+    let reading = reader::read(file, table);
+    match reading {
+        reader::Reading::Accepted(a) => {
+            let known = a.known;
+            let unknown = a.unknown;
+            let faces = a.faces;
+            let own_known = known.0 as u32;
+            let own_unknown = unknown.0 as u32;
+            let all_faces = faces.0 as u32;
+            let degenerate = a.degenerate as u32;
+            CastReading {
+                number: 0,
+                place: 0,
+                nodes: a.nodes,
+                flags: a.flags,
+                own_known,
+                own_unknown,
+                faces: all_faces,
+                degenerate,
+                links: a.links,
+            }
+        }
+        reader::Reading::Refused { number, place } => CastReading {
+            number,
+            place,
+            nodes: 0,
+            flags: 0,
+            own_known: 0,
+            own_unknown: 0,
+            faces: 0,
+            degenerate: 0,
+            links: 0,
+        },
+    }
+}
 
 #[repr(C)]
 pub struct CastFound {

@@ -5,6 +5,7 @@ mod frame;
 mod leaves;
 mod parts;
 mod print;
+mod reads;
 mod rows;
 mod walks;
 
@@ -67,5 +68,9 @@ fn dispatch(f: Frame, first: &[u8], second: &[u8]) {
     }
     if f.function == 30 {
         walks::one(f, first);
+        return;
+    }
+    if f.function == 31 {
+        reads::one(f, first);
     }
 }

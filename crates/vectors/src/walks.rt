@@ -10,12 +10,8 @@ pub fn one(f: Frame, file: &[u8]) {
     if 8300 < n {
         return;
     }
-    let mut space = space(f.seed);
+    let mut space = buffers::space(f.seed);
     lent(&mut space, 8300 - n, file);
-}
-
-fn space(number: u32) -> [u32; 8300] {
-    [number; 8300]
 }
 
 // The table is what follows the first numbers.

@@ -3,8 +3,9 @@
 use std::hint::black_box;
 use std::time::Instant;
 
-use corpus::format::{BONE, F, FILE, H, I, L, MATERIAL, MESH, MODEL, ROOT, SKELETON, V2, V3, V4};
-use corpus::tree::{numbers_data, File, Node, Property};
+use corpus::format::{MODEL, ROOT};
+use corpus::large;
+use corpus::tree::{File, Node, Property};
 use reference::TABLE_NUMBERS;
 
 /// A file with its rows, and what is asked of it.
@@ -34,53 +35,6 @@ fn questions(file: &File) -> Questions {
         table,
         asked,
     }
-}
-
-/// A box wagon on two bogies: one skinned mesh, six bones, three materials with a picture each.
-fn wagon() -> File {
-    let vertices = 2_400;
-    let array = |code, name, size: usize| Property::array(code, name, vec![1; size * vertices]);
-    let indices: Vec<u32> = (0..3 * 3_200).map(|index| index * 7 % 2_400).collect();
-    let mesh = vec![
-        Property::string("n", b"body"),
-        array(V3, "vp", 12),
-        array(V3, "vn", 12),
-        array(V2, "u0", 8),
-        array(H, "wb", 2),
-        array(F, "wv", 4),
-        Property::array(H, "f", numbers_data(2, &indices)),
-        Property::array(H, "mi", vec![1, 0]),
-        Property::string("sm", b"linear"),
-        Property::array(L, "m", 100u64.to_le_bytes().to_vec()),
-    ];
-    let bones = (0..6u32).map(|bone| {
-        let properties = vec![
-            Property::string("n", format!("axle {bone}").as_bytes()),
-            Property::array(I, "p", bone.wrapping_sub(1).to_le_bytes().to_vec()),
-            Property::array(V3, "lp", vec![0; 12]),
-            Property::array(V4, "lr", vec![0; 16]),
-        ];
-        Node::with(BONE, properties, Vec::new())
-    });
-    let materials = (0..3u64).map(|number| {
-        let mut picture = Node::with(FILE, vec![Property::string("p", b"side.dds")], Vec::new());
-        picture.hash = 200 + number;
-        let properties = vec![
-            Property::string("n", b"paint"),
-            Property::string("t", b"pbr"),
-            Property::array(L, "albedo", picture.hash.to_le_bytes().to_vec()),
-        ];
-        let mut material = Node::with(MATERIAL, properties, vec![picture]);
-        material.hash = 100 + number;
-        material
-    });
-    let mut parts = vec![
-        Node::with(MESH, mesh, Vec::new()),
-        Node::with(SKELETON, Vec::new(), bones.collect()),
-    ];
-    parts.extend(materials);
-    let model = Node::with(MODEL, vec![Property::string("n", b"wagon")], parts);
-    File::new(0, vec![Node::with(ROOT, Vec::new(), vec![model])])
 }
 
 /// A Model with a string of 15 MiB.
@@ -122,7 +76,7 @@ fn time(
 
 fn main() {
     for (title, file, repeats) in [
-        ("wagon", wagon(), 2_000),
+        ("wagon", large::wagon(), 2_000),
         ("15 MiB string", long_string(), 2),
     ] {
         let questions = questions(&file);

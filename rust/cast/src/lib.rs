@@ -2,6 +2,25 @@
 //!
 //! Every function answers for any bytes, tables and numbers.
 
+/// What a reading answers. On refusal all but number and place is 0.
+#[repr(C)]
+#[derive(Clone, Copy, Debug, Default, PartialEq, Eq)]
+pub struct Reading {
+    /// 0 where the file is accepted, else 1 to 17.
+    pub number: u32,
+    pub place: u32,
+    pub nodes: u32,
+    pub flags: u32,
+    /// Own bytes of known nodes.
+    pub own_known: u32,
+    /// Own bytes of unknown nodes.
+    pub own_unknown: u32,
+    /// Degenerate ones included.
+    pub faces: u32,
+    pub degenerate: u32,
+    pub links: u32,
+}
+
 /// What a lookup answers.
 #[repr(C)]
 #[derive(Clone, Copy, Debug, PartialEq, Eq)]
@@ -16,9 +35,16 @@ pub struct Found {
 }
 
 mod raw {
-    use super::Found;
+    use super::{Found, Reading};
 
     extern "C" {
+        pub fn cast_read(
+            file: *const u8,
+            file_len: usize,
+            table: *mut u32,
+            table_len: usize,
+        ) -> Reading;
+
         pub fn cast_lookup(
             bytes: *const u8,
             len: usize,
@@ -29,6 +55,18 @@ mod raw {
             name_len: usize,
         ) -> Found;
     }
+}
+
+/// Numbers that a reading needs in its table: 1,024 rows of eight.
+pub const TABLE_NUMBERS: usize = 8_192;
+
+/// Reads a file into the table's first 8,192 numbers: its rows, then zeros; on refusal zeros alone.
+/// A shorter table stays as it is.
+pub fn read(file: &[u8], table: &mut [u32]) -> Reading {
+    // SAFETY: each pointer and length are those of a live slice: aligned, not null even where it is
+    // empty, and of at most isize::MAX bytes; being lent for writing, the table overlaps no other.
+    // The function reads and writes inside them and keeps no pointer.
+    unsafe { raw::cast_read(file.as_ptr(), file.len(), table.as_mut_ptr(), table.len()) }
 }
 
 /// Finds a property of a row by its name.

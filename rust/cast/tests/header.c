@@ -1,4 +1,4 @@
-/* Looks a name up through the header, and prints each answer on a line. */
+/* Reads files and looks names up through the header, and prints each answer on a line. */
 
 #include "cast.h"
 
@@ -6,9 +6,64 @@
 #include <stddef.h>
 #include <stdio.h>
 
+_Static_assert(offsetof(struct cast_reading, number) == 0, "number is first");
+_Static_assert(offsetof(struct cast_reading, place) == 4, "place follows number");
+_Static_assert(offsetof(struct cast_reading, nodes) == 8, "nodes follow place");
+_Static_assert(offsetof(struct cast_reading, flags) == 12, "flags follow nodes");
+_Static_assert(offsetof(struct cast_reading, own_known) == 16, "own_known follows flags");
+_Static_assert(offsetof(struct cast_reading, own_unknown) == 20, "own_unknown follows own_known");
+_Static_assert(offsetof(struct cast_reading, faces) == 24, "faces follow own_unknown");
+_Static_assert(offsetof(struct cast_reading, degenerate) == 28, "degenerate follows faces");
+_Static_assert(offsetof(struct cast_reading, links) == 32, "links follow degenerate");
+_Static_assert(sizeof(struct cast_reading) == 36, "nothing follows links");
+
 _Static_assert(offsetof(struct cast_found, place) == 4, "place follows number");
 _Static_assert(offsetof(struct cast_found, start) == 8, "start follows place");
 _Static_assert(sizeof(struct cast_found) == 8 + 2 * sizeof(size_t), "nothing follows end");
+
+/* A root with a Model and an unknown node. The Model has a Mesh of three vertices and two faces, one of them degenerate,
+   with a link to the Material after it. */
+static const uint8_t file[] = {
+    'c', 'a', 's', 't', 1, 0, 0, 0, 1, 0, 0, 0, 4, 3, 2, 1,
+    'r', 'o', 'o', 't', 246, 0, 0, 0, 0, 0, 0, 0, 0, 0, 0, 0, 0, 0, 0, 0, 2, 0, 0, 0,
+    'm', 'o', 'd', 'l', 195, 0, 0, 0, 0, 0, 0, 0, 0, 0, 0, 0, 0, 0, 0, 0, 2, 0, 0, 0,
+    'm', 'e', 's', 'h', 102, 0, 0, 0, 9, 0, 0, 0, 0, 0, 0, 0, 3, 0, 0, 0, 0, 0, 0, 0,
+    0x33, 0x76, 2, 0, 3, 0, 0, 0, 'v', 'p', 0, 0, 0, 0, 0, 0, 0, 0, 0, 0, 0, 0, 0, 0,
+    0, 0, 0, 0, 0, 0, 0, 0, 0, 0, 0, 0, 0, 0, 0, 0, 0, 0, 0, 0, 0, 0,
+    0x62, 0, 1, 0, 6, 0, 0, 0, 'f', 0, 1, 2, 2, 1, 2,
+    0x6C, 0, 1, 0, 1, 0, 0, 0, 'm', 7, 0, 0, 0, 8, 0, 0, 0,
+    'm', 'a', 't', 'l', 69, 0, 0, 0, 7, 0, 0, 0, 8, 0, 0, 0, 4, 0, 0, 0, 0, 0, 0, 0,
+    0x73, 0, 1, 0, 1, 0, 0, 0, 'n', 0,
+    0x73, 0, 1, 0, 1, 0, 0, 0, 't', 'p', 'b', 'r', 0,
+    0x62, 0, 1, 0, 2, 0, 0, 0, 'x', 1, 2,
+    0x73, 0, 1, 0, 1, 0, 0, 0, 'y', 'z', 0,
+    'w', 'a', 'g', 'n', 27, 0, 0, 0, 1, 0, 0, 0, 2, 0, 0, 0, 3, 0, 0, 0, 4, 0, 0, 0, 1, 2, 3,
+};
+
+enum { ROOM = 8192, MORE = 8200 };
+static uint32_t rows[MORE];
+
+/* Prints the answer, then how many numbers of the table are zero, and how many are as they were. */
+static void read_file(size_t len, size_t table_len)
+{
+    for (size_t i = 0; i < MORE; i++)
+        rows[i] = 0xA5A5A5A5;
+    struct cast_reading r = cast_read(file, len, rows, table_len);
+    size_t zero = 0, kept = 0;
+    for (size_t i = 0; i < MORE; i++) {
+        zero += rows[i] == 0;
+        kept += rows[i] == 0xA5A5A5A5;
+    }
+    printf("%" PRIu32 " %" PRIu32 " %" PRIu32 " %" PRIu32 " %" PRIu32 " %" PRIu32 " %" PRIu32 " %" PRIu32 " %" PRIu32,
+           r.number, r.place, r.nodes, r.flags, r.own_known, r.own_unknown, r.faces, r.degenerate, r.links);
+    printf(" table %zu %zu\n", zero, kept);
+}
+
+static void print_row(size_t row)
+{
+    for (size_t i = 0; i < 8; i++)
+        printf(i < 7 ? "%" PRIu32 " " : "%" PRIu32 "\n", rows[8 * row + i]);
+}
 
 /* Two properties named n: the string ab, then the byte 7. */
 static const uint8_t bytes[] = {0xEE, 0x73, 0, 1, 0, 1, 0, 0, 0, 'n', 'a', 'b', 0, 0x62, 0, 1, 0, 1, 0, 0, 0, 'n', 7};
@@ -23,6 +78,13 @@ static void ask(size_t len, size_t table_len, size_t row, const char *name, size
 
 int main(void)
 {
+    read_file(sizeof file, ROOM - 1);
+    read_file(0, ROOM);
+    read_file(sizeof file - 1, MORE);
+    read_file(sizeof file, ROOM);
+    for (size_t row = 0; row < 5; row++)
+        print_row(row);
+
     ask(sizeof bytes, 8, 0, "n", 1);
     ask(sizeof bytes, 7, 0, "n", 1);
     ask(sizeof bytes, 8, SIZE_MAX, "n", 1);

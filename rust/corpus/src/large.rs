@@ -1,8 +1,8 @@
-//! Valid files near the limits, for measurements.
+//! Valid files for measurements: an ordinary one, and some near the limits.
 
 use crate::format::{
     B, BONE, F, FILE, H, I, L, MATERIAL, MAX_FILE, MAX_NODES, MAX_PROPERTIES, MESH, MODEL, ROOT,
-    SKELETON, V2, V3,
+    SKELETON, V2, V3, V4,
 };
 use crate::rng::Rng;
 use crate::tree::{numbers_data, File, Node, Property};
@@ -11,8 +11,8 @@ use crate::valid::unknown;
 /// A named maker of a large file.
 pub type Maker = (&'static str, fn(&mut Rng) -> File);
 
-/// All makers of this module.
-pub const ALL: [Maker; 12] = [
+/// All makers of files near the limits.
+pub const ALL: [Maker; 14] = [
     ("many vertices", many_vertices),
     ("many small faces", many_small_faces),
     ("many wide faces", many_wide_faces),
@@ -20,9 +20,11 @@ pub const ALL: [Maker; 12] = [
     ("huge string", huge_string),
     ("many strings", many_strings),
     ("most short properties", most_short_properties),
+    ("most listed properties", most_listed_properties),
     ("most long names", most_long_names),
     ("most links", most_links),
     ("most bones", most_bones),
+    ("most bare nodes", most_bare_nodes),
     ("most unknown nodes", most_unknown_nodes),
     ("largest file", largest_file),
 ];
@@ -30,6 +32,53 @@ pub const ALL: [Maker; 12] = [
 /// A file whose only nodes are a Root, a Model and `node` in it.
 fn in_model(node: Node) -> File {
     let model = Node::with(MODEL, Vec::new(), vec![node]);
+    File::new(0, vec![Node::with(ROOT, Vec::new(), vec![model])])
+}
+
+/// A box wagon on two bogies: one skinned mesh, six bones, three materials with a picture each.
+pub fn wagon() -> File {
+    let vertices = 2_400;
+    let array = |code, name, size: usize| Property::array(code, name, vec![1; size * vertices]);
+    let indices: Vec<u32> = (0..3 * 3_200).map(|index| index * 7 % 2_400).collect();
+    let mesh = vec![
+        Property::string("n", b"body"),
+        array(V3, "vp", 12),
+        array(V3, "vn", 12),
+        array(V2, "u0", 8),
+        array(H, "wb", 2),
+        array(F, "wv", 4),
+        Property::array(H, "f", numbers_data(2, &indices)),
+        Property::array(H, "mi", vec![1, 0]),
+        Property::string("sm", b"linear"),
+        Property::array(L, "m", 100u64.to_le_bytes().to_vec()),
+    ];
+    let bones = (0..6u32).map(|bone| {
+        let properties = vec![
+            Property::string("n", format!("axle {bone}").as_bytes()),
+            Property::array(I, "p", bone.wrapping_sub(1).to_le_bytes().to_vec()),
+            Property::array(V3, "lp", vec![0; 12]),
+            Property::array(V4, "lr", vec![0; 16]),
+        ];
+        Node::with(BONE, properties, Vec::new())
+    });
+    let materials = (0..3u64).map(|number| {
+        let mut picture = Node::with(FILE, vec![Property::string("p", b"side.dds")], Vec::new());
+        picture.hash = 200 + number;
+        let properties = vec![
+            Property::string("n", b"paint"),
+            Property::string("t", b"pbr"),
+            Property::array(L, "albedo", picture.hash.to_le_bytes().to_vec()),
+        ];
+        let mut material = Node::with(MATERIAL, properties, vec![picture]);
+        material.hash = 100 + number;
+        material
+    });
+    let mut parts = vec![
+        Node::with(MESH, mesh, Vec::new()),
+        Node::with(SKELETON, Vec::new(), bones.collect()),
+    ];
+    parts.extend(materials);
+    let model = Node::with(MODEL, vec![Property::string("n", b"wagon")], parts);
     File::new(0, vec![Node::with(ROOT, Vec::new(), vec![model])])
 }
 
@@ -119,6 +168,22 @@ pub fn most_short_properties(_: &mut Rng) -> File {
     })
 }
 
+/// 1,022 Meshes of 64 listed properties without data.
+pub fn most_listed_properties(_: &mut Rng) -> File {
+    let mut properties = vec![
+        Property::new(V3, b"vp", 0, Vec::new()),
+        Property::new(B, b"f", 0, Vec::new()),
+    ];
+    let layers = (0..MAX_PROPERTIES - 2).map(|number| {
+        let name = format!("c{number}");
+        Property::new(I, name.as_bytes(), 0, Vec::new())
+    });
+    properties.extend(layers);
+    let mesh = Node::with(MESH, properties, Vec::new());
+    let model = Node::with(MODEL, Vec::new(), vec![mesh; MAX_NODES - 2]);
+    File::new(0, vec![Node::with(ROOT, Vec::new(), vec![model])])
+}
+
 /// 1,024 nodes of 64 properties whose names of 32 bytes differ at the end.
 pub fn most_long_names(_: &mut Rng) -> File {
     full_roots(|index| {
@@ -161,6 +226,11 @@ pub fn most_bones(_: &mut Rng) -> File {
         bone
     });
     in_model(Node::with(SKELETON, Vec::new(), bones.collect()))
+}
+
+/// 1,024 roots without properties.
+pub fn most_bare_nodes(_: &mut Rng) -> File {
+    File::new(0, vec![Node::new(ROOT); MAX_NODES])
 }
 
 /// 1,022 unknown nodes that fill the file, half of them under a Model.

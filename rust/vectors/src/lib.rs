@@ -12,6 +12,7 @@ mod lookups;
 mod names;
 mod numbers;
 mod properties;
+mod reads;
 mod table;
 mod types;
 mod walks;
@@ -41,6 +42,7 @@ pub mod function {
     pub const LOOKUP: u32 = 20;
 
     pub const WALK: u32 = 30;
+    pub const READ: u32 = 31;
 }
 
 /// The whole of standard input, the whole of standard output, and the number of cases.
@@ -61,5 +63,6 @@ pub fn make() -> Vectors {
     table::add(&mut cases);
     lookups::add(&mut cases);
     walks::add(&mut cases);
+    reads::add(&mut cases);
     cases.finish()
 }

@@ -1,7 +1,7 @@
 //! How often each function and each answer of it is among the cases.
 
 use std::collections::BTreeMap;
-use vectors::function::{EXACT, INDEX, LOOKUP, STEP, WALK};
+use vectors::function::{EXACT, INDEX, LOOKUP, READ, STEP, WALK};
 
 #[test]
 fn every_answer_is_among_the_cases() {
@@ -20,7 +20,7 @@ fn every_answer_is_among_the_cases() {
     }
     for (function, answers) in &census {
         let total: usize = answers.values().sum();
-        let few = answers.len() <= 12;
+        let few = answers.len() <= 20;
         let counts = answers.iter().filter(|_| few);
         let counts: String = counts
             .map(|(answer, count)| format!(" {answer}:{count}"))
@@ -35,6 +35,9 @@ fn every_answer_is_among_the_cases() {
         (WALK, &[0, 1, 3, 4, 5, 6, 9, 10, 11, 12], 30),
         // A file of 1,025 nodes is long.
         (WALK, &[7], 3),
+        (READ, &[0, 13, 14, 15, 16, 17], 150),
+        (READ, &[1, 3, 4, 5, 6, 9, 10, 11, 12], 8),
+        (READ, &[7], 1),
     ] {
         for answer in answers {
             let count = census[&function].get(answer).copied().unwrap_or(0);
