@@ -2,22 +2,20 @@
 use Prim.Native.Nat.{ℕ, suc, _+_, _-_, _≤_, _<_}
 use native.Mathlib.Omega.{arith}
 use native.Mathlib.Numerals.{add-one}
-use mathlib.Core.Path.{_≡_, ap, _∙_, subst}
+use mathlib.Core.Path.{_≡_, ap, _∙_}
 use mathlib.Core.Bool.{true, false}
-use mathlib.Core.List.{List, [], _∷_}
-use lib.Dec.{ltb}
-use lib.ListN.{length, getD, take, drop, replicate, length-take, length-drop, drop-of-length-le, List·getD-append, List·getD-eq-default}
-use lib.Seq.{drop-cons, length-sets}
-use borrow.Author.Tests.{eq-eqb, ne-eqb, ltb-true, ltb-false}
+use mathlib.Core.List.{List, []}
+use lib.ListN.{length, getD, take, drop, length-take, length-drop, drop-of-length-le}
+use lib.Seq.{drop-cons}
+use borrow.Author.Tests.{eq-eqb, ne-eqb}
 use Rattle.le.specs.Le.{numberAt}
-use Rattle.le.proofs.Tests.{by-test}
 use Rattle.kinds.specs.Kinds.{isKnown}
 use Rattle.table.specs.declared.Row.{Row}
 use Rattle.table.specs.Table.{rowAt, rowsAt}
 use Rattle.props.specs.Step.{nameAt}
 use Rattle.body.specs.declared.Index.{Index}
-use Rattle.body.specs.Body.{properties, places, indexOf}
-use Rattle.body.proofs.Places.{properties-few, properties-places, index-starts}
+use Rattle.body.specs.Body.{properties, indexOf}
+use Rattle.body.proofs.Places.{properties-few, starts-within, starts-taken}
 use Rattle.rules.specs.declared.Line.{Line}
 use Rattle.rules.specs.declared.Span.{Span}
 use Rattle.rules.specs.Table.{lineAt}
@@ -71,26 +69,11 @@ module _ (count : Count) (kind start : ℕ) (s starts : List ℕ) (n i : ℕ) wh
 
 -- ---- a row: the places that its index tells of
 module _ (body : List ℕ) (k : ℕ) {index : Index} (e : index ≡ indexOf (properties body k)) where
-  abbrev starts : List ℕ
-  starts = properties body k .starts
-
-  pub index-room : index .count ≤ length (index .starts)
-  index-room = rw e (omega (arith, properties-few body k, length-sets (replicate 65 0) 0 (places (properties body k))))
-
-  pub index-listed : take (index .count) (index .starts) ≡ starts
-  index-listed = rw e (index-starts (properties body k) (properties-few body k))
-
   pub index-few : length (take (index .count) (index .starts)) ≤ 64
-  index-few = rw index-listed (properties-few body k)
+  index-few = rw (starts-taken body k e) (properties-few body k)
 
   pub index-within : Within body (take (index .count) (index .starts))
-  index-within i =
-      rw index-listed
-      (by-test (ltb i (length starts))
-      (λ t.
-      let inner = List·getD-append starts (properties body k .at ∷ []) 0 i (ltb-true i (length starts) t) in
-      subst (λ at. at ≤ length body) inner (properties-places body k i))
-      (λ t. rw (List·getD-eq-default starts 0 {n = i} (ltb-false i (length starts) t)) (omega arith)))
+  index-within = rw (starts-taken body k e) (starts-within body k)
 
 module _ (count : Count) (s : List ℕ) (n : ℕ) (r : Row) where
   pub row-unknown : isKnown (r .kind) ≡ false → record { number = 0; place = 0; links = n } ≡ rowLinked count s n r
@@ -100,7 +83,7 @@ module _ (count : Count) (s : List ℕ) (n : ℕ) (r : Row) where
   pub row-known : {body : List ℕ} {index : Index} → isKnown (r .kind) ≡ true → body ≡ bodyOf s r → index ≡ indexOf (properties body (r .properties))
       → nodeLinked count (r .kind) (r .start) body n (take (index .count) (index .starts)) ≡ rowLinked count s n r
   unfolding rowLinked
-  row-known {body} k e f = rw (k, ← e, index-listed body (r .properties) f)
+  row-known {body} k e f = rw (k, ← e, starts-taken body (r .properties) f)
 
 pub body-fits : (s : List ℕ) (r : Row) → {body : List ℕ} → body ≡ bodyOf s r → length body ≤ length s
 body-fits s r e = rw e (simp (length-take, length-drop) (omega arith))

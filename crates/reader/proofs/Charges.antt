@@ -1,7 +1,7 @@
 -- What is counted on the way is what the rows and the bytes give: own bytes, faces and links.
 use Prim.Native.Nat.{ℕ, zero, suc, _+_}
 use native.Mathlib.Omega.{arith}
-use mathlib.Core.Path.{_≡_, refl, sym, _∙_}
+use mathlib.Core.Path.{_≡_, refl, sym, _∙_, ap}
 use mathlib.Core.List.{List, [], _∷_, flatMap}
 use lib.ListN.{length, length-append}
 use Rattle.le.proofs.Tests.{by-test}
@@ -9,14 +9,13 @@ use Rattle.kinds.specs.Kinds.{isKnown}
 use Rattle.table.specs.declared.Row.{Row}
 use Rattle.body.specs.Body.{properties}
 use Rattle.faces.specs.Faces.{degenerate}
-use Rattle.judge.specs.declared.Judged.{Judged}
 use Rattle.judge.proofs.Counted.{degenerate-append, judged-counts}
 use Rattle.format.specs.Rows.{bodyOf, allOwnBytes}
 use Rattle.format.specs.Layout.{Each}
 use Rattle.links.specs.declared.Linked.{Linked}
 use Rattle.links.specs.Links.{Link, refusalOf, unless, resolved}
-use Rattle.reader.specs.declared.Ruled.{Ruled}
-use Rattle.reader.specs.Reading.{bonesUnder, judgedWith, judgedRow, ruledBy, ruled, ownKnown, ownUnknown}
+use Rattle.reader.specs.Reading.{bonesUnder, judgedWith, judgedRow, ruled, ownKnown, ownUnknown}
+use Rattle.reader.proofs.Judging.{ruled-on}
 use Rattle.reader.specs.Acceptance.{rowFaces, facesOf}
 
 -- ---- own bytes
@@ -34,22 +33,16 @@ row-counts s all r e =
     (λ t. rw t (judged-counts (r .kind) (r .properties) (bodyOf s r) (bonesUnder all (r .parent)) (rw t at e)))
     (λ t. rw t (refl, refl))
 
--- a row that is not refused adds what it counts
-step : (n start : ℕ) (j : Judged) (next : Ruled) → ruledBy n start j next .number ≡ 0
-    → (n ≡ 0) × (next .number ≡ 0) × (ruledBy n start j next .faces ≡ j .faces .0 + next .faces) × (ruledBy n start j next .degenerate ≡ j .degenerate + next .degenerate)
-step zero start j next e = (refl, e, refl, refl)
-step (suc n) start j next e = absurd (omega (arith, e))
-
 pub ruled-counts : (s : List ℕ) (all rs : List Row) → ruled s all rs .number ≡ 0
     → (ruled s all rs .faces ≡ length (facesOf s rs)) × (ruled s all rs .degenerate ≡ degenerate (facesOf s rs))
 unfolding ruled facesOf flatMap degenerate
 ruled-counts s all [] e = (refl, refl)
 ruled-counts s all (r ∷ rs) e =
-    let here = step (judgedRow s all r .number) (r .start) (judgedRow s all r) (ruled s all rs) e in
+    let here = ruled-on (judgedRow s all r .number) (r .start) (judgedRow s all r) (ruled s all rs) e in
     let own = row-counts s all r (here .0) in
     let ih = ruled-counts s all rs (here .1) in (
-      here .2 ∙ rw (own .0, ih .0) (sym (length-append (rowFaces s r) (facesOf s rs))),
-      here .3 ∙ rw (own .1, ih .1) (sym (degenerate-append (rowFaces s r) (facesOf s rs))),
+      ap (λ u. u .faces) (here .2) ∙ rw (own .0, ih .0) (sym (length-append (rowFaces s r) (facesOf s rs))),
+      ap (λ u. u .degenerate) (here .2) ∙ rw (own .1, ih .1) (sym (degenerate-append (rowFaces s r) (facesOf s rs))),
     )
 
 -- ---- links

@@ -1,5 +1,5 @@
 -- A row judged, by its kind being known or not; and its links, of which the rules count one for each.
-use Prim.Native.Nat.{ℕ, zero, suc, _+_}
+use Prim.Native.Nat.{ℕ, zero, suc}
 use native.Mathlib.Omega.{arith}
 use mathlib.Core.Path.{_≡_, refl, ap, sym, _∙_}
 use mathlib.Core.Bool.{true, false}
@@ -19,7 +19,7 @@ use Rattle.judge.proofs.Counted.{judged-links}
 use Rattle.format.specs.Rows.{bodyOf}
 use Rattle.links.specs.Links.{Link, linksAt, rowLinks, linksFrom, linksOf, resolved, linked}
 use Rattle.reader.specs.declared.Ruled.{Ruled}
-use Rattle.reader.specs.Reading.{bonesUnder, unjudged, judgedWith, judgedRow, ruledBy, ruled}
+use Rattle.reader.specs.Reading.{bonesUnder, unjudged, judgedWith, judgedRow, counted, ruledBy, ruled}
 
 module _ (s : List ℕ) (r : Row) (bones : ℕ) where
   pub judged-known : isKnown (r .kind) ≡ true → judgedWith s r bones ≡ judged (r .kind) (r .properties) (bodyOf s r) bones
@@ -52,18 +52,19 @@ row-count s all i r e =
     ∙ rw t (sym (node-count all (r .kind) i (r .start) (bodyOf s r) (properties (bodyOf s r) (r .properties) .starts))))
     (λ t. ap (λ x. x .links) (judged-unknown s r b t) ∙ rw t)
 
-step : (n start : ℕ) (j : Judged) (next : Ruled) → ruledBy n start j next .number ≡ 0
-    → (n ≡ 0) × (next .number ≡ 0) × (ruledBy n start j next .links ≡ j .links + next .links)
-step zero start j next e = (refl, e, refl)
-step (suc n) start j next e = absurd (omega (arith, e))
+-- a row that is not refused adds what it counts
+pub ruled-on : (n start : ℕ) (j : Judged) (next : Ruled) → ruledBy n start j next .number ≡ 0
+    → (n ≡ 0) × (next .number ≡ 0) × (ruledBy n start j next ≡ counted j next)
+ruled-on zero start j next e = (refl, e, refl)
+ruled-on (suc n) start j next e = absurd (omega (arith, e))
 
 -- where no row is refused, the rules count the links
 pub links-counted : (s : List ℕ) (all : List Row) (i : ℕ) (rs : List Row) → ruled s all rs .number ≡ 0 → ruled s all rs .links ≡ length (linksFrom s all i rs)
 unfolding ruled linksFrom
 links-counted s all i [] e = refl
 links-counted s all i (r ∷ rs) e =
-    let here = step (judgedRow s all r .number) (r .start) (judgedRow s all r) (ruled s all rs) e in
-    here .2 ∙ rw (row-count s all i r (here .0), links-counted s all (suc i) rs (here .1)) (sym (length-append (rowLinks s all i r) (linksFrom s all (suc i) rs)))
+    let here = ruled-on (judgedRow s all r .number) (r .start) (judgedRow s all r) (ruled s all rs) e in
+    ap (λ u. u .links) (here .2) ∙ rw (row-count s all i r (here .0), links-counted s all (suc i) rs (here .1)) (sym (length-append (rowLinks s all i r) (linksFrom s all (suc i) rs)))
 
 none : (ls : List Link) → 0 ≡ length ls → record { number = 0; place = 0; links = 0 } ≡ resolved 0 ls
 unfolding resolved

@@ -11,11 +11,6 @@ pub fn fill(out: &mut [u8], seed: u32) {
     }
 }
 
-// A table before it is lent: the same number throughout.
-pub fn space(number: u32) -> [u32; 8300] {
-    [number; 8300]
-}
-
 // Numbers of 4 bytes each, one after the other.
 pub fn numbers(out: &mut [u32], bytes: &[u8]) {
     let mut i: usize = 0;

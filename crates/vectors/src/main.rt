@@ -1,6 +1,7 @@
 // Runs framed cases from standard input, and prints a line for each: the function's number, then its answer and a
 // checksum of each buffer that it was lent. frame.rt has the layout of a case.
 mod buffers;
+mod files;
 mod frame;
 mod leaves;
 mod parts;
@@ -66,11 +67,7 @@ fn dispatch(f: Frame, first: &[u8], second: &[u8]) {
         rows::one(f, first, second);
         return;
     }
-    if f.function == 30 {
-        walks::one(f, first);
-        return;
-    }
-    if f.function == 31 {
-        reads::one(f, first);
+    if f.function < 32 {
+        files::one(f, first);
     }
 }

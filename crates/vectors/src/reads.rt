@@ -1,29 +1,8 @@
 // The reading of a file into a table.
-use crate::buffers;
-use crate::frame::Frame;
 use crate::print;
 
-// 31: the file in the first block; a table of y numbers, each the seed.
-pub fn one(f: Frame, file: &[u8]) {
-    let n = f.y as usize;
-    if 8300 < n {
-        return;
-    }
-    let mut space = buffers::space(f.seed);
-    lent(&mut space, 8300 - n, file);
-}
-
-// The table is what follows the first numbers.
-fn lent(space: &mut [u32], first: usize, file: &[u8]) {
-    if space.len() < first {
-        return;
-    }
-    read(&mut space[first..], file);
-}
-
-fn read(table: &mut [u32], file: &[u8]) {
+pub fn one(table: &mut [u32], file: &[u8]) {
     show(reader::read(file, table));
-    print::next(buffers::numbers_checksum(table));
 }
 
 // All nine numbers of an answer.

@@ -1,11 +1,12 @@
 -- `links::row_links`: the properties that the index tells of are those of the body.
-use Prim.Native.Nat.{_+_, _^_, _<_}
+use Prim.Native.Nat.{_+_, _^_, _≤_, _<_}
 use native.Mathlib.Omega.{arith}
 use mathlib.Core.Path.{sym, _∙_}
 use lib.ListN.{length}
 use lib.Seq.{length-take-le}
 use borrow.Author.Tests.{not-true, not-false}
-use Rattle.links.proofs.Turns.{index-room, index-few, index-within, row-unknown, row-known, body-fits}
+use Rattle.body.proofs.Places.{starts-room}
+use Rattle.links.proofs.Turns.{index-few, index-within, row-unknown, row-known, body-fits}
 use borrow.Author.Needs.{needs}
 use Rattle.links.proofs.row_links.Statement.{statement}
 use Rattle.links.proofs.row_links.Tie as tie
@@ -22,14 +23,17 @@ body-of-requires c κs = search needs
 index-of-requires : tie.Need-index-of-requires
 index-of-requires c κs = search needs
 
+room : (c : tie.After-index-of) → c .index-of .result .count ≤ length (c .index-of .result .starts)
+room c = starts-room _ _ (c .index-of .ensures .0) (c .index-of .ensures .1)
+
 cast-start : tie.Need-cast-start
 cast-start c = search needs
 
 array-share-prefix-starts : tie.Need-array-share-prefix-starts
-array-share-prefix-starts c = index-room _ _ (c .before .before .index-of .ensures .0)
+array-share-prefix-starts c = room (c .before .before)
 
 slice-aggregate-node-links : tie.Need-slice-aggregate-node-links
-slice-aggregate-node-links c = sym (length-take-le _ _ (index-room _ _ (c .before .before .before .index-of .ensures .0)))
+slice-aggregate-node-links c = sym (length-take-le _ _ (room (c .before .before .before)))
 
 node-links-requires : tie.Need-node-links-requires
 node-links-requires c κs =
