@@ -1,6 +1,6 @@
 -- What properties are held against, read over places, is what the properties say.
 use Prim.Native.Nat.{ℕ, _*_}
-use mathlib.Core.Path.{_≡_, sym, _∙_}
+use mathlib.Core.Path.{_≡_}
 use mathlib.Core.List.{List}
 use lib.Dec.{eqb}
 use Rattle.le.proofs.Tests.{by-test}
@@ -13,7 +13,7 @@ use Rattle.judge.specs.Properties.{restAt, valueAt, lengthOf, valueOf, keyTypes
 use Rattle.format.specs.Layout.{Each, Property}
 use Rattle.valid.specs.Obeys.{FitsLine, value, elementsOf, firstValueOf, wanted, vertexCount}
 use Rattle.valid.proofs.Described.{Described, each-map}
-use Rattle.valid.proofs.Names.{said-elements, said-value, said-wanted, read-said}
+use Rattle.valid.proofs.Names.{read-named}
 use Rattle.valid.proofs.Lines.{weights-each, key-text}
 use Rattle.valid.proofs.Values.{takes-number, takes-string, value-read, string-ends}
 use Rattle.valid.proofs.Strings.{key-alone}
@@ -35,24 +35,22 @@ module _ (kind : ℕ) (s : List ℕ) {starts : List ℕ} {ps : List Property} (d
     (fits : Each (λ p. FitsLine (ruleOf kind (p .name)) p) ps) where
   length-of : (name : List ℕ) → lengthOf s starts name ≡ elementsOf name ps
   unfolding lengthOf
-  length-of name = read-said s name (lengthAt s) (λ p. p .elements) 0 d (each-map (λ p f at a e. a .elements) ps fits) ∙ sym (said-elements name ps)
+  length-of name = read-named s name (lengthAt s) (λ p. p .elements) 0 d (each-map (λ p f at a e. a .elements) ps fits)
 
   weights-of : kind ≡ mesh → valueOf s starts (letters "mi") ≡ firstValueOf (letters "mi") ps
   unfolding valueOf
   weights-of k =
-      read-said s (letters "mi") (valueAt s) (λ p. value p 0) 0 d
+      read-named s (letters "mi") (valueAt s) (λ p. value p 0) 0 d
       (each-map (λ p f at a e.
       let g = fits-named kind p k e f in
       value-read a (takes-number _ (p .code) (g .0) (weights-each .0)) (g .1 (weights-each .1))) ps fits)
-      ∙ sym (said-value (letters "mi") ps)
 
   types-of : kind ≡ curve → typesOf s starts ≡ wanted ps
   unfolding typesOf
   types-of k =
-      read-said s (letters "kp") (λ at. keyTypes (restAt s at)) (λ p. keyTypes (p .content)) float d
+      read-named s (letters "kp") (λ at. keyTypes (restAt s at)) (λ p. keyTypes (p .content)) float d
       (each-map (λ p f at a e.
       rw (a .rest) (key-alone (string-ends a (takes-string _ (p .code) (fits-named kind p k e f .0) key-text)) (a .more))) ps fits)
-      ∙ sym (said-wanted ps)
 
   pub beheld : (bones : ℕ) → Beheld kind ps bones (besideOf kind s starts bones)
   unfolding besideOf

@@ -12,11 +12,9 @@ use Rattle.names.specs.Names.{same}
 use Rattle.names.proofs.Laws.{same-eq}
 use Rattle.props.specs.Step.{nameAt}
 use Rattle.body.specs.Body.{firstNamed}
-use Rattle.rules.specs.Table.{letters, float}
-use Rattle.rules.specs.Rules.{isText}
-use Rattle.judge.specs.Properties.{has, placeOf, keyTypes}
+use Rattle.judge.specs.Properties.{has, placeOf}
 use Rattle.format.specs.Layout.{Each, Property}
-use Rattle.valid.specs.Obeys.{Has, value, elementsOf, firstValueOf, wanted}
+use Rattle.valid.specs.Obeys.{Has, ofNamed}
 use Rattle.valid.proofs.Says.{Says, says-same, says-or}
 use Rattle.valid.proofs.Described.{At, Described, none, one}
 
@@ -54,35 +52,11 @@ module _ (s name : List ℕ) where
       rw (has-cons b (starts ++ (at ∷ [])), has-cons b starts, has-snoc starts at)
       (by-test (same (nameAt s b) name) (λ e. rw e) (λ e. rw e))
 
--- what the property of a name says
-unfoldable pub said : (name : List ℕ) (say : Property → ℕ) (other : ℕ) → List Property → ℕ
-said name say other [] = other
-said name say other (p ∷ ps) = cond (same (p .name) name) (say p) (said name say other ps)
-
-pub said-elements : (name : List ℕ) (ps : List Property) → elementsOf name ps ≡ said name (λ p. p .elements) 0 ps
-unfolding said elementsOf
-said-elements name [] = refl
-said-elements name (p ∷ ps) = rw (said-elements name ps)
-
-pub said-value : (name : List ℕ) (ps : List Property) → firstValueOf name ps ≡ said name (λ p. value p 0) 0 ps
-unfolding said firstValueOf
-said-value name [] = refl
-said-value name (p ∷ ps) = rw (said-value name ps)
-
-no-text : keyTypes [] ≡ float
-unfolding isText same letters
-no-text = refl
-
-pub said-wanted : (ps : List Property) → wanted ps ≡ said (letters "kp") (λ p. keyTypes (p .content)) float ps
-unfolding said wanted
-said-wanted [] = no-text
-said-wanted (p ∷ ps) = rw (said-wanted ps)
-
--- it is what is read at its place, where both agree
-pub read-said : (s name : List ℕ) (read : ℕ → ℕ) (say : Property → ℕ) (other : ℕ) {starts : List ℕ} {ps : List Property} → Described s starts ps →
-    Each (λ p. (at : ℕ) → At s at p → p .name ≡ name → read at ≡ say p) ps → readOf s name read other starts ≡ said name say other ps
-unfolding said firstNamed
-read-said s name read say other none h = refl
-read-said s name read say other (one {at} {p} {starts} {ps} a d) h =
-    rw (read-cons s name at starts read other, a .name, read-said s name read say other d (h .1))
+-- what is read of the property of a name is what is read at its place, where both agree
+pub read-named : (s name : List ℕ) (read : ℕ → ℕ) (say : Property → ℕ) (other : ℕ) {starts : List ℕ} {ps : List Property} → Described s starts ps →
+    Each (λ p. (at : ℕ) → At s at p → p .name ≡ name → read at ≡ say p) ps → readOf s name read other starts ≡ ofNamed name say other ps
+unfolding ofNamed firstNamed
+read-named s name read say other none h = refl
+read-named s name read say other (one {at} {p} {starts} {ps} a d) h =
+    rw (read-cons s name at starts read other, a .name, read-named s name read say other d (h .1))
     (by-test (same (p .name) name) (λ e. rw e (h .0 at a (same-eq (p .name) name e))) (λ e. rw e))

@@ -10,7 +10,7 @@ use Rattle.names.specs.Names.{same}
 use Rattle.kinds.specs.Kinds.{mesh}
 use Rattle.faces.specs.Faces.{widthOf}
 use Rattle.rules.specs.declared.Line.{Line}
-use Rattle.rules.specs.Table.{letters, single, required, lines, nameOf, texts, stringOf, flag, oneOf, vertices, weights, faces, indices, keys, boneNumber}
+use Rattle.rules.specs.Table.{letters, single, required, lines, nameOf, texts, stringOf, flag, oneOf, vertices, weights, faces, indices, keys, boneNumber, float}
 use Rattle.rules.specs.Rules.{takes, ruleOf}
 use Rattle.judge.specs.Judge.{signed}
 use Rattle.judge.specs.Properties.{keyTypes}
@@ -49,19 +49,21 @@ Partnered ps = Has (letters "wb") ps ⊎ Has (letters "wv") ps → Has (letters 
 abbrev pub value : Property → ℕ → ℕ
 value p k = numberAt (widthOf (p .code)) (p .content) (k * widthOf (p .code))
 
--- the property of a name, where no name stands twice: its length and its first value, 0 where there is none
-unfoldable pub elementsOf : (name : List ℕ) → List Property → ℕ
-elementsOf name [] = 0
-elementsOf name (p ∷ ps) = cond (same (p .name) name) (p .elements) (elementsOf name ps)
+-- what is read of the property of a name, where no name stands twice; another number where there is none
+unfoldable pub ofNamed : (name : List ℕ) (read : Property → ℕ) (other : ℕ) → List Property → ℕ
+ofNamed name read other [] = other
+ofNamed name read other (p ∷ ps) = cond (same (p .name) name) (read p) (ofNamed name read other ps)
 
-unfoldable pub firstValueOf : (name : List ℕ) → List Property → ℕ
-firstValueOf name [] = 0
-firstValueOf name (p ∷ ps) = cond (same (p .name) name) (value p 0) (firstValueOf name ps)
+-- its length and its first value
+abbrev pub elementsOf : (name : List ℕ) → List Property → ℕ
+elementsOf name ps = ofNamed name (λ p. p .elements) 0 ps
+
+abbrev pub firstValueOf : (name : List ℕ) → List Property → ℕ
+firstValueOf name ps = ofNamed name (λ p. value p 0) 0 ps
 
 -- the types that kp wants of kv
-unfoldable pub wanted : List Property → ℕ
-wanted [] = keyTypes []
-wanted (p ∷ ps) = cond (same (p .name) (letters "kp")) (keyTypes (p .content)) (wanted ps)
+abbrev pub wanted : List Property → ℕ
+wanted ps = ofNamed (letters "kp") (λ p. keyTypes (p .content)) float ps
 
 -- "Let V be a mesh's vp length"
 abbrev pub vertexCount : List Property → ℕ
