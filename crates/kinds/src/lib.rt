@@ -1,7 +1,6 @@
 // The kinds of nodes: which are known, and which may stand under which.
 ghost use mathlib.Core.Path.{_≡_};
-ghost use Prim.Native.Nat.{_<_};
-ghost use Rattle.kinds.specs.Kinds.{lineAt, lineOf, isKnown, standsAtTop, standsUnder, mayStand};
+ghost use Rattle.kinds.specs.Kinds.{lineFrom, lineOf, isKnown, standsAtTop, standsUnder, mayStand};
 
 // A kind, how many kinds it may stand under, and which.
 const LINES: [[u32; 4]; 16] = [
@@ -36,29 +35,27 @@ enum Listed {
     Unknown,
 }
 
-fn line_at(i: usize) -> Line
-    requires { ⌜ i < 16 ⌝ }
-    ensures { λ r. ⌜ r ≡ lineAt i ⌝ }
+// A line from its row of the table.
+fn line_from(row: [u32; 4]) -> Line
+    ensures { λ r. ⌜ r ≡ lineFrom row ⌝ }
 {
-    let l = LINES[i];
-    let kind = l[0];
-    let count = l[1];
-    let first = l[2];
-    let second = l[3];
     Line {
-        kind,
-        count,
-        first,
-        second,
+        kind: row[0],
+        count: row[1],
+        first: row[2],
+        second: row[3],
     }
 }
 
 fn line_of(kind: u32) -> Listed
     ensures { λ r. ⌜ r ≡ lineOf kind ⌝ }
 {
+    // The table is written out where it is read: once, and not for each line.
+    let lines = LINES;
     let mut i: usize = 0;
     while i < 16 {
-        let line = line_at(i);
+        let row = lines[i];
+        let line = line_from(row);
         if line.kind == kind {
             return Listed::At(line);
         }
