@@ -8,6 +8,7 @@ use Rattle.le.proofs.Tests.{by-test}
 use Rattle.body.specs.Body.{properties}
 use Rattle.faces.specs.declared.Face.{Face}
 use Rattle.faces.specs.Faces.{isDegenerate, degenerate}
+use Rattle.rules.specs.Rules.{linesOf}
 use Rattle.judge.specs.declared.Verdict.{Verdict}
 use Rattle.judge.specs.Judge.{nodeFaces, nodeLinks, verdictAt, judgedBy, judgedAt, judged}
 
@@ -23,22 +24,22 @@ counted-by zero v fs links e = (refl, refl)
 counted-by (suc n) v fs links e = absurd (omega (arith, e))
 
 pub judged-counts : (kind count : ℕ) (s : List ℕ) (bones : ℕ) → judged kind count s bones .number ≡ 0
-    → (judged kind count s bones .faces .0 ≡ length (nodeFaces kind s (properties s count .starts)))
-    × (judged kind count s bones .degenerate ≡ degenerate (nodeFaces kind s (properties s count .starts)))
+    → (judged kind count s bones .faces .0 ≡ length (nodeFaces (linesOf kind) s (properties s count .starts)))
+    × (judged kind count s bones .degenerate ≡ degenerate (nodeFaces (linesOf kind) s (properties s count .starts)))
 unfolding judged judgedAt
 judged-counts kind count s bones e =
     let starts = properties s count .starts in
-    let v = verdictAt kind s starts bones in
-    counted-by (v .number) v (nodeFaces kind s starts) (nodeLinks kind s starts) e
+    let v = verdictAt kind (linesOf kind) s starts bones in
+    counted-by (v .number) v (nodeFaces (linesOf kind) s starts) (nodeLinks (linesOf kind) s starts) e
 
 linked-by : (n : ℕ) (v : Verdict) (fs : List Face) (links : ℕ) → judgedBy n v fs links .number ≡ 0 → judgedBy n v fs links .links ≡ links
 linked-by zero v fs links e = refl
 linked-by (suc n) v fs links e = absurd (omega (arith, e))
 
 pub judged-links : (kind count : ℕ) (s : List ℕ) (bones : ℕ) → judged kind count s bones .number ≡ 0
-    → judged kind count s bones .links ≡ nodeLinks kind s (properties s count .starts)
+    → judged kind count s bones .links ≡ nodeLinks (linesOf kind) s (properties s count .starts)
 unfolding judged judgedAt
 judged-links kind count s bones e =
     let starts = properties s count .starts in
-    let v = verdictAt kind s starts bones in
-    linked-by (v .number) v (nodeFaces kind s starts) (nodeLinks kind s starts) e
+    let v = verdictAt kind (linesOf kind) s starts bones in
+    linked-by (v .number) v (nodeFaces (linesOf kind) s starts) (nodeLinks (linesOf kind) s starts) e

@@ -1,25 +1,25 @@
 -- 13: a name of another key is another name; a property that is right is passed; and what is noted of those passed.
 use Prim.Native.Nat.{ℕ, suc, _+_, _≤_, _<_}
 use native.Mathlib.Omega.{arith}
-use native.Mathlib.Nat.{add-zero}
 use native.Mathlib.Numerals.{add-one}
 use mathlib.Core.Path.{_≡_, refl, sym, ap, _∙_}
 use mathlib.Core.Bool.{Bool, true, false, cond, _||_, true≢false, or-false, or-assoc}
 use mathlib.Core.List.{List, [], _∷_, _++_, map, map-append}
 use lib.Dec.{eqb}
-use lib.ListN.{length, take, drop, getD, set, drop-of-length-le, length-map, length-set}
-use lib.Seq.{drop-cons, take-suc, take-suc-set, take-all, length-take-le, sets, length-sets}
+use lib.ListN.{length, take, drop, getD, set, drop-of-length-le, length-set}
+use lib.Seq.{drop-cons, take-suc, take-suc-set, take-all, sets, length-sets}
 use borrow.Author.Tests.{eq-eqb, le-ltb}
 use Rattle.le.specs.Le.{numberAt}
+use Rattle.le.proofs.Stores.{sets-more}
 use Rattle.le.proofs.Tests.{by-test}
 use Rattle.names.specs.Names.{same}
 use Rattle.names.proofs.Laws.{same-eq}
 use Rattle.props.specs.Step.{codeAt, lengthAt, nameAt}
 use Rattle.body.specs.Body.{firstNamed}
-use Rattle.rules.specs.declared.Span.{Span}
-use Rattle.rules.specs.Table.{lineAt}
-use Rattle.rules.specs.Rules.{misfits, spanOf, findIn}
-use Rattle.rules.proofs.Found.{found}
+use Rattle.rules.specs.declared.Line.{Line}
+use Rattle.rules.specs.Table.{free}
+use Rattle.rules.specs.Rules.{misfits, findIn}
+use Rattle.rules.proofs.Laws.{found}
 use Rattle.judge.specs.declared.Verdict.{Verdict}
 use Rattle.judge.specs.Properties.{has}
 use Rattle.judge.specs.Judge.{isMistyped, refuse, right, typed}
@@ -56,13 +56,6 @@ absent s name starts {key} k ks e =
     let end = unnamed s name starts (ap (hasKey (map (keyAt s) starts)) (sym k) ∙ ap (λ l. hasKey l key) (sym ks) ∙ e) in
     le-ltb (firstNamed s name starts) (length starts) (omega arith)
 
--- ---- what is stored behind what was stored before
-sets-snoc : {A : Type 0} (l vs : List A) (i : ℕ) (a : A) → set (sets l i vs) (i + length vs) a ≡ sets l i (vs ++ (a ∷ []))
-sets-snoc l [] i a = ap (λ k. set l k a) (add-zero i)
-sets-snoc l (v ∷ vs) i a =
-    let on : i + suc (length vs) ≡ suc i + length vs = omega arith in
-    ap (λ k. set (sets (set l i v) (suc i) vs) k a) on ∙ sets-snoc (set l i v) vs (suc i) a
-
 -- ---- properties
 module _ (starts : List ℕ) (i : ℕ) (h : i < length starts) where
   one-more : (f : ℕ → ℕ) → map f (take (i + 1) starts) ≡ map f (take i starts) ++ (f (getD starts i 0) ∷ [])
@@ -74,58 +67,50 @@ module _ (starts : List ℕ) (i : ℕ) (h : i < length starts) where
     keys-more keys k t =
         ap (λ n. take n (set keys i v)) (add-one i) ∙ take-suc-set keys i v k ∙ rw (t, e) (sym (one-more f))
 
-    numbers-more : (old numbers : List ℕ) → numbers ≡ sets old 0 (map f (take i starts)) →
-        set numbers i v ≡ sets old 0 (map f (take (i + 1) starts))
-    numbers-more old numbers t =
-        let so = map f (take i starts) in
-        let here : 0 + length so ≡ i = omega (arith, length-map (take i starts) f, length-take-le i starts (omega arith)) in
-        ap (λ l. set l i v) t ∙ ap (λ k. set (sets old 0 so) k v) (sym here) ∙ sets-snoc old so 0 v
-        ∙ ap (λ w. sets old 0 (so ++ (w ∷ []))) e ∙ ap (sets old 0) (sym (one-more f))
-
 -- what those from a place on say, behind those before
-abbrev typedFrom : (kind : ℕ) (s starts : List ℕ) (i : ℕ) → Verdict
-typedFrom kind s starts i = typed kind s (take i starts) (drop i starts)
+abbrev typedFrom : List Line → (s starts : List ℕ) (i : ℕ) → Verdict
+typedFrom ls s starts i = typed ls s (take i starts) (drop i starts)
 
 -- those before i are right, and their keys and numbers are noted
-pub record Noted (kind : ℕ) (s starts old numbers keys : List ℕ) (i : ℕ) : Type 0 where
+pub record Noted (ls : List Line) (s starts old numbers keys : List ℕ) (i : ℕ) : Type 0 where
   pub within : i ≤ length starts
   pub sized : length keys ≡ 64
   pub keyed : take i keys ≡ map (keyAt s) (take i starts)
-  pub noted : numbers ≡ sets old 0 (map (lineNumber kind s) (take i starts))
-  pub passes : typedFrom kind s starts i ≡ typed kind s [] starts
+  pub noted : numbers ≡ sets old 0 (map (lineNumber ls s) (take i starts))
+  pub passes : typedFrom ls s starts i ≡ typed ls s [] starts
 
-module _ {kind : ℕ} {s starts old numbers keys : List ℕ} {i : ℕ} (o : Noted kind s starts old numbers keys i) where
+module _ {ls : List Line} {s starts old numbers keys : List ℕ} {i : ℕ} (o : Noted ls s starts old numbers keys i) where
   pub as-long : length numbers ≡ length old
-  as-long = ap length (o .noted) ∙ length-sets old 0 (map (lineNumber kind s) (take i starts))
+  as-long = ap length (o .noted) ∙ length-sets old 0 (map (lineNumber ls s) (take i starts))
 
-  pub all-noted : length starts ≤ i → (right ≡ typed kind s [] starts) × (numbers ≡ sets old 0 (map (lineNumber kind s) starts))
+  pub all-noted : length starts ≤ i → (right ≡ typed ls s [] starts) × (numbers ≡ sets old 0 (map (lineNumber ls s) starts))
   unfolding typed
   all-noted h =
-      (rw (drop-of-length-le starts {i = i} h) at (o .passes), o .noted ∙ ap (λ l. sets old 0 (map (lineNumber kind s) l)) (take-all i starts h))
+      (rw (drop-of-length-le starts {i = i} h) at (o .passes), o .noted ∙ ap (λ l. sets old 0 (map (lineNumber ls s) l)) (take-all i starts h))
 
   -- the property at i, by what was found of its name
   module _ (h : i < length starts) {name : List ℕ} (n : name ≡ nameAt s (getD starts i 0))
-      {span : Span} (p : span ≡ spanOf kind) {k : ℕ} (f : k ≡ findIn span name) {r m : Bool} (er : r ≡ has s (take i starts) name)
-      (em : m ≡ misfits (lineAt k) (codeAt s (getD starts i 0)) (lengthAt s (getD starts i 0))) where
-    numbered : k ≡ lineNumber kind s (getD starts i 0)
-    numbered = rw (f, p, n)
+      {k : ℕ} (f : k ≡ findIn ls name) {l : Line} (g : l ≡ getD ls k free) {r m : Bool} (er : r ≡ has s (take i starts) name)
+      (em : m ≡ misfits l (codeAt s (getD starts i 0)) (lengthAt s (getD starts i 0))) where
+    numbered : k ≡ lineNumber ls s (getD starts i 0)
+    numbered = rw (f, n)
 
-    mistyped : (r || m) ≡ isMistyped kind s (take i starts) (getD starts i 0)
-    mistyped = rw (er, em, n, numbered, found kind (nameAt s (getD starts i 0)))
+    mistyped : (r || m) ≡ isMistyped ls s (take i starts) (getD starts i 0)
+    mistyped = rw (er, em, g, n, numbered, found ls (nameAt s (getD starts i 0)))
 
-    step : typedFrom kind s starts i ≡ cond (r || m) (refuse 13 (24 + getD starts i 0)) (typedFrom kind s starts (i + 1))
+    step : typedFrom ls s starts i ≡ cond (r || m) (refuse 13 (24 + getD starts i 0)) (typedFrom ls s starts (i + 1))
     unfolding typed
     step = rw (mistyped, drop-cons starts i 0 h, add-one i, take-suc starts i 0 h)
 
-    pub refused : (r || m) ≡ true → refuse 13 (24 + getD starts i 0) ≡ typed kind s [] starts
+    pub refused : (r || m) ≡ true → refuse 13 (24 + getD starts i 0) ≡ typed ls s [] starts
     refused e = sym (rw e at step) ∙ o .passes
 
     pub passed : length starts ≤ 64 → {key : ℕ} → key ≡ numberAt 8 name 0 → (r || m) ≡ false →
-        Noted kind s starts old (set numbers i k) (set keys i key) (i + 1)
+        Noted ls s starts old (set numbers i k) (set keys i key) (i + 1)
     passed few {key} e t = record {
       within = omega arith;
       sized = length-set keys i key ∙ o .sized;
       keyed = keys-more starts i h (keyAt s) (e ∙ ap (λ l. numberAt 8 l 0) n) keys (omega (arith, o .sized)) (o .keyed);
-      noted = numbers-more starts i h (lineNumber kind s) numbered old numbers (o .noted);
+      noted = sets-more (lineNumber ls s) starts i 0 h numbered old (o .noted);
       passes = sym (rw t at step) ∙ o .passes;
     }

@@ -12,8 +12,8 @@ use lib.Seq.{drop-cons, take-append-seam, sets, sets-eq}
 use Rattle.faces.specs.declared.Face.{Face}
 use Rattle.faces.specs.Faces.{degenerate}
 use Rattle.rules.specs.declared.Line.{Line}
-use Rattle.rules.specs.Table.{lineAt}
-use Rattle.rules.proofs.Found.{found}
+use Rattle.rules.specs.Table.{free}
+use Rattle.rules.proofs.Laws.{found}
 use Rattle.props.specs.Step.{nameAt}
 use Rattle.judge.specs.declared.Beside.{Beside}
 use Rattle.judge.specs.declared.Fault.{Fault}
@@ -33,13 +33,14 @@ map-at f [] i h = absurd (omega arith)
 map-at f (x ∷ l) zero h = refl
 map-at f (x ∷ l) (suc i) h = map-at f l i (omega arith)
 
-module _ (kind : ℕ) (s starts : List ℕ) {numbers : List ℕ} (e : numbers ≡ map (lineNumber kind s) starts) where
+module _ (ls : List Line) (s starts : List ℕ) {numbers : List ℕ} (e : numbers ≡ map (lineNumber ls s) starts) where
   pub as-many : length numbers ≡ length starts
-  as-many = ap length e ∙ length-map starts (lineNumber kind s)
+  as-many = ap length e ∙ length-map starts (lineNumber ls s)
 
-  pub line-found : (i : ℕ) → i < length starts → {l : Line} → l ≡ lineAt (getD numbers i 0) → l ≡ ruleAt kind s (getD starts i 0)
+  pub line-found : (i : ℕ) → i < length starts → {l : Line} → l ≡ getD ls (getD numbers i 0) free → l ≡ ruleAt ls s (getD starts i 0)
   line-found i h m =
-      m ∙ ap (λ ns. lineAt (getD ns i 0)) e ∙ ap lineAt (map-at (lineNumber kind s) starts i h) ∙ found kind (nameAt s (getD starts i 0))
+      m ∙ ap (λ ns. getD ls (getD ns i 0) free) e ∙ ap (λ k. getD ls k free) (map-at (lineNumber ls s) starts i h)
+      ∙ found ls (nameAt s (getD starts i 0))
 
 -- ---- what is kept of a property
 kept-fault : (q : Fault) (fs : List Face) → keptBy q fs .fault ≡ q
@@ -69,49 +70,49 @@ abbrev counted : ℕ → Verdict → (faces degenerate links : ℕ) → Judged
 counted zero v f d n = record { number = 0; at = 0; faces = record { 0 = f }; degenerate = d; links = n }
 counted (suc k) v f d n = refusedWith (suc k) (v .at)
 
-unfoldable pub onTop : (faces degenerate links kind : ℕ) (s : List ℕ) → Beside → (starts : List ℕ) → Judged
-onTop f d n kind s b starts =
-    let v = valued kind s b starts in
-    let fs = nodeFaces kind s starts in
-    counted (v .number) v (f + length fs) (d + degenerate fs) (n + nodeLinks kind s starts)
+unfoldable pub onTop : (faces degenerate links : ℕ) → List Line → (s : List ℕ) → Beside → (starts : List ℕ) → Judged
+onTop f d n ls s b starts =
+    let v = valued ls s b starts in
+    let fs = nodeFaces ls s starts in
+    counted (v .number) v (f + length fs) (d + degenerate fs) (n + nodeLinks ls s starts)
 
 by-none : (k : ℕ) (v : Verdict) (fs : List Face) (n : ℕ) → counted k v (0 + length fs) (0 + degenerate fs) (0 + n) ≡ judgedBy k v fs n
 by-none zero v fs n = rw (zero-add (length fs), zero-add (degenerate fs), zero-add n)
 by-none (suc k) v fs n = refl
 
-module _ (kind : ℕ) (s : List ℕ) (b : Beside) where
-  pub on-none : (starts : List ℕ) → onTop 0 0 0 kind s b starts ≡ valuedTo kind s b starts
+module _ (ls : List Line) (s : List ℕ) (b : Beside) where
+  pub on-none : (starts : List ℕ) → onTop 0 0 0 ls s b starts ≡ valuedTo ls s b starts
   unfolding onTop valuedTo
-  on-none starts = by-none (valued kind s b starts .number) (valued kind s b starts) (nodeFaces kind s starts) (nodeLinks kind s starts)
+  on-none starts = by-none (valued ls s b starts .number) (valued ls s b starts) (nodeFaces ls s starts) (nodeLinks ls s starts)
 
   module _ (f d n : ℕ) (starts : List ℕ) (i : ℕ) where
-    module _ (h : i < length starts) {l : Line} (m : l ≡ ruleAt kind s (getD starts i 0)) where
+    module _ (h : i < length starts) {l : Line} (m : l ≡ ruleAt ls s (getD starts i 0)) where
       next : drop i starts ≡ getD starts i 0 ∷ drop (i + 1) starts
       next = rw (add-one i) (drop-cons starts i 0 h)
 
       pub passed : {k : Kept} → k ≡ keptAt l s (getD starts i 0) b → k .fault ≡ Right →
-          onTop f d n kind s b (drop i starts) ≡ onTop (f + k .faces) (d + k .degenerate) (n + linkCount l) kind s b (drop (i + 1) starts)
+          onTop f d n ls s b (drop i starts) ≡ onTop (f + k .faces) (d + k .degenerate) (n + linkCount l) ls s b (drop (i + 1) starts)
       unfolding onTop valued nodeFaces nodeLinks
       passed e r =
           let at = getD starts i 0 in
           let fs = heldFaces l s at in
-          let gs = nodeFaces kind s (drop (i + 1) starts) in
+          let gs = nodeFaces ls s (drop (i + 1) starts) in
           let faces : f + length (fs ++ gs) ≡ f + length fs + length gs = omega (arith, length-append fs gs) in
           let degenerates : d + degenerate (fs ++ gs) ≡ d + degenerate fs + degenerate gs = omega (arith, degenerate-append fs gs) in
-          let others = nodeLinks kind s (drop (i + 1) starts) in
+          let others = nodeLinks ls s (drop (i + 1) starts) in
           let links : n + (linkCount l + others) ≡ n + linkCount l + others = omega arith in
           rw (next, ← m, fault-kept l s at b e r, all-kept l s at b e r, faces, degenerates, links)
 
       pub stopped : {k : Kept} → k ≡ keptAt l s (getD starts i 0) b → {q : Fault} → k .fault ≡ q →
           ((v : Verdict) → byFault q (getD starts i 0) v ≡ refuse 15 (24 + getD starts i 0)) →
-          onTop f d n kind s b (drop i starts) ≡ refusedWith 15 (24 + getD starts i 0)
+          onTop f d n ls s b (drop i starts) ≡ refusedWith 15 (24 + getD starts i 0)
       unfolding onTop valued
       stopped e r w =
           let at = getD starts i 0 in
-          rw (next, ← m, fault-kept l s at b e r, w (valued kind s b (drop (i + 1) starts)))
+          rw (next, ← m, fault-kept l s at b e r, w (valued ls s b (drop (i + 1) starts)))
 
     pub ended : length starts ≤ i →
-        onTop f d n kind s b (drop i starts) ≡ record { number = 0; at = 0; faces = record { 0 = f }; degenerate = d; links = n }
+        onTop f d n ls s b (drop i starts) ≡ record { number = 0; at = 0; faces = record { 0 = f }; degenerate = d; links = n }
     unfolding onTop valued nodeFaces nodeLinks degenerate
     ended h = rw (drop-of-length-le starts {i = i} h, add-zero f, add-zero d, add-zero n)
 
@@ -119,23 +120,23 @@ module _ (kind : ℕ) (s : List ℕ) (b : Beside) where
 pub first-numbers : (l ns : List ℕ) (n : ℕ) → n ≡ length ns → n ≤ length l → take n (sets l 0 ns) ≡ ns
 first-numbers l ns n e h = rw (e, sets-eq ns l 0 (omega (arith, e, h))) (take-append-seam ns (drop (0 + length ns) l))
 
-module _ (kind : ℕ) (s starts : List ℕ) (bones : ℕ) where
+module _ (kind : ℕ) (ls : List Line) (s starts : List ℕ) (bones : ℕ) where
   by-typed : (k : ℕ) (v w : Verdict) (fs : List Face) (n : ℕ) → (k ≡ 0 → ⊥) → v .number ≡ k →
       refusedWith (v .number) (v .at) ≡ judgedBy (andThen k v w .number) (andThen k v w) fs n
   by-typed zero v w fs n h e = absurd (h refl)
   by-typed (suc k) v w fs n h e = rw e
 
-  module _ {v : Verdict} (e : v ≡ typed kind s [] starts) where
-    pub mistyped : (v .number ≡ 0 → ⊥) → refusedWith (v .number) (v .at) ≡ judgedAt kind s starts bones
+  module _ {v : Verdict} (e : v ≡ typed ls s [] starts) where
+    pub mistyped : (v .number ≡ 0 → ⊥) → refusedWith (v .number) (v .at) ≡ judgedAt kind ls s starts bones
     unfolding judgedAt verdictAt
     mistyped h = rw (← e) (by-typed (v .number) v _ _ _ h refl)
 
     module _ (t : v .number ≡ 0) where
-      pub lacking : lacks kind s starts ≡ true → refusedWith 14 0 ≡ judgedAt kind s starts bones
+      pub lacking : lacks kind ls s starts ≡ true → refusedWith 14 0 ≡ judgedAt kind ls s starts bones
       unfolding judgedAt verdictAt
       lacking h = rw (← e, t, h)
 
-      pub by-values : lacks kind s starts ≡ false → valuedTo kind s (besideOf kind s starts bones) starts ≡ judgedAt kind s starts bones
+      pub by-values : lacks kind ls s starts ≡ false → valuedTo ls s (besideOf kind s starts bones) starts ≡ judgedAt kind ls s starts bones
       unfolding judgedAt verdictAt valuedTo
       by-values h = rw (← e, t, h)
 

@@ -9,7 +9,7 @@ use Rattle.props.specs.Step.{nameAt}
 use Rattle.faces.specs.declared.Face.{Face}
 use Rattle.faces.specs.Faces.{degenerate}
 use Rattle.rules.specs.declared.Line.{Line}
-use Rattle.rules.specs.Rules.{spanOf, findIn}
+use Rattle.rules.specs.Rules.{findIn}
 use Rattle.judge.specs.declared.Beside.{Beside}
 use Rattle.judge.specs.declared.Fault.{Fault}
 use Rattle.judge.specs.declared.Fault.the-variants.{Right, Whole, Element}
@@ -21,9 +21,9 @@ use Rattle.judge.specs.Judge.{faultOf, heldFaces, valued, nodeFaces, nod
 abbrev pub Within : (s starts : List ℕ) → Type 0
 Within s starts = (i : ℕ) → getD starts i 0 ≤ length s
 
--- where the line of the property at a place stands in the table of rules
-abbrev pub lineNumber : (kind : ℕ) (s : List ℕ) (at : ℕ) → ℕ
-lineNumber kind s at = findIn (spanOf kind) (nameAt s at)
+-- where the line of the property at a place stands among some
+abbrev pub lineNumber : List Line → (s : List ℕ) (at : ℕ) → ℕ
+lineNumber ls s at = findIn ls (nameAt s at)
 
 -- the first eight letters of its name
 abbrev pub keyAt : (s : List ℕ) (at : ℕ) → ℕ
@@ -43,10 +43,10 @@ unfoldable pub keptAt : Line → (s : List ℕ) (at : ℕ) → Beside → Kept
 keptAt l s at b = keptBy (faultOf l s at b) (heldFaces l s at)
 
 -- 15 of some properties, with what they count
-unfoldable pub valuedTo : (kind : ℕ) (s : List ℕ) → Beside → (starts : List ℕ) → Judged
-valuedTo kind s b starts =
-    let v = valued kind s b starts in
-    judgedBy (v .number) v (nodeFaces kind s starts) (nodeLinks kind s starts)
+unfoldable pub valuedTo : List Line → (s : List ℕ) → Beside → (starts : List ℕ) → Judged
+valuedTo ls s b starts =
+    let v = valued ls s b starts in
+    judgedBy (v .number) v (nodeFaces ls s starts) (nodeLinks ls s starts)
 
 -- how large a judgement's numbers are: its place lies in the node, of so many bytes behind its header; 64 properties count at
 -- most so much

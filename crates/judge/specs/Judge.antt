@@ -1,6 +1,6 @@
 -- Document 01's refusals 13, 14 and 15 of one node, from its kind, its property count, its body and the number of Bones
--- beside it: "all 13, then 14, then all 15", and "Within a row the first property in file order speaks". The place is an
--- offset from the node's header: 0 is the node, 24 the first byte of its body.
+-- beside it: "all 13, then 14, then all 15", and "Within a row the first property in file order speaks". The lines of its kind are
+-- ls. The place is an offset from the node's header: 0 is the node, 24 the first byte of its body.
 use Prim.Native.Nat.{ℕ, zero, suc, _+_, _-_, _/_, _%_}
 use mathlib.Core.Bool.{Bool, true, false, cond, not, _&&_, _||_}
 use mathlib.Core.List.{List, [], _∷_, _++_}
@@ -16,8 +16,8 @@ use Rattle.faces.specs.declared.Values.{Values}
 use Rattle.faces.specs.declared.Values.the-variants.{Below, Past}
 use Rattle.faces.specs.Faces.{widthOf, facesIn, below, degenerate}
 use Rattle.rules.specs.declared.Line.{Line}
-use Rattle.rules.specs.Table.{letters, required, lines, nameOf, flag, vertices, weights, faces, indices, keys, boneNumber, oneOf, linkTo}
-use Rattle.rules.specs.Rules.{takes, misfits, isOneOf}
+use Rattle.rules.specs.Table.{letters, required, nameOf, flag, vertices, weights, faces, indices, keys, boneNumber, oneOf, linkTo}
+use Rattle.rules.specs.Rules.{takes, misfits, linesOf, isOneOf}
 use Rattle.judge.specs.declared.Beside.{Beside}
 use Rattle.judge.specs.declared.Fault.{Fault}
 use Rattle.judge.specs.declared.Fault.the-variants.{Right, Whole, Element}
@@ -37,14 +37,14 @@ refuse n at = record { number = n; at = at }
 abbrev pub repeats : (s before : List ℕ) (at : ℕ) → Bool
 repeats s before at = has s before (nameAt s at)
 
-abbrev pub isMistyped : (kind : ℕ) (s before : List ℕ) (at : ℕ) → Bool
-isMistyped kind s before at = repeats s before at || misfits (ruleAt kind s at) (codeAt s at) (lengthAt s at)
+abbrev pub isMistyped : List Line → (s before : List ℕ) (at : ℕ) → Bool
+isMistyped ls s before at = repeats s before at || misfits (ruleAt ls s at) (codeAt s at) (lengthAt s at)
 
 -- behind some properties, the first of the others of which 13 holds
-unfoldable pub typed : (kind : ℕ) (s before starts : List ℕ) → Verdict
-typed kind s before [] = right
-typed kind s before (at ∷ more) =
-    cond (isMistyped kind s before at) (refuse 13 (24 + at)) (typed kind s (before ++ (at ∷ [])) more)
+unfoldable pub typed : List Line → (s before starts : List ℕ) → Verdict
+typed ls s before [] = right
+typed ls s before (at ∷ more) =
+    cond (isMistyped ls s before at) (refuse 13 (24 + at)) (typed ls s (before ++ (at ∷ [])) more)
 
 -- ---- 14: "required or partner property missing", at the node
 
@@ -52,11 +52,10 @@ typed kind s before (at ∷ more) =
 abbrev pub isMissing : Line → (s starts : List ℕ) → Bool
 isMissing l s starts = eqb (l .required) required && not (has s starts (nameOf l))
 
--- a line of the kind is missing
-unfoldable pub misses : List Line → (kind : ℕ) (s starts : List ℕ) → Bool
-misses [] kind s starts = false
-misses (l ∷ ls) kind s starts =
-    (eqb (l .kind) kind && isMissing l s starts) || misses ls kind s starts
+-- one of some lines is missing
+unfoldable pub misses : List Line → (s starts : List ℕ) → Bool
+misses [] s starts = false
+misses (l ∷ ls) s starts = isMissing l s starts || misses ls s starts
 
 -- "wb and wv come only together and with mi ...; mi may stand alone"
 abbrev pub partnered : (wb wv mi : Bool) → Bool
@@ -66,8 +65,8 @@ abbrev pub unpartnered : (kind : ℕ) (s starts : List ℕ) → Bool
 unpartnered kind s starts =
     eqb kind mesh && not (partnered (has s starts (letters "wb")) (has s starts (letters "wv")) (has s starts (letters "mi")))
 
-unfoldable pub lacks : (kind : ℕ) (s starts : List ℕ) → Bool
-lacks kind s starts = misses lines kind s starts || unpartnered kind s starts
+unfoldable pub lacks : (kind : ℕ) → List Line → (s starts : List ℕ) → Bool
+lacks kind ls s starts = misses ls s starts || unpartnered kind s starts
 
 -- ---- 15: "any other property rule above broken", at the property
 
@@ -127,9 +126,9 @@ byFault Right at next = next
 byFault Whole at next = refuse 15 (24 + at)
 byFault (Element k) at next = refuse 15 (24 + at)
 
-unfoldable pub valued : (kind : ℕ) (s : List ℕ) → Beside → (starts : List ℕ) → Verdict
-valued kind s b [] = right
-valued kind s b (at ∷ more) = byFault (faultOf (ruleAt kind s at) s at b) at (valued kind s b more)
+unfoldable pub valued : List Line → (s : List ℕ) → Beside → (starts : List ℕ) → Verdict
+valued ls s b [] = right
+valued ls s b (at ∷ more) = byFault (faultOf (ruleAt ls s at) s at b) at (valued ls s b more)
 
 -- ---- a node's faces and links
 
@@ -137,17 +136,17 @@ valued kind s b (at ∷ more) = byFault (faultOf (ruleAt kind s at) s at b) at (
 abbrev pub heldFaces : Line → (s : List ℕ) (at : ℕ) → List Face
 heldFaces l s at = cond (eqb (l .held) (faces .held)) (facesAt s at) []
 
-unfoldable pub nodeFaces : (kind : ℕ) (s starts : List ℕ) → List Face
-nodeFaces kind s [] = []
-nodeFaces kind s (at ∷ more) = heldFaces (ruleAt kind s at) s at ++ nodeFaces kind s more
+unfoldable pub nodeFaces : List Line → (s starts : List ℕ) → List Face
+nodeFaces ls s [] = []
+nodeFaces ls s (at ∷ more) = heldFaces (ruleAt ls s at) s at ++ nodeFaces ls s more
 
 -- "links (one per link property present)"
 abbrev pub linkCount : Line → ℕ
 linkCount l = cond (eqb (l .held) (linkTo 0 .held)) 1 0
 
-unfoldable pub nodeLinks : (kind : ℕ) (s starts : List ℕ) → ℕ
-nodeLinks kind s [] = 0
-nodeLinks kind s (at ∷ more) = linkCount (ruleAt kind s at) + nodeLinks kind s more
+unfoldable pub nodeLinks : List Line → (s starts : List ℕ) → ℕ
+nodeLinks ls s [] = 0
+nodeLinks ls s (at ∷ more) = linkCount (ruleAt ls s at) + nodeLinks ls s more
 
 -- ---- all of it
 abbrev pub andThen : ℕ → Verdict → Verdict → Verdict
@@ -155,12 +154,12 @@ andThen zero v next = next
 andThen (suc n) v next = v
 
 -- the verdict on the properties at some places
-unfoldable pub verdictAt : (kind : ℕ) (s starts : List ℕ) (bones : ℕ) → Verdict
-verdictAt kind s starts bones =
-    let v = typed kind s [] starts in
+unfoldable pub verdictAt : (kind : ℕ) → List Line → (s starts : List ℕ) (bones : ℕ) → Verdict
+verdictAt kind ls s starts bones =
+    let v = typed ls s [] starts in
     andThen (v .number) v
-    (cond (lacks kind s starts) (refuse 14 0)
-    (valued kind s (besideOf kind s starts bones) starts))
+    (cond (lacks kind ls s starts) (refuse 14 0)
+    (valued ls s (besideOf kind s starts bones) starts))
 
 abbrev pub refusedWith : (number at : ℕ) → Judged
 refusedWith n at = record { number = n; at = at; faces = record { 0 = 0 }; degenerate = 0; links = 0 }
@@ -170,11 +169,11 @@ abbrev pub judgedBy : ℕ → Verdict → List Face → ℕ → Judged
 judgedBy zero v fs links = record { number = 0; at = 0; faces = record { 0 = length fs }; degenerate = degenerate fs; links = links }
 judgedBy (suc n) v fs links = refusedWith (suc n) (v .at)
 
-unfoldable pub judgedAt : (kind : ℕ) (s starts : List ℕ) (bones : ℕ) → Judged
-judgedAt kind s starts bones =
-    let v = verdictAt kind s starts bones in
-    judgedBy (v .number) v (nodeFaces kind s starts) (nodeLinks kind s starts)
+unfoldable pub judgedAt : (kind : ℕ) → List Line → (s starts : List ℕ) (bones : ℕ) → Judged
+judgedAt kind ls s starts bones =
+    let v = verdictAt kind ls s starts bones in
+    judgedBy (v .number) v (nodeFaces ls s starts) (nodeLinks ls s starts)
 
 -- of so many properties, those that the walk passes
 unfoldable pub judged : (kind count : ℕ) (s : List ℕ) (bones : ℕ) → Judged
-judged kind count s bones = judgedAt kind s (properties s count .starts) bones
+judged kind count s bones = judgedAt kind (linesOf kind) s (properties s count .starts) bones

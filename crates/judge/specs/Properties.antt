@@ -11,12 +11,12 @@ use Rattle.body.specs.Body.{firstNamed}
 use Rattle.faces.specs.Faces.{widthOf}
 use Rattle.rules.specs.declared.Line.{Line}
 use Rattle.rules.specs.Table.{letters, float, v4, N}
-use Rattle.rules.specs.Rules.{ruleOf, isText}
+use Rattle.rules.specs.Rules.{ruleIn, isText}
 use Rattle.judge.specs.declared.Beside.{Beside}
 
--- the line of the property at a place
-abbrev pub ruleAt : (kind : ℕ) (s : List ℕ) (at : ℕ) → Line
-ruleAt kind s at = ruleOf kind (nameAt s at)
+-- the line of the property at a place, among some
+abbrev pub ruleAt : List Line → (s : List ℕ) (at : ℕ) → Line
+ruleAt ls s at = ruleIn ls (nameAt s at)
 
 -- its data, and what follows it
 abbrev pub restAt : (s : List ℕ) (at : ℕ) → List ℕ

@@ -6,7 +6,7 @@ ghost use lib.ListN.{length};
 ghost use lib.Seq.{sets};
 ghost use Rattle.le.specs.Le.{numberAt};
 ghost use Rattle.props.specs.Step.{codeAt, lengthAt};
-ghost use Rattle.rules.specs.Table.{lines, lineAt};
+ghost use Rattle.rules.specs.Table.{linesFrom};
 ghost use Rattle.rules.specs.Rules.{misfits};
 ghost use Rattle.judge.specs.Properties.{restAt, valueAt, has, lengthOf, valueOf, typesOf, besideOf};
 ghost use Rattle.judge.specs.Judge.{typed, isMissing, misses, unpartnered, lacks, whole, sole, signed, parentOk, faultOf, linkCount, facesAt, faceFault, refusedWith, judgedAt, judged};
@@ -50,30 +50,29 @@ fn is_before(body: &[u8], starts: &[usize], keys: &[u64], name: &[u8], key: u64)
     has(body, starts, name)
 }
 
-fn misfit(body: &[u8], at: usize, k: usize) -> bool
-    ensures { λ r. ⌜ r ≡ misfits (lineAt k) (codeAt (now (body .entry)) at) (lengthAt (now (body .entry)) at) ⌝ }
+fn misfit(l: rules::Line, body: &[u8], at: usize) -> bool
+    ensures { λ r. ⌜ r ≡ misfits l (codeAt (now (body .entry)) at) (lengthAt (now (body .entry)) at) ⌝ }
 {
     let code = props::code_at(body, at);
     let elements = props::length_at(body, at);
-    rules::misfits(rules::line_at(k), code, elements)
+    rules::misfits(l, code, elements)
 }
 
 // The first property whose name came before, or which has another type or length than its line says. It notes where each
-// property's line stands.
-fn typed(kind: u32, body: &[u8], starts: &[usize], numbers: &mut [usize]) -> Verdict
+// property's line stands among the lines of the kind.
+fn typed(lines: &[[u32; 12]], body: &[u8], starts: &[usize], numbers: &mut [usize]) -> Verdict
     requires { ⌜ (length (now starts) ≤ 64) × (length (now starts) ≤ length (now numbers)) × Within (now body) (now starts) ⌝ }
-    ensures { λ r. ⌜ (r ≡ typed kind (now (body .entry)) [] (now (starts .entry))) × (r .number ≡ 0 → now (numbers .exit) ≡ sets (now (numbers .entry)) 0 (map (lineNumber kind (now (body .entry))) (now (starts .entry)))) × (r .at ≤ 24 + length (now (body .entry))) ⌝ }
+    ensures { λ r. ⌜ (r ≡ typed (linesFrom (now (lines .entry))) (now (body .entry)) [] (now (starts .entry))) × (r .number ≡ 0 → now (numbers .exit) ≡ sets (now (numbers .entry)) 0 (map (lineNumber (linesFrom (now (lines .entry))) (now (body .entry))) (now (starts .entry)))) × (r .at ≤ 24 + length (now (body .entry))) ⌝ }
 {
-    let span = rules::span_of(kind);
     let mut keys = [0u64; 64];
     let mut i: usize = 0;
     while i < starts.len() {
         let at = starts[i];
         let name = props::name_at(body, at);
         let key = le::u64_at(name, 0);
-        let k = rules::find(span, name);
+        let k = rules::find(lines, name);
         let repeats = is_before(body, &starts[..i], &keys[..i], name, key);
-        let misfits = misfit(body, at, k);
+        let misfits = misfit(rules::line_in(lines, k), body, at);
         if repeats | misfits {
             let place = 24 + at;
             return Verdict {
@@ -97,10 +96,9 @@ fn has(body: &[u8], starts: &[usize], name: &[u8]) -> bool
 }
 
 // Whether the line is required, and no property has its name.
-fn is_missing(k: usize, body: &[u8], starts: &[usize]) -> bool
-    ensures { λ r. ⌜ r ≡ isMissing (lineAt k) (now (body .entry)) (now (starts .entry)) ⌝ }
+fn is_missing(l: rules::Line, body: &[u8], starts: &[usize]) -> bool
+    ensures { λ r. ⌜ r ≡ isMissing l (now (body .entry)) (now (starts .entry)) ⌝ }
 {
-    let l = rules::line_at(k);
     if l.required != 1 {
         return false;
     }
@@ -111,14 +109,12 @@ fn is_missing(k: usize, body: &[u8], starts: &[usize]) -> bool
 }
 
 // Whether a required property is missing.
-fn misses(kind: u32, body: &[u8], starts: &[usize]) -> bool
-    ensures { λ r. ⌜ r ≡ misses lines kind (now (body .entry)) (now (starts .entry)) ⌝ }
+fn misses(lines: &[[u32; 12]], body: &[u8], starts: &[usize]) -> bool
+    ensures { λ r. ⌜ r ≡ misses (linesFrom (now (lines .entry))) (now (body .entry)) (now (starts .entry)) ⌝ }
 {
-    let span = rules::span_of(kind);
-    let to = span.to;
-    let mut k = span.from;
-    while k < to {
-        if is_missing(k, body, starts) {
+    let mut k: usize = 0;
+    while k < lines.len() {
+        if is_missing(rules::line_in(lines, k), body, starts) {
             return true;
         }
         k += 1;
@@ -139,10 +135,10 @@ fn unpartnered(kind: u32, body: &[u8], starts: &[usize]) -> bool
     !((!wb & !wv) | (wb & wv & mi))
 }
 
-fn lacks(kind: u32, body: &[u8], starts: &[usize]) -> bool
-    ensures { λ r. ⌜ r ≡ lacks kind (now (body .entry)) (now (starts .entry)) ⌝ }
+fn lacks(kind: u32, lines: &[[u32; 12]], body: &[u8], starts: &[usize]) -> bool
+    ensures { λ r. ⌜ r ≡ lacks kind (linesFrom (now (lines .entry))) (now (body .entry)) (now (starts .entry)) ⌝ }
 {
-    misses(kind, body, starts) | unpartnered(kind, body, starts)
+    misses(lines, body, starts) | unpartnered(kind, body, starts)
 }
 
 // ---- 15
@@ -369,9 +365,16 @@ fn one_link(l: rules::Line) -> u32
 }
 
 // The first property that breaks what its line holds it to, or what they count.
-fn valued(kind: u32, body: &[u8], starts: &[usize], numbers: &[usize], bones: u32) -> Judged
-    requires { ⌜ (length (now starts) ≤ 64) × (now numbers ≡ map (lineNumber kind (now body)) (now starts)) × Within (now body) (now starts) ⌝ }
-    ensures { λ r. ⌜ (r ≡ valuedTo kind (now (body .entry)) (besideOf kind (now (body .entry)) (now (starts .entry)) bones) (now (starts .entry))) × Bounded r (length (now (body .entry))) ⌝ }
+fn valued(
+    kind: u32,
+    lines: &[[u32; 12]],
+    body: &[u8],
+    starts: &[usize],
+    numbers: &[usize],
+    bones: u32,
+) -> Judged
+    requires { ⌜ (length (now starts) ≤ 64) × (now numbers ≡ map (lineNumber (linesFrom (now lines)) (now body)) (now starts)) × Within (now body) (now starts) ⌝ }
+    ensures { λ r. ⌜ (r ≡ valuedTo (linesFrom (now (lines .entry))) (now (body .entry)) (besideOf kind (now (body .entry)) (now (starts .entry)) bones) (now (starts .entry))) × Bounded r (length (now (body .entry))) ⌝ }
 {
     let b = beside_of(kind, body, starts, bones);
     let mut faces: u64 = 0;
@@ -380,7 +383,7 @@ fn valued(kind: u32, body: &[u8], starts: &[usize], numbers: &[usize], bones: u3
     let mut i: usize = 0;
     while i < starts.len() {
         let at = starts[i];
-        let l = rules::line_at(numbers[i]);
+        let l = rules::line_in(lines, numbers[i]);
         let kept = kept_at(l, body, at, b);
         let fault = kept.fault;
         match fault {
@@ -408,20 +411,20 @@ fn valued(kind: u32, body: &[u8], starts: &[usize], numbers: &[usize], bones: u3
 }
 
 // 13, then 14, then 15 of the properties that start at some places of the body.
-fn judge_at(kind: u32, body: &[u8], starts: &[usize], bones: u32) -> Judged
+fn judge_at(kind: u32, lines: &[[u32; 12]], body: &[u8], starts: &[usize], bones: u32) -> Judged
     requires { ⌜ (length (now starts) ≤ 64) × Within (now body) (now starts) ⌝ }
-    ensures { λ r. ⌜ (r ≡ judgedAt kind (now (body .entry)) (now (starts .entry)) bones) × Bounded r (length (now (body .entry))) ⌝ }
+    ensures { λ r. ⌜ (r ≡ judgedAt kind (linesFrom (now (lines .entry))) (now (body .entry)) (now (starts .entry)) bones) × Bounded r (length (now (body .entry))) ⌝ }
 {
     let mut numbers = [0usize; 64];
-    let v = typed(kind, body, starts, &mut numbers);
+    let v = typed(lines, body, starts, &mut numbers);
     if v.number != 0 {
         return refused(v.number, v.at);
     }
-    if lacks(kind, body, starts) {
+    if lacks(kind, lines, body, starts) {
         return refused(14, 0);
     }
     let n = starts.len();
-    valued(kind, body, starts, &numbers[..n], bones)
+    valued(kind, lines, body, starts, &numbers[..n], bones)
 }
 
 // Judges a node by its kind, its property count, its body and the number of Bones beside it. Judged are the properties that
@@ -432,5 +435,7 @@ pub fn judge(kind: u32, count: u32, body: &[u8], bones: u32) -> Judged
     let index = body::index_of(body, count);
     let starts = index.starts;
     let n = index.count;
-    judge_at(kind, body, &starts[..n], bones)
+    let mut lines = [[0u32; 12]; 14];
+    let m = rules::put_lines(kind, &mut lines);
+    judge_at(kind, &lines[..m], body, &starts[..n], bones)
 }

@@ -2,10 +2,11 @@
 use Prim.Native.Nat.{ℕ, zero, suc, _+_, _-_, _/_, _%_, _^_, _≤_, _<_}
 use native.Mathlib.Omega.{arith}
 use native.Mathlib.Nat.{zero-add, add-zero}
+use native.Mathlib.Numerals.{add-one}
 use mathlib.Core.Path.{_≡_, refl, ap, sym, _∙_}
-use mathlib.Core.List.{List, [], _∷_, _++_, append-nil}
-use lib.ListN.{length, getD, take, drop, set, take-append-drop, length-drop, length-set, drop-of-length-le}
-use lib.Seq.{sets, set-out, take-set-le, drop-set-add, drop-set-lt, getD-set-same, getD-set-other}
+use mathlib.Core.List.{List, [], _∷_, _++_, append-nil, map, map-append}
+use lib.ListN.{length, getD, take, drop, set, take-append-drop, length-drop, length-map, length-set, drop-of-length-le}
+use lib.Seq.{sets, set-out, take-suc, length-take-le, take-set-le, drop-set-add, drop-set-lt, getD-set-same, getD-set-other}
 use borrow.Rule.Slice.PartMut.{putMid}
 use Rattle.le.specs.Le.{le}
 use Rattle.le.proofs.Laws.{rest, rest-drop, le-halves, length-le}
@@ -48,6 +49,15 @@ module _ {A : Type 0} where
   pub drop-sets : (n : ℕ) (l : List A) (i : ℕ) (vs : List A) → i + length vs ≤ n → drop n (sets l i vs) ≡ drop n l
   drop-sets n l i [] h = refl
   drop-sets n l i (v ∷ vs) h = drop-sets n (set l i v) (suc i) vs (omega arith) ∙ drop-set-lt n l i v (omega arith)
+
+-- one more of a list is stored, behind what was stored of it before
+pub sets-more : {A B : Type 0} (f : A → B) (l : List A) (i : ℕ) (d : A) → i < length l → {v : B} → v ≡ f (getD l i d) →
+    (old : List B) {new : List B} → new ≡ sets old 0 (map f (take i l)) → set new i v ≡ sets old 0 (map f (take (i + 1) l))
+sets-more f l i d h {v} e old n =
+    let so = map f (take i l) in
+    let here : 0 + length so ≡ i = omega (arith, length-map (take i l) f, length-take-le i l (omega arith)) in
+    let all : map f (take (i + 1) l) ≡ so ++ (v ∷ []) = rw (add-one i, take-suc l i d h, e) (map-append f (take i l) (getD l i d ∷ [])) in
+    ap (λ m. set m i v) n ∙ ap (λ k. set (sets old 0 so) k v) (sym here) ∙ sym (ap (sets old 0) all ∙ sets-append old 0 so (v ∷ []))
 
 -- nothing is stored past the end
 pub put-past : (w : ℕ) (l : List ℕ) (at x : ℕ) → length l ≤ at → l ≡ sets l at (le w x)

@@ -13,6 +13,7 @@ use Rattle.table.specs.declared.Row.{Row}
 use Rattle.props.specs.Step.{nameAt}
 use Rattle.body.specs.Body.{properties}
 use Rattle.rules.specs.Table.{linkTo}
+use Rattle.rules.specs.Rules.{linesOf}
 use Rattle.judge.specs.Properties.{ruleAt, restAt}
 use Rattle.format.specs.Rows.{bodyOf}
 use Rattle.links.specs.declared.Linked.{Linked}
@@ -44,16 +45,16 @@ resolved-append n (k ∷ ks) ls = by (refusalOf (k .targets)) (resolved (suc n) 
 
 module _ (count : Count) (all : List Row) (h : Reaches count all) where
   node-resolved : (kind row start : ℕ) (s : List ℕ) (n : ℕ) (starts : List ℕ)
-      → nodeLinked count kind start s n starts ≡ resolved n (linksAt all kind row start s starts)
+      → nodeLinked count (linesOf kind) start s n starts ≡ resolved n (linksAt all (linesOf kind) row start s starts)
   unfolding nodeLinked resolved linksAt
   node-resolved kind row start s n [] = refl
   node-resolved kind row start s n (at ∷ more) =
-      by-test (eqb (ruleAt kind s at .held) (linkTo 0 .held))
+      by-test (eqb (ruleAt (linesOf kind) s at .held) (linkTo 0 .held))
       (λ t.
       let hash : ℕ = numberAt 8 (restAt s at) 0 in
       let right = h .right kind (nameAt s at) hash (eqb-true _ _ t) in
       rw (t, node-resolved kind row start s (suc n) more)
-      (by-targets (reached (ruleAt kind s at .target) hash 0 all) _ (start + at) (resolved (suc n) (linksAt all kind row start s more)) right))
+      (by-targets (reached (ruleAt (linesOf kind) s at .target) hash 0 all) _ (start + at) (resolved (suc n) (linksAt all (linesOf kind) row start s more)) right))
       (λ t. rw t (node-resolved kind row start s n more))
 
   row-resolved : (s : List ℕ) (n row : ℕ) (r : Row) → rowLinked count s n r ≡ resolved n (rowLinks s all row r)

@@ -1,7 +1,8 @@
 -- The hashes of the four kinds that links reach, counted, tell how many rows a link reaches.
 use Prim.Native.Nat.{ℕ, suc, min}
 use mathlib.Core.Path.{_≡_, refl, ap}
-use mathlib.Core.Bool.{Bool, true, cond, _&&_, _||_, and-eq-true-iff}
+use mathlib.Core.Logic.{⊎-elim}
+use mathlib.Core.Bool.{Bool, true, cond, _||_}
 use mathlib.Core.List.{List, [], _∷_}
 use lib.Dec.{eqb}
 use lib.ListN.{length}
@@ -11,7 +12,8 @@ use Rattle.kinds.specs.Kinds.{mesh, bone, material, file}
 use Rattle.table.specs.declared.Row.{Row}
 use Rattle.rules.specs.declared.Line.{Line}
 use Rattle.rules.specs.Table.{linkTo, lines}
-use Rattle.rules.specs.Rules.{lists, ruleIn, ruleOf}
+use Rattle.rules.specs.Rules.{ruleOf}
+use Rattle.rules.proofs.Laws.{all, ruled}
 use Rattle.format.specs.Rows.{hashOf}
 use Rattle.links.specs.Ascending.{hashesOf, occurrences}
 use Rattle.links.specs.Links.{reached}
@@ -36,25 +38,13 @@ isTarget kind = eqb kind material || (eqb kind mesh || (eqb kind bone || eqb kin
 abbrev aims : Line → Bool
 aims l = cond (eqb (l .held) (linkTo 0 .held)) (isTarget (l .target)) true
 
-unfoldable all-aim : List Line → Bool
-all-aim [] = true
-all-aim (l ∷ ls) = aims l && all-aim ls
-
-lines-aim : all-aim lines ≡ true
-unfolding all-aim lines
+lines-aim : all aims lines ≡ true
+unfolding all lines
 lines-aim = refl
 
 module _ (kind : ℕ) (name : List ℕ) where
-  rule-aims : (ls : List Line) → all-aim ls ≡ true → aims (ruleIn ls kind name) ≡ true
-  unfolding ruleIn all-aim
-  rule-aims [] e = refl
-  rule-aims (l ∷ ls) e =
-      let both = and-eq-true-iff (aims l) (all-aim ls) .0 e in
-      by-test (eqb (l .kind) kind && lists l name) (λ t. rw t (both .0)) (λ t. rw t (rule-aims ls (both .1)))
-
   target : ruleOf kind name .held ≡ linkTo 0 .held → isTarget (ruleOf kind name .target) ≡ true
-  unfolding ruleOf
-  target e = rw (eq-eqb _ _ e) at (rule-aims lines lines-aim)
+  target e = rw (eq-eqb _ _ e) at (⊎-elim (λ f. ap aims f) (λ l. l .0) (ruled aims kind name lines-aim))
 
 -- ---- the counts of four lists that have the hashes of the four kinds
 pub record Reaches (count : Count) (rows : List Row) : Type 0 where

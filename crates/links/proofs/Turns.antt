@@ -4,7 +4,7 @@ use native.Mathlib.Omega.{arith}
 use native.Mathlib.Numerals.{add-one}
 use mathlib.Core.Path.{_≡_, ap, _∙_}
 use mathlib.Core.Bool.{true, false}
-use mathlib.Core.List.{List, []}
+use mathlib.Core.List.{List}
 use lib.ListN.{length, getD, take, drop, length-take, length-drop, drop-of-length-le}
 use lib.Seq.{drop-cons}
 use borrow.Author.Tests.{eq-eqb, ne-eqb}
@@ -17,10 +17,9 @@ use Rattle.body.specs.declared.Index.{Index}
 use Rattle.body.specs.Body.{properties, indexOf}
 use Rattle.body.proofs.Places.{properties-few, starts-within, starts-taken}
 use Rattle.rules.specs.declared.Line.{Line}
-use Rattle.rules.specs.declared.Span.{Span}
-use Rattle.rules.specs.Table.{lineAt}
-use Rattle.rules.specs.Rules.{spanOf, findIn}
-use Rattle.rules.proofs.Found.{found}
+use Rattle.rules.specs.Table.{free}
+use Rattle.rules.specs.Rules.{findIn, linesOf}
+use Rattle.rules.proofs.Laws.{found}
 use Rattle.judge.specs.Properties.{ruleAt, restAt}
 use Rattle.format.specs.Rows.{bodyOf}
 use Rattle.links.specs.declared.Linked.{Linked}
@@ -29,18 +28,18 @@ use Rattle.judge.specs.Contract.{Within}
 use Rattle.links.specs.Contract.{Count, byCount, nodeLinked, rowLinked, onBy, rowsLinked}
 
 -- the line of a property, as it is found
-pub ruled : (kind : ℕ) (s : List ℕ) (at : ℕ) {span : Span} {name : List ℕ} {k : ℕ} {l : Line} → span ≡ spanOf kind → name ≡ nameAt s at
-    → k ≡ findIn span name → l ≡ lineAt k → l ≡ ruleAt kind s at
-ruled kind s at e f g h = rw (h, g, f, e) (found kind (nameAt s at))
+pub ruled : (ls : List Line) (s : List ℕ) (at : ℕ) {name : List ℕ} {k : ℕ} {l : Line} → name ≡ nameAt s at → k ≡ findIn ls name
+    → l ≡ getD ls k free → l ≡ ruleAt ls s at
+ruled ls s at f g h = rw (h, g, f) (found ls (nameAt s at))
 
-module _ (count : Count) (kind start : ℕ) (s starts : List ℕ) (n i : ℕ) where
+module _ (count : Count) (ls : List Line) (start : ℕ) (s starts : List ℕ) (n i : ℕ) where
   abbrev from : (n i : ℕ) → Linked
-  from n i = nodeLinked count kind start s n (drop i starts)
+  from n i = nodeLinked count ls start s n (drop i starts)
 
   abbrev at : ℕ
   at = getD starts i 0
 
-  module _ (h : i < length starts) {l : Line} (e : l ≡ ruleAt kind s at) where
+  module _ (h : i < length starts) {l : Line} (e : l ≡ ruleAt ls s at) where
     pub node-other : (l .held ≡ 9 → ⊥) → from n i ≡ from n (i + 1)
     unfolding nodeLinked
     node-other f = rw (add-one, drop-cons starts i 0 h, ← e, ne-eqb (l .held) 9 f)
@@ -80,10 +79,11 @@ module _ (count : Count) (s : List ℕ) (n : ℕ) (r : Row) where
   unfolding rowLinked
   row-unknown k = rw k
 
-  pub row-known : {body : List ℕ} {index : Index} → isKnown (r .kind) ≡ true → body ≡ bodyOf s r → index ≡ indexOf (properties body (r .properties))
-      → nodeLinked count (r .kind) (r .start) body n (take (index .count) (index .starts)) ≡ rowLinked count s n r
+  pub row-known : {body : List ℕ} {index : Index} {ls : List Line} → isKnown (r .kind) ≡ true → body ≡ bodyOf s r
+      → index ≡ indexOf (properties body (r .properties)) → ls ≡ linesOf (r .kind)
+      → nodeLinked count ls (r .start) body n (take (index .count) (index .starts)) ≡ rowLinked count s n r
   unfolding rowLinked
-  row-known {body} k e f = rw (k, ← e, starts-taken body (r .properties) f)
+  row-known {body} k e f g = rw (k, ← e, starts-taken body (r .properties) f, g)
 
 pub body-fits : (s : List ℕ) (r : Row) → {body : List ℕ} → body ≡ bodyOf s r → length body ≤ length s
 body-fits s r e = rw e (simp (length-take, length-drop) (omega arith))

@@ -7,7 +7,9 @@ use Rattle.le.specs.Le.{numberAt}
 use Rattle.kinds.specs.Kinds.{mesh, bone, material, isKnown}
 use Rattle.table.specs.declared.Row.{Row}
 use Rattle.body.specs.Body.{properties}
+use Rattle.rules.specs.declared.Line.{Line}
 use Rattle.rules.specs.Table.{linkTo}
+use Rattle.rules.specs.Rules.{linesOf}
 use Rattle.judge.specs.Properties.{ruleAt, restAt}
 use Rattle.format.specs.Rows.{bodyOf}
 use Rattle.links.specs.declared.Linked.{Linked}
@@ -35,19 +37,19 @@ byCount zero place next = refuse 16 place
 byCount (suc zero) place next = next
 byCount (suc (suc n)) place next = refuse 17 place
 
--- the links of a node, after so many
-unfoldable pub nodeLinked : Count → (kind start : ℕ) (s : List ℕ) (n : ℕ) (starts : List ℕ) → Linked
-nodeLinked count kind start s n [] = record { number = 0; place = 0; links = n }
-nodeLinked count kind start s n (at ∷ more) =
-    let l = ruleAt kind s at in
+-- the links of a node whose kind has these lines, after so many
+unfoldable pub nodeLinked : Count → List Line → (start : ℕ) (s : List ℕ) (n : ℕ) (starts : List ℕ) → Linked
+nodeLinked count ls start s n [] = record { number = 0; place = 0; links = n }
+nodeLinked count ls start s n (at ∷ more) =
+    let l = ruleAt ls s at in
     cond (eqb (l .held) (linkTo 0 .held))
-    (byCount (count (l .target) (numberAt 8 (restAt s at) 0)) (start + at) (nodeLinked count kind start s (suc n) more))
-    (nodeLinked count kind start s n more)
+    (byCount (count (l .target) (numberAt 8 (restAt s at) 0)) (start + at) (nodeLinked count ls start s (suc n) more))
+    (nodeLinked count ls start s n more)
 
 unfoldable pub rowLinked : Count → (s : List ℕ) (n : ℕ) → Row → Linked
 rowLinked count s n r =
     cond (isKnown (r .kind))
-    (nodeLinked count (r .kind) (r .start) (bodyOf s r) n (properties (bodyOf s r) (r .properties) .starts))
+    (nodeLinked count (linesOf (r .kind)) (r .start) (bodyOf s r) n (properties (bodyOf s r) (r .properties) .starts))
     (record { number = 0; place = 0; links = n })
 
 abbrev pub onBy : ℕ → Linked → (ℕ → Linked) → Linked

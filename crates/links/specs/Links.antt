@@ -9,7 +9,9 @@ use Rattle.le.specs.Le.{numberAt}
 use Rattle.kinds.specs.Kinds.{isKnown}
 use Rattle.table.specs.declared.Row.{Row}
 use Rattle.body.specs.Body.{properties}
+use Rattle.rules.specs.declared.Line.{Line}
 use Rattle.rules.specs.Table.{linkTo}
+use Rattle.rules.specs.Rules.{linesOf}
 use Rattle.judge.specs.Properties.{ruleAt, restAt}
 use Rattle.format.specs.Rows.{bodyOf, hashOf}
 use Rattle.links.specs.declared.Linked.{Linked}
@@ -26,19 +28,19 @@ pub record Link : Type 0 where
   pub property : ℕ
   pub targets : List ℕ
 
--- the links of a node among some rows: of its properties, those that "the node's kind lists ... as l". Its row is given, and
--- its body s with the place where that starts.
-unfoldable pub linksAt : List Row → (kind row start : ℕ) (s starts : List ℕ) → List Link
-linksAt all kind row start s [] = []
-linksAt all kind row start s (at ∷ more) =
-    let l = ruleAt kind s at in
+-- the links of a node among some rows: of its properties, those that "the node's kind lists ... as l". The lines of its kind
+-- are given, its row, and its body s with the place where that starts.
+unfoldable pub linksAt : List Row → List Line → (row start : ℕ) (s starts : List ℕ) → List Link
+linksAt all ls row start s [] = []
+linksAt all ls row start s (at ∷ more) =
+    let l = ruleAt ls s at in
     let link : Link = record { row = row; property = start + at; targets = reached (l .target) (numberAt 8 (restAt s at) 0) 0 all } in
-    cond (eqb (l .held) (linkTo 0 .held)) (link ∷ linksAt all kind row start s more) (linksAt all kind row start s more)
+    cond (eqb (l .held) (linkTo 0 .held)) (link ∷ linksAt all ls row start s more) (linksAt all ls row start s more)
 
 -- an unknown node has none
 abbrev pub rowLinks : (s : List ℕ) (all : List Row) (row : ℕ) → Row → List Link
 rowLinks s all row r =
-    cond (isKnown (r .kind)) (linksAt all (r .kind) row (r .start) (bodyOf s r) (properties (bodyOf s r) (r .properties) .starts)) []
+    cond (isKnown (r .kind)) (linksAt all (linesOf (r .kind)) row (r .start) (bodyOf s r) (properties (bodyOf s r) (r .properties) .starts)) []
 
 -- the links of some of a file's rows, the first of which is row i
 unfoldable pub linksFrom : (s : List ℕ) (all : List Row) (i : ℕ) → List Row → List Link

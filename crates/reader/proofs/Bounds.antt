@@ -10,7 +10,9 @@ use Rattle.kinds.specs.Kinds.{isKnown}
 use Rattle.table.specs.declared.Row.{Row}
 use Rattle.body.specs.Body.{properties}
 use Rattle.body.proofs.Places.{starts-within}
+use Rattle.rules.specs.declared.Line.{Line}
 use Rattle.rules.specs.Table.{linkTo}
+use Rattle.rules.specs.Rules.{linesOf}
 use Rattle.judge.specs.Properties.{ruleAt}
 use Rattle.format.specs.Rows.{bodyOf}
 use Rattle.format.specs.Layout.{Each}
@@ -27,13 +29,13 @@ each-at : (n : ℕ) (xs : List ℕ) → ((i : ℕ) → getD xs i 0 ≤ n) → Ea
 each-at n [] h = tt
 each-at n (x ∷ xs) h = (h 0, each-at n xs (λ i. h (suc i)))
 
-at-lie : (all : List Row) (kind row start size : ℕ) (s starts : List ℕ) → start + length s ≤ size → Each (λ at. at ≤ length s) starts
-    → Each (Lies size) (linksAt all kind row start s starts)
+at-lie : (all : List Row) (ls : List Line) (row start size : ℕ) (s starts : List ℕ) → start + length s ≤ size → Each (λ at. at ≤ length s) starts
+    → Each (Lies size) (linksAt all ls row start s starts)
 unfolding linksAt
-at-lie all kind row start size s [] fits h = tt
-at-lie all kind row start size s (at ∷ more) fits h =
-    let ih = at-lie all kind row start size s more fits (h .1) in
-    by-test (eqb (ruleAt kind s at .held) (linkTo 0 .held)) (λ t. rw t (omega (arith, h .0), ih)) (λ t. rw t ih)
+at-lie all ls row start size s [] fits h = tt
+at-lie all ls row start size s (at ∷ more) fits h =
+    let ih = at-lie all ls row start size s more fits (h .1) in
+    by-test (eqb (ruleAt ls s at .held) (linkTo 0 .held)) (λ t. rw t (omega (arith, h .0), ih)) (λ t. rw t ih)
 
 pub body-length : (s : List ℕ) (r : Row) → length (bodyOf s r) ≤ r .end - r .start
 body-length s r = rw (length-take (r .end - r .start) (drop (r .start) s)) (min-le-left _ _)
@@ -45,8 +47,8 @@ links-lie s all size n i (r ∷ rs) h =
     let ih = links-lie s all size n (suc i) rs (h .1) in
     let body = bodyOf s r in
     let fits : r .start + length body ≤ size = omega (arith, body-length s r, h .0 .onward, h .0 .within) in
-    let here = at-lie all (r .kind) i (r .start) size body (properties body (r .properties) .starts) fits (each-at (length body) (properties body (r .properties) .starts) (starts-within body (r .properties))) in
-    by-test (isKnown (r .kind)) (λ t. rw t (each-append (Lies size) (linksAt all (r .kind) i (r .start) body (properties body (r .properties) .starts)) (linksFrom s all (suc i) rs) .1 (here, ih))) (λ t. rw t ih)
+    let here = at-lie all (linesOf (r .kind)) i (r .start) size body (properties body (r .properties) .starts) fits (each-at (length body) (properties body (r .properties) .starts) (starts-within body (r .properties))) in
+    by-test (isKnown (r .kind)) (λ t. rw t (each-append (Lies size) (linksAt all (linesOf (r .kind)) i (r .start) body (properties body (r .properties) .starts)) (linksFrom s all (suc i) rs) .1 (here, ih))) (λ t. rw t ih)
 
 unless-lies : (k place size : ℕ) (w : Linked) → place ≤ size → w .place ≤ size → unless k place w .place ≤ size
 unless-lies zero place size w a b = b

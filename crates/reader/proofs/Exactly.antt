@@ -13,7 +13,7 @@ use Rattle.le.proofs.Tests.{by-test}
 use Rattle.table.specs.declared.Row.{Row}
 use Rattle.table.specs.Table.{noParent, hasRoom}
 use Rattle.body.specs.Body.{properties}
-use Rattle.rules.specs.Rules.{ruleOf}
+use Rattle.rules.specs.Rules.{linesOf, ruleOf}
 use Rattle.judge.specs.Judge.{judged}
 use Rattle.format.specs.Forest.{Forest, end, known, unknown, nodes, encode, count, fileHeader, fileOf}
 use Rattle.format.specs.Rows.{rows, rowsOf, bodyOf}
@@ -76,8 +76,8 @@ module _ (s : List ℕ) (f : Forest) where
       let kind = r .kind in
       let n = r .properties in
       let judge : judgedRow s all r ≡ judged kind n body beside = judged-known s r (bonesUnder all (r .parent)) k ∙ rw (here, under) in
-      let links : resolved 0 (linksAt all kind 0 (r .start) (bodyOf s r) (properties (bodyOf s r) n .starts)) .number
-      ≡ resolved 0 (linksAt all kind 0 (r .start) body (properties body n .starts)) .number = rw here in (
+      let links : resolved 0 (linksAt all (linesOf kind) 0 (r .start) (bodyOf s r) (properties (bodyOf s r) n .starts)) .number
+      ≡ resolved 0 (linksAt all (linesOf kind) 0 (r .start) body (properties body n .starts)) .number = rw here in (
         λ q.
             let obeys : NodeRuled beside kind n body = λ g. obeyed kind n body beside g (ap (λ j. j .number) (sym judge) ∙ q .0) in (
               obeys,

@@ -10,7 +10,9 @@ use Rattle.le.proofs.Tests.{by-test}
 use Rattle.kinds.specs.Kinds.{isKnown}
 use Rattle.table.specs.declared.Row.{Row}
 use Rattle.body.specs.Body.{properties}
+use Rattle.rules.specs.declared.Line.{Line}
 use Rattle.rules.specs.Table.{linkTo}
+use Rattle.rules.specs.Rules.{linesOf}
 use Rattle.judge.specs.declared.Judged.{Judged}
 use Rattle.judge.specs.Properties.{ruleAt}
 use Rattle.judge.specs.Judge.{nodeLinks, judged}
@@ -34,12 +36,12 @@ pub unjudged-bounded : (size : ℕ) → Bounded unjudged size
 unjudged-bounded size = record { place = omega arith; faces = omega arith; degenerates = omega arith; links = omega arith }
 
 -- ---- links
-node-count : (all : List Row) (kind row start : ℕ) (s starts : List ℕ) → length (linksAt all kind row start s starts) ≡ nodeLinks kind s starts
+node-count : (all : List Row) (ls : List Line) (row start : ℕ) (s starts : List ℕ) → length (linksAt all ls row start s starts) ≡ nodeLinks ls s starts
 unfolding linksAt nodeLinks
-node-count all kind row start s [] = refl
-node-count all kind row start s (at ∷ more) =
-    let ih = node-count all kind row start s more in
-    by-test (eqb (ruleAt kind s at .held) (linkTo 0 .held)) (λ t. rw (t, ih) (omega arith)) (λ t. rw (t, ih) (omega arith))
+node-count all ls row start s [] = refl
+node-count all ls row start s (at ∷ more) =
+    let ih = node-count all ls row start s more in
+    by-test (eqb (ruleAt ls s at .held) (linkTo 0 .held)) (λ t. rw (t, ih) (omega arith)) (λ t. rw (t, ih) (omega arith))
 
 row-count : (s : List ℕ) (all : List Row) (i : ℕ) (r : Row) → judgedRow s all r .number ≡ 0 → judgedRow s all r .links ≡ length (rowLinks s all i r)
 row-count s all i r e =
@@ -49,7 +51,7 @@ row-count s all i r e =
     let j = judged-known s r b t in
     ap (λ x. x .links) j
     ∙ judged-links (r .kind) (r .properties) (bodyOf s r) b (ap (λ x. x .number) (sym j) ∙ e)
-    ∙ rw t (sym (node-count all (r .kind) i (r .start) (bodyOf s r) (properties (bodyOf s r) (r .properties) .starts))))
+    ∙ rw t (sym (node-count all (linesOf (r .kind)) i (r .start) (bodyOf s r) (properties (bodyOf s r) (r .properties) .starts))))
     (λ t. ap (λ x. x .links) (judged-unknown s r b t) ∙ rw t)
 
 -- a row that is not refused adds what it counts

@@ -11,7 +11,9 @@ use Rattle.le.proofs.Tests.{by-test}
 use Rattle.kinds.specs.Kinds.{isKnown}
 use Rattle.table.specs.declared.Row.{Row}
 use Rattle.body.specs.Body.{properties}
+use Rattle.rules.specs.declared.Line.{Line}
 use Rattle.rules.specs.Table.{linkTo}
+use Rattle.rules.specs.Rules.{linesOf}
 use Rattle.judge.specs.declared.Judged.{Judged}
 use Rattle.judge.specs.Properties.{ruleAt, restAt}
 use Rattle.format.specs.Rows.{bodyOf}
@@ -70,27 +72,27 @@ resolved-append n (x ∷ xs) ys =
     )
 
 -- nor on the number of their row
-resolved-row : (all : List Row) (kind row row′ start n : ℕ) (s starts : List ℕ)
-    → resolved n (linksAt all kind row start s starts) .number ≡ resolved n (linksAt all kind row′ start s starts) .number
+resolved-row : (all : List Row) (ls : List Line) (row row′ start n : ℕ) (s starts : List ℕ)
+    → resolved n (linksAt all ls row start s starts) .number ≡ resolved n (linksAt all ls row′ start s starts) .number
 unfolding resolved linksAt
-resolved-row all kind row row′ start n s [] = refl
-resolved-row all kind row row′ start n s (at ∷ more) =
-    let l = ruleAt kind s at in
+resolved-row all ls row row′ start n s [] = refl
+resolved-row all ls row row′ start n s (at ∷ more) =
+    let l = ruleAt ls s at in
     let targets = reached (l .target) (numberAt 8 (restAt s at) 0) 0 all in
     by-test (eqb (l .held) (linkTo 0 .held))
     (λ t. rw t
-    (unless-same (refusalOf targets) (start + at) (resolved (suc n) (linksAt all kind row start s more)) (resolved (suc n) (linksAt all kind row′ start s more))
-    (resolved-row all kind row row′ start (suc n) s more)))
-    (λ t. rw t (resolved-row all kind row row′ start n s more))
+    (unless-same (refusalOf targets) (start + at) (resolved (suc n) (linksAt all ls row start s more)) (resolved (suc n) (linksAt all ls row′ start s more))
+    (resolved-row all ls row row′ start (suc n) s more)))
+    (λ t. rw t (resolved-row all ls row row′ start n s more))
 
 abbrev pub LinkedRow : (s : List ℕ) (all : List Row) → Row → Type 0
 LinkedRow s all r =
-    isKnown (r .kind) ≡ true → resolved 0 (linksAt all (r .kind) 0 (r .start) (bodyOf s r) (properties (bodyOf s r) (r .properties) .starts)) .number ≡ 0
+    isKnown (r .kind) ≡ true → resolved 0 (linksAt all (linesOf (r .kind)) 0 (r .start) (bodyOf s r) (properties (bodyOf s r) (r .properties) .starts)) .number ≡ 0
 
 row-linked : (s : List ℕ) (all : List Row) (i n : ℕ) (r : Row) → (resolved n (rowLinks s all i r) .number ≡ 0) ↔ LinkedRow s all r
 row-linked s all i n r =
     let starts = properties (bodyOf s r) (r .properties) .starts in
-    let same = resolved-any n 0 (linksAt all (r .kind) i (r .start) (bodyOf s r) starts) ∙ resolved-row all (r .kind) i 0 (r .start) 0 (bodyOf s r) starts in
+    let same = resolved-any n 0 (linksAt all (linesOf (r .kind)) i (r .start) (bodyOf s r) starts) ∙ resolved-row all (linesOf (r .kind)) i 0 (r .start) 0 (bodyOf s r) starts in
     by-test (isKnown (r .kind))
     (λ t. rw t (λ e k. sym same ∙ e, λ h. same ∙ h refl))
     (λ t. rw t (λ e k. cc, λ h. resolved-none n))

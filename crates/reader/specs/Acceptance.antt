@@ -13,6 +13,7 @@ use Rattle.table.specs.Table.{hasRoom, filled}
 use Rattle.body.specs.Body.{properties}
 use Rattle.faces.specs.declared.Face.{Face}
 use Rattle.faces.specs.Faces.{degenerate}
+use Rattle.rules.specs.Rules.{linesOf}
 use Rattle.judge.specs.Judge.{nodeFaces}
 use Rattle.format.specs.Forest.{Forest, fileOf}
 use Rattle.format.specs.Rows.{rowsOf, bodyOf}
@@ -41,7 +42,7 @@ Exactly = (s t : List ℕ) → AreBytes s → hasRoom t ≡ true → (IsAccepted
 
 -- the faces of a row, from its body's bytes, and of all rows
 abbrev pub rowFaces : (s : List ℕ) → Row → List Face
-rowFaces s r = cond (isKnown (r .kind)) (nodeFaces (r .kind) (bodyOf s r) (properties (bodyOf s r) (r .properties) .starts)) []
+rowFaces s r = cond (isKnown (r .kind)) (nodeFaces (linesOf (r .kind)) (bodyOf s r) (properties (bodyOf s r) (r .properties) .starts)) []
 
 unfoldable pub facesOf : (s : List ℕ) → List Row → List Face
 facesOf s rows = flatMap (rowFaces s) rows

@@ -1,86 +1,97 @@
--- The searches by places: what is not sought is passed, what is sought is the answer.
-use Prim.Native.Nat.{ℕ, zero, suc, _+_, _-_, _≤_, _<_}
+-- Searches among lines and among strings: what is not sought is passed, what is sought is the answer.
+use Prim.Native.Nat.{ℕ, zero, suc, _+_, _≤_, _<_}
 use native.Mathlib.Omega.{arith}
 use native.Mathlib.Numerals.{add-one}
 use mathlib.Core.Path.{_≡_, refl, sym, ap, _∙_}
-use mathlib.Core.Bool.{true, false, _&&_, and-false, and-eq-true-iff}
+use mathlib.Core.Logic.{_⊎_, inl, inr}
+use mathlib.Core.Bool.{Bool, true, false, _&&_, and-false, and-eq-true-iff}
 use mathlib.Core.List.{List, [], _∷_, map}
-use lib.Dec.{eqb, ltb}
-use lib.ListN.{length, take, drop, getD, drop-of-length-le, List·getD-eq-default, List·getD-map}
-use lib.Seq.{drop-cons, take-nil}
-use borrow.Author.Tests.{eq-eqb, ne-eqb, ltb-true, ltb-false}
+use lib.Dec.{eqb}
+use lib.ListN.{length, take, drop, getD, length-map, drop-of-length-le, List·getD-eq-default, List·getD-map}
+use lib.Seq.{drop-cons, take-append-seam, sets, sets-eq, length-sets}
+use borrow.Author.Tests.{eq-eqb, ne-eqb, eqb-true, le-leb}
 use Rattle.le.proofs.Tests.{by-test}
 use Rattle.names.specs.Names.{same}
 use Rattle.rules.specs.declared.Line.{Line}
 use Rattle.rules.specs.declared.Text.{Text}
-use Rattle.rules.specs.Table.{lines, lineAt, rowOf, lineFrom, free, texts, textAt, text, stringOf}
-use Rattle.rules.specs.Rules.{lists, place, isText, inSet}
+use Rattle.rules.specs.Table.{lines, free, rowOf, lineFrom, linesFrom, texts, textFrom, stringOf}
+use Rattle.rules.specs.Rules.{lists, ruleIn, findIn, ofKind, linesOf, ruleOf, fitting, isText, inSet}
 
 -- what stands inside is there whatever would stand for what is not
-getD-inside : {A : Type 0} (l : List A) (i : ℕ) (d e : A) → i < length l → getD l i d ≡ getD l i e
+pub getD-inside : {A : Type 0} (l : List A) (i : ℕ) (d e : A) → i < length l → getD l i d ≡ getD l i e
 getD-inside [] i d e h = absurd (omega arith)
 getD-inside (x ∷ l) zero d e h = refl
 getD-inside (x ∷ l) (suc i) d e h = getD-inside l i d e (omega arith)
 
--- ---- the lines
+-- ---- some lines
 
-back : (ls : List Line) → map lineFrom (map rowOf ls) ≡ ls
+module _ (ls : List Line) (name : List ℕ) (i : ℕ) where
+  module _ (h : i < length ls) {l : Line} (e : l ≡ getD ls i (lineFrom [])) where
+    next : findIn (drop i ls) name ≡ findIn (l ∷ drop (i + 1) ls) name
+    next = rw (add-one i, drop-cons ls i (lineFrom []) h, e)
+
+    pub find-passed : lists l name ≡ false → i + findIn (drop i ls) name ≡ i + 1 + findIn (drop (i + 1) ls) name
+    unfolding findIn
+    find-passed n = rw next (rw n (omega arith))
+
+    pub find-hit : lists l name ≡ true → i + findIn (drop i ls) name ≡ i
+    unfolding findIn
+    find-hit n = rw next (rw n (omega arith))
+
+  pub find-ended : length ls ≤ i → i + findIn (drop i ls) name ≡ i
+  unfolding findIn
+  find-ended h = rw (drop-of-length-le ls {i = i} h) (omega arith)
+
+-- a line from its row, where there is one
+pub row-inside : (rows : List (List ℕ)) (i : ℕ) → i < length rows → lineFrom (getD rows i []) ≡ getD (linesFrom rows) i free
+row-inside rows i h =
+    sym (List·getD-map lineFrom rows i []) ∙ getD-inside (linesFrom rows) i (lineFrom []) free (omega (arith, length-map rows lineFrom))
+
+pub row-past : (rows : List (List ℕ)) (i : ℕ) → length rows ≤ i → getD (linesFrom rows) i free ≡ free
+row-past rows i h = List·getD-eq-default (linesFrom rows) free {n = i} (omega (arith, length-map rows lineFrom))
+
+-- for callers: the line at the place that is found
+pub found : (ls : List Line) (name : List ℕ) → getD ls (findIn ls name) free ≡ ruleIn ls name
+unfolding findIn ruleIn
+found [] name = refl
+found (l ∷ ls) name = by-test (lists l name) (λ t. rw t) (λ t. rw t (found ls name))
+
+-- for callers: what a test says of all lines, it says of the line of a kind and name, but for a free name
+unfoldable pub all : (Line → Bool) → List Line → Bool
+all test [] = true
+all test (l ∷ ls) = test l && all test ls
+
+module _ (test : Line → Bool) (kind : ℕ) (name : List ℕ) where
+  ruled-in : (ls : List Line) → all test ls ≡ true → let l = ruleIn (ofKind ls kind) name in (l ≡ free) ⊎ ((test l ≡ true) × (l .kind ≡ kind))
+  unfolding all ofKind ruleIn
+  ruled-in [] e = inl refl
+  ruled-in (l ∷ ls) e =
+      let both = and-eq-true-iff (test l) (all test ls) .0 e in
+      by-test (eqb (l .kind) kind)
+      (λ t. by-test (lists l name) (λ u. rw (t, u) (inr (both .0, eqb-true (l .kind) kind t))) (λ u. rw (t, u) (ruled-in ls (both .1))))
+      (λ t. rw t (ruled-in ls (both .1)))
+
+  pub ruled : all test lines ≡ true → (ruleOf kind name ≡ free) ⊎ ((test (ruleOf kind name) ≡ true) × (ruleOf kind name .kind ≡ kind))
+  unfolding linesOf
+  ruled = ruled-in lines
+
+back : (ls : List Line) → linesFrom (map rowOf ls) ≡ ls
 back [] = refl
 back (l ∷ ls) = ap (λ m. l ∷ m) (back ls)
 
-pub many : length lines ≡ 81
-unfolding lines
-many = refl
+-- for callers: what lines of a kind are taken from rows where they were put
+module _ (ls : List Line) (old : List (List ℕ)) (room : length ls ≤ length old) {n : ℕ} {rows : List (List ℕ)}
+    (c : n ≡ length (fitting ls (length old))) (e : rows ≡ sets old 0 (map rowOf (fitting ls (length old)))) where
+  all-fit : fitting ls (length old) ≡ ls
+  all-fit = rw (le-leb (length ls) (length old) room)
 
-from : (i : ℕ) → i < 81 → drop i lines ≡ lineAt i ∷ drop (i + 1) lines
-unfolding lineAt
-from i h = rw add-one (drop-cons lines i free (omega (arith, many)))
+  pub lines-room : n ≤ length rows
+  lines-room = rw (c, e, all-fit) (omega (arith, length-sets old 0 (map rowOf ls)))
 
-pub inside : (i : ℕ) (d : Line) → i < 81 → getD lines i d ≡ lineAt i
-unfolding lineAt
-inside i d h = getD-inside lines i d free (omega (arith, many))
-
-pub outside : (i : ℕ) → 81 ≤ i → lineAt i ≡ free
-unfolding lineAt
-outside i h = List·getD-eq-default lines free {n = i} (omega (arith, many))
-
--- the line from its row
-pub row-line : (i : ℕ) → i < 81 → lineFrom (getD (map rowOf lines) i []) ≡ lineAt i
-row-line i h = sym (List·getD-map lineFrom (map rowOf lines) i []) ∙ again i h
-  where
-    again : (i : ℕ) → i < 81 → getD (map lineFrom (map rowOf lines)) i (lineFrom []) ≡ lineAt i
-    again i h = ap (λ ls. getD ls i (lineFrom [])) (back lines) ∙ inside i (lineFrom []) h
-
-pub past : (i : ℕ) → 81 ≤ i → drop i lines ≡ []
-past i h = drop-of-length-le lines {i = i} (omega (arith, many))
-
--- the line of a name, among those from i up to another place
-abbrev pub upTo : ℕ → ℕ → List Line
-upTo i to = take (to - i) (drop i lines)
-
-module _ (to i : ℕ) (h : (ltb i to && ltb i 81) ≡ true) where
-  pub inner : (i < to) × (i < 81)
-  inner = let both = and-eq-true-iff (ltb i to) (ltb i 81) .0 h in (ltb-true i to (both .0), ltb-true i 81 (both .1))
-
-  pub first : upTo i to ≡ lineAt i ∷ upTo (i + 1) to
-  first = let more : to - i ≡ to - (i + 1) + 1 = omega (arith, inner) in rw (more, from i (inner .1), add-one (to - (i + 1)))
-
-module _ (name : List ℕ) (to i : ℕ) where
-  module _ (h : (ltb i to && ltb i 81) ≡ true) where
-    pub place-passed : lists (lineAt i) name ≡ false → place i (upTo i to) name ≡ place (i + 1) (upTo (i + 1) to) name
-    unfolding place
-    place-passed e = rw (first to i h, e, add-one i)
-
-    pub place-hit : lists (lineAt i) name ≡ true → place i (upTo i to) name ≡ i
-    unfolding place
-    place-hit e = rw (first to i h, e)
-
-  pub place-ended : (ltb i to && ltb i 81) ≡ false → place i (upTo i to) name ≡ 81
-  unfolding place
-  place-ended e =
-      by-test (ltb i to)
-      (λ t. let far : 81 ≤ i = ltb-false i 81 (ap (λ b. b && ltb i 81) (sym t) ∙ e) in rw (past i far, take-nil (to - i)))
-      (λ t. let none : to - i ≡ 0 = omega (arith, ltb-false i to t) in rw none)
+  pub lines-taken : linesFrom (take n rows) ≡ ls
+  lines-taken =
+      let many : length (map rowOf ls) ≡ length ls = length-map ls rowOf in
+      rw (c, e, all-fit, ← many, sets-eq (map rowOf ls) old 0 (omega arith), take-append-seam (map rowOf ls) (drop (0 + length (map rowOf ls)) old)) (back ls)
 
 -- ---- the strings of a set
 
@@ -89,22 +100,21 @@ unfolding texts
 count = refl
 
 module _ (set : ℕ) (bytes : List ℕ) (i : ℕ) where
-  module _ (h : i < 20) {t : Text} (e : t ≡ textAt i) where
-    next : drop i texts ≡ t ∷ drop (i + 1) texts
-    unfolding textAt
-    next = rw (add-one i, e) (drop-cons texts i (text 0 "") (omega (arith, count)))
+  module _ (h : i < 20) {t : Text} (e : t ≡ getD texts i (textFrom [])) where
+    next-text : drop i texts ≡ t ∷ drop (i + 1) texts
+    next-text = rw (add-one i, e) (drop-cons texts i (textFrom []) (omega (arith, count)))
 
     pub set-passed : (t .set ≡ set → ⊥) → inSet (drop i texts) set bytes ≡ inSet (drop (i + 1) texts) set bytes
     unfolding inSet
-    set-passed n = rw (next, ne-eqb (t .set) set n)
+    set-passed n = rw (next-text, ne-eqb (t .set) set n)
 
     pub text-passed : isText bytes (stringOf t) ≡ false → inSet (drop i texts) set bytes ≡ inSet (drop (i + 1) texts) set bytes
     unfolding inSet
-    text-passed n = rw (next, n, and-false (eqb (t .set) set))
+    text-passed n = rw (next-text, n, and-false (eqb (t .set) set))
 
     pub text-hit : t .set ≡ set → isText bytes (stringOf t) ≡ true → inSet (drop i texts) set bytes ≡ true
     unfolding inSet
-    text-hit n m = rw (next, eq-eqb (t .set) set n, m)
+    text-hit n m = rw (next-text, eq-eqb (t .set) set n, m)
 
   pub text-ended : 20 ≤ i → inSet (drop i texts) set bytes ≡ false
   unfolding inSet

@@ -1,4 +1,4 @@
 pub mod Laws
 pub mod Names
-pub mod Found
+pub mod Together
 pub mod Spans

@@ -1,23 +1,24 @@
 -- The letters of a line: stored and taken, and the first four of them in one number.
-use Prim.Native.Nat.{ℕ, zero, suc, min, _≤_, _<_}
+use Prim.Native.Nat.{ℕ, min, _+_, _/_, _%_, _^_, _≤_, _<_}
 use native.Mathlib.Omega.{arith}
-use mathlib.Core.Path.{_≡_, refl, sym, _∙_}
-use mathlib.Core.Bool.{Bool, true, false, _&&_, and-eq-true-iff}
-use mathlib.Core.List.{List, [], _∷_}
-use lib.Dec.{eqb, ltb}
-use lib.ListN.{length, take, getD, replicate}
-use lib.Seq.{sets, take-all}
-use borrow.Author.Tests.{eq-eqb, ne-eqb, eqb-true, ltb-true, ltb-false}
+use native.Mathlib.Nat.{mod-lt, one-le-pow}
+use mathlib.Core.Path.{_≡_, refl, sym, ap, _∙_}
+use mathlib.Core.Bool.{false}
+use mathlib.Core.List.{List, _++_, append-assoc}
+use lib.Dec.{ltb}
+use lib.ListN.{length, take, replicate}
+use lib.Seq.{sets, take-all, take-take, take-at}
+use borrow.Author.Tests.{eq-eqb, ne-eqb, ltb-true, ltb-false}
 use Rattle.le.specs.Le.{val, le, numberAt}
+use Rattle.le.proofs.Laws.{le-remainder, le-split, length-le, val-le}
 use Rattle.le.proofs.Tests.{by-test}
 use Rattle.names.specs.Names.{same}
 use Rattle.names.specs.Names.{numbered as numberIn}
 use Rattle.names.proofs.Laws.{same-eq}
 use Rattle.rules.specs.declared.Line.{Line}
 use Rattle.rules.specs.declared.Letters.{Letters}
-use Rattle.rules.specs.Table.{letters, lines, lineAt, free, unpacked, lettersOf, nameOf}
+use Rattle.rules.specs.Table.{unpacked, lettersOf, nameOf}
 use Rattle.rules.specs.Rules.{isNumber, lists}
-use Rattle.rules.proofs.Laws.{many}
 
 -- ---- stored and taken
 module _ (first second third : ℕ) where
@@ -52,31 +53,28 @@ module _ (size first second third : ℕ) where
         rw all (take-all 12 bytes (omega (arith, most)) ∙ sym (take-all size bytes (omega (arith, most, long)))))
         (λ t. let some : min size 12 ≡ size = omega (arith, ltb-false 12 size t) in rw some))
 
+-- ---- the first four letters of a line's name
+module _ (l : Line) where
+  abbrev others : List ℕ
+  others = le 4 (l .second) ++ le 4 (l .third)
+
+  -- so many letters of four
+  pub four-some : (n m : ℕ) → l .size ≡ n → n + m ≡ 4 → l .first % 256 ^ n ≡ numberAt 4 (nameOf l) 0
+  unfolding unpacked numberAt
+  four-some n m e f =
+      let x = l .first in
+      let split : le 4 x ++ others ≡ le n x ++ (le m (x / 256 ^ n) ++ others) =
+      ap (λ w. le w x ++ others) (sym f) ∙ ap (λ b. b ++ others) (le-split n m x) ∙ append-assoc (le n x) (le m (x / 256 ^ n)) others in
+      let low : take n (le 4 x ++ others) ≡ le n x = ap (take n) split ∙ take-at (le n x) (le m (x / 256 ^ n) ++ others) n (length-le n x) in
+      let all : take 4 (le n x) ≡ le n x = take-all 4 (le n x) (omega (arith, length-le n x)) in
+      sym (rw (e, low, all, ← le-remainder n x) (val-le n (x % 256 ^ n) (mod-lt x (one-le-pow n 256 (omega arith)))))
+
+  pub four-all : 4 ≤ l .size → l .first < 256 ^ 4 → l .first ≡ numberAt 4 (nameOf l) 0
+  unfolding unpacked numberAt
+  four-all k h =
+      sym (ap val (take-take 4 (l .size) (le 4 (l .first) ++ others) k ∙ take-at (le 4 (l .first)) others 4 (length-le 4 (l .first))) ∙ val-le 4 (l .first) h)
+
 -- ---- a line has a name
-
-unfoldable all : (Line → Bool) → List Line → Bool
-all test [] = true
-all test (l ∷ ls) = test l && all test ls
-
-all-at : (test : Line → Bool) (ls : List Line) (i : ℕ) (d : Line) → all test ls ≡ true → i < length ls → test (getD ls i d) ≡ true
-unfolding all
-all-at test [] i d e h = absurd (omega arith)
-all-at test (l ∷ ls) zero d e h = and-eq-true-iff (test l) _ .0 e .0
-all-at test (l ∷ ls) (suc i) d e h = all-at test ls i d (and-eq-true-iff (test l) _ .0 e .1) (omega arith)
-
--- the first number of a line is that of its name, whose letters end with zeros
-abbrev firstFits : Line → Bool
-firstFits l = eqb (l .first) (numberAt 4 (nameOf l) 0)
-
-firsts : all firstFits lines ≡ true
-unfolding all lines letters numberAt val le unpacked
-firsts = refl
-
-pub first-at : (i : ℕ) → i < 81 → lineAt i .first ≡ numberAt 4 (nameOf (lineAt i)) 0
-unfolding lineAt
-first-at i h = eqb-true _ _ (all-at firstFits lines i free firsts (omega (arith, many)))
-
--- a line and a name
 module _ (name : List ℕ) (l : Line) where
   pub lists-numbered : l .numbered ≡ 1 → lists l name ≡ isNumber (numberIn name (nameOf l))
   unfolding lists
@@ -87,7 +85,7 @@ module _ (name : List ℕ) (l : Line) where
     unfolding lists
     lists-plain = rw (ne-eqb (l .numbered) 1 n)
 
-    pub lists-other : l .first ≡ numberAt 4 (nameOf l) 0 → {four : ℕ} → four ≡ numberAt 4 name 0 → (l .first ≡ four → ⊥) → lists l name ≡ false
+    pub lists-other : {first four : ℕ} → first ≡ numberAt 4 (nameOf l) 0 → four ≡ numberAt 4 name 0 → (first ≡ four → ⊥) → lists l name ≡ false
     lists-other h f m =
         lists-plain ∙ by-test (same name (nameOf l))
         (λ s. absurd (m (rw (f, same-eq name (nameOf l) s) h)))

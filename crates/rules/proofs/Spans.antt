@@ -12,7 +12,7 @@ use Rattle.kinds.specs.Kinds.{model, mesh, blendShape, bone, ikHandle, constrai
 use Rattle.rules.specs.declared.Line.{Line}
 use Rattle.rules.specs.Table.{lines}
 use Rattle.rules.specs.Rules.{before, run, spanOf}
-use Rattle.rules.proofs.Laws.{many}
+use Rattle.rules.proofs.Together.{many}
 
 -- none of some kinds is the kind
 abbrev pub Absent : ℕ → List ℕ → Type 0

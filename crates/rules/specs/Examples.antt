@@ -11,14 +11,14 @@ use Rattle.names.specs.Names.{numbered as numberIn}
 use Rattle.kinds.specs.Kinds.{root, model, mesh, curve, material, file}
 use Rattle.rules.specs.declared.Line.{Line}
 use Rattle.rules.specs.Table.{letters, lines, unpacked, rule, free, plain, numbered, single, array, required, optional, v3, int, string, long, nothing, vertices, oneOf, linkTo, modes, texts}
-use Rattle.rules.specs.Rules.{lists, ruleIn, ruleOf, isText, inSet, isOneOf}
+use Rattle.rules.specs.Rules.{lists, ruleIn, ofKind, linesOf, ruleOf, isText, inSet, isOneOf}
 
 count : length lines ≡ 81
 unfolding lines
 count = refl
 
 unfoldable found : ℕ → String → Line
-unfolding val numberAt le letters unpacked lines lists same numberIn decimal number ruleIn ruleOf
+unfolding val numberAt le letters unpacked lines lists same numberIn decimal number ruleIn ofKind linesOf
 found kind name = ruleOf kind (letters name)
 
 abbrev colours : Line

@@ -1,8 +1,8 @@
 -- The line of a kind and name, what it says of a type and a length, and the strings of a set.
-use Prim.Native.Nat.{ℕ, suc, _+_, _-_}
+use Prim.Native.Nat.{ℕ, suc, _+_}
 use mathlib.Core.Bool.{Bool, true, false, cond, not, _&&_, _||_}
 use mathlib.Core.List.{List, [], _∷_}
-use lib.Dec.{eqb}
+use lib.Dec.{eqb, leb}
 use lib.ListN.{length, take, drop, getD}
 use Rattle.names.specs.Names.{same}
 use Rattle.names.specs.Names.{numbered as numberIn}
@@ -36,13 +36,27 @@ isNumber Not = false
 unfoldable pub lists : Line → List ℕ → Bool
 lists l name = cond (eqb (l .numbered) numbered) (isNumber (numberIn name (nameOf l))) (same name (nameOf l))
 
--- ---- the line of a kind and name, among some
-unfoldable pub ruleIn : List Line → (kind : ℕ) (name : List ℕ) → Line
-ruleIn [] kind name = free
-ruleIn (l ∷ ls) kind name = cond (eqb (l .kind) kind && lists l name) l (ruleIn ls kind name)
+-- ---- the first of some lines that has a name
+unfoldable pub ruleIn : List Line → (name : List ℕ) → Line
+ruleIn [] name = free
+ruleIn (l ∷ ls) name = cond (lists l name) l (ruleIn ls name)
 
-unfoldable pub ruleOf : (kind : ℕ) (name : List ℕ) → Line
-ruleOf kind name = ruleIn lines kind name
+-- its place among them; their number where none has it
+unfoldable pub findIn : List Line → (name : List ℕ) → ℕ
+findIn [] name = 0
+findIn (l ∷ ls) name = cond (lists l name) 0 (suc (findIn ls name))
+
+-- ---- the lines of a kind
+unfoldable pub ofKind : List Line → ℕ → List Line
+ofKind [] kind = []
+ofKind (l ∷ ls) kind = cond (eqb (l .kind) kind) (l ∷ ofKind ls kind) (ofKind ls kind)
+
+unfoldable pub linesOf : (kind : ℕ) → List Line
+linesOf kind = ofKind lines kind
+
+-- the line of a kind and name
+abbrev pub ruleOf : (kind : ℕ) (name : List ℕ) → Line
+ruleOf kind name = ruleIn (linesOf kind) name
 
 -- ---- the same by places: a kind's lines stand together
 
@@ -59,13 +73,9 @@ run (l ∷ ls) kind = cond (eqb (l .kind) kind) (suc (run ls kind)) 0
 unfoldable pub spanOf : ℕ → Span
 spanOf kind = record { from = before lines kind; to = before lines kind + run (drop (before lines kind) lines) kind }
 
--- the place of the first of some lines, the first of which is at i, that has the name; 81 where none has
-unfoldable pub place : ℕ → List Line → List ℕ → ℕ
-place i [] name = 81
-place i (l ∷ ls) name = cond (lists l name) i (place (suc i) ls name)
-
-unfoldable pub findIn : Span → List ℕ → ℕ
-findIn span name = place (span .from) (take (span .to - span .from) (drop (span .from) lines)) name
+-- some lines where all have room; else none
+abbrev pub fitting : List Line → (room : ℕ) → List Line
+fitting ls room = cond (leb (length ls) room) ls []
 
 -- ---- strings
 

@@ -1,11 +1,11 @@
 -- Document 01, "Properties of the known kinds": "The rules stand in one constant table, a line per kind and name. `!`
 -- required, `[]` array of any length (else length 1), `B` a `b` that is 0 or 1, `N` any of `b h i`, read unsigned; strings
--- in brackets are the only ones taken". The table in plain letters, and the line at a place of it.
+-- in brackets are the only ones taken". The table in plain letters.
 use Prim.Native.Nat.{ℕ, min}
 use Prim.Native.Char.{code}
 use Prim.Native.String.{String}
 use Prim.Native.String as Str
-use mathlib.Core.List.{List, [], _∷_, _++_}
+use mathlib.Core.List.{List, [], _∷_, _++_, map}
 use lib.ListN.{length, take, getD}
 use Rattle.le.specs.Le.{le, numberAt}
 use Rattle.kinds.specs.Kinds.{model, mesh, blendShape, bone, ikHandle, constraint, animation, curve, curveModeOverride, notificationTrack, material, file, instance, metadata}
@@ -253,10 +253,6 @@ lines =
 abbrev pub free : Line
 free = rule 0 "" plain anyType array optional nothing
 
--- the line at a place of the table
-unfoldable pub lineAt : ℕ → Line
-lineAt i = getD lines i free
-
 -- a line as the row of its numbers, and back
 abbrev pub rowOf : Line → List ℕ
 rowOf l = l .kind ∷ l .size ∷ l .first ∷ l .second ∷ l .third ∷ l .numbered ∷ l .types ∷ l .array ∷ l .required ∷ l .held ∷ l .set ∷ l .target ∷ []
@@ -276,6 +272,9 @@ lineFrom r = record {
   set = getD r 10 0;
   target = getD r 11 0;
 }
+
+abbrev pub linesFrom : List (List ℕ) → List Line
+linesFrom rows = map lineFrom rows
 
 -- a text's bytes from its numbers
 unfoldable pub unpacked : (first second third : ℕ) → List ℕ
@@ -324,8 +323,12 @@ texts =
     text axes "z" ∷
     []
 
-unfoldable pub textAt : ℕ → Text
-textAt i = getD texts i (text 0 "")
+-- a string as the row of its numbers, and back
+abbrev pub textRow : Text → List ℕ
+textRow t = t .set ∷ t .size ∷ t .first ∷ t .second ∷ t .third ∷ []
+
+abbrev pub textFrom : List ℕ → Text
+textFrom r = record { set = getD r 0 0; size = getD r 1 0; first = getD r 2 0; second = getD r 3 0; third = getD r 4 0 }
 
 abbrev pub stringOf : Text → List ℕ
 stringOf t = take (t .size) (unpacked (t .first) (t .second) (t .third))

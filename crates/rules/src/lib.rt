@@ -1,11 +1,14 @@
 // The rules of properties: one constant table, a line for each kind and name.
 ghost use mathlib.Core.Path.{_≡_};
-ghost use Prim.Native.Nat.{_≤_, _<_};
+ghost use Prim.Native.Nat.{_+_, _≤_};
+ghost use mathlib.Core.List.{map};
+ghost use lib.ListN.{length, getD};
+ghost use lib.Seq.{sets};
 ghost use Rattle.le.specs.Le.{numberAt};
 ghost use Rattle.names.specs.Names.{same};
 ghost use Rattle.names.specs.Names.{numbered as numberIn};
-ghost use Rattle.rules.specs.Table.{lineAt, lineFrom, lettersOf, nameOf, textAt, stringOf};
-ghost use Rattle.rules.specs.Rules.{takes, misfits, isNumber, lists, spanOf, findIn, isText, isOneOf};
+ghost use Rattle.rules.specs.Table.{lineFrom, linesFrom, rowOf, free, lettersOf, nameOf, textFrom, stringOf};
+ghost use Rattle.rules.specs.Rules.{takes, misfits, isNumber, lists, findIn, spanOf, linesOf, fitting, isText, isOneOf};
 
 // The kinds, by their letters.
 const MODL: u32 = 0x6C646F6D;
@@ -147,6 +150,9 @@ const LINES: [[u32; 12]; 81] = [
     [META, 2, 0x7075, 0, 0, 0, S, 0, 0, 2, 5, 0], // Metadata up s (x, y, z)
 ];
 
+// The line of the names that are not listed: any type and any length.
+const FREE: [u32; 12] = [0, 0, 0, 0, 0, 0, 3, 1, 0, 0, 0, 0];
+
 // The strings that a set has: the set, the string's size and its letters, four to a number.
 const STRINGS: [[u32; 5]; 20] = [
     [1, 6, 0x656E696C, 0x7261, 0], // linear
@@ -187,7 +193,7 @@ pub struct Line {
 }
 
 // A line from its row of the table.
-fn line_of(row: [u32; 12]) -> Line
+fn line_from(row: [u32; 12]) -> Line
     ensures { λ r. ⌜ r ≡ lineFrom row ⌝ }
 {
     Line {
@@ -204,37 +210,6 @@ fn line_of(row: [u32; 12]) -> Line
         set: row[10],
         target: row[11],
     }
-}
-
-fn listed(i: usize) -> Line
-    requires { ⌜ i < 81 ⌝ }
-    ensures { λ r. ⌜ r ≡ lineAt i ⌝ }
-{
-    let row = LINES[i];
-    line_of(row)
-}
-
-// The line at a place of the table; past its end, what holds of names that are not listed: any type and any length.
-pub fn line_at(i: usize) -> Line
-    ensures { λ r. ⌜ r ≡ lineAt i ⌝ }
-{
-    if 81 <= i {
-        return Line {
-            kind: 0,
-            size: 0,
-            first: 0,
-            second: 0,
-            third: 0,
-            numbered: 0,
-            types: 3,
-            array: 1,
-            required: 0,
-            held: 0,
-            set: 0,
-            target: 0,
-        };
-    }
-    listed(i)
 }
 
 // Some letters, and zeros after them.
@@ -310,29 +285,71 @@ fn is_numbered(l: Line, name: &[u8]) -> bool
     }
 }
 
+// The first four letters of a line's name in one number, zeros for those that are not there.
+fn four_of(l: Line) -> u32
+    ensures { λ r. ⌜ r ≡ numberAt 4 (nameOf l) 0 ⌝ }
+{
+    let size = l.size;
+    let first = l.first;
+    match size {
+        0 => 0,
+        1 => first % 256,
+        2 => first % 65536,
+        3 => first % 16777216,
+        _ => first,
+    }
+}
+
 // Whether a line has a name, whose first four letters are one number. Most lines differ in these.
 fn has_name(l: Line, name: &[u8], four: u32) -> bool
-    requires { ⌜ (four ≡ numberAt 4 (now name) 0) × (l .first ≡ numberAt 4 (nameOf l) 0) ⌝ }
+    requires { ⌜ four ≡ numberAt 4 (now name) 0 ⌝ }
     ensures { λ r. ⌜ r ≡ lists l (now (name .entry)) ⌝ }
 {
     if l.numbered == 1 {
         return is_numbered(l, name);
     }
-    if l.first != four {
+    if four_of(l) != four {
         return false;
     }
     is_plain(l, name)
 }
 
-// Lines of the table, from one place up to another.
-pub struct Span {
-    pub from: usize,
-    pub to: usize,
+// The place of the first of some lines that has a name; their number where none has.
+pub fn find(lines: &[[u32; 12]], name: &[u8]) -> usize
+    ensures { λ r. ⌜ r ≡ findIn (linesFrom (now (lines .entry))) (now (name .entry)) ⌝ }
+{
+    let four = le::u32_at(name, 0);
+    let mut i: usize = 0;
+    while i < lines.len() {
+        let row = lines[i];
+        if has_name(line_from(row), name, four) {
+            return i;
+        }
+        i += 1;
+    }
+    i
 }
 
-// Where the lines of a kind stand.
-pub fn span_of(kind: u32) -> Span
-    ensures { λ r. ⌜ r ≡ spanOf kind ⌝ }
+// The line at a place among some; past their end, that of the names that are not listed.
+pub fn line_in(lines: &[[u32; 12]], i: usize) -> Line
+    ensures { λ r. ⌜ r ≡ getD (linesFrom (now (lines .entry))) i free ⌝ }
+{
+    if i < lines.len() {
+        let row = lines[i];
+        return line_from(row);
+    }
+    line_from(FREE)
+}
+
+// Lines of the table, from one place up to another.
+struct Span {
+    from: usize,
+    to: usize,
+}
+
+// Where the lines of a kind stand. No kind has more than the 14 of a Mesh.
+fn span_of(kind: u32) -> Span
+    ensures { λ r. ⌜ (r ≡ spanOf kind) × (r .from ≤ r .to) × (r .to ≤ r .from + 14) × (r .to ≤ 81) ⌝ }
 {
     match kind {
         0x6C646F6D => Span { from: 0, to: 1 }, // Model
@@ -353,27 +370,29 @@ pub fn span_of(kind: u32) -> Span
     }
 }
 
-// The place of the first of these lines that has a name; 81 where none has.
-pub fn find(span: Span, name: &[u8]) -> usize
-    ensures { λ r. ⌜ (r ≡ findIn span (now (name .entry))) × (r ≤ 81) ⌝ }
+// Puts the lines of a kind into some rows, where all have room, and answers how many were put. Nothing else reads the table,
+// which is written out where it is read: a node's lines are taken from it once, and lent to what goes by them.
+pub fn put_lines(kind: u32, rows: &mut [[u32; 12]]) -> usize
+    ensures { λ r. ⌜ (r ≡ length (fitting (linesOf kind) (length (now (rows .entry))))) × (now (rows .exit) ≡ sets (now (rows .entry)) 0 (map rowOf (fitting (linesOf kind) (length (now (rows .entry)))))) × (length (linesOf kind) ≤ 14) ⌝ }
 {
-    let to = span.to;
+    let span = span_of(kind);
     let from = span.from;
+    let to = span.to;
     if to <= from {
-        return 81;
+        return 0;
     }
-    let four = le::u32_at(name, 0);
-    // The table is written out where it is read: once, and not for each line.
-    let lines = LINES;
-    let mut i = from;
-    while (i < to) & (i < 81) {
-        let row = lines[i];
-        if has_name(line_of(row), name, four) {
-            return i;
-        }
+    let count = to - from;
+    if rows.len() < count {
+        return 0;
+    }
+    let table = LINES;
+    let mut i: usize = 0;
+    while i < count {
+        let row = table[from + i];
+        rows[i] = row;
         i += 1;
     }
-    81
+    count
 }
 
 // A string of a set.
@@ -385,22 +404,16 @@ pub struct Text {
     pub third: u32,
 }
 
-fn text_at(i: usize) -> Text
-    requires { ⌜ i < 20 ⌝ }
-    ensures { λ r. ⌜ r ≡ textAt i ⌝ }
+// A string from its row of the table.
+fn text_from(row: [u32; 5]) -> Text
+    ensures { λ r. ⌜ r ≡ textFrom row ⌝ }
 {
-    let t = STRINGS[i];
-    let set = t[0];
-    let size = t[1];
-    let first = t[2];
-    let second = t[3];
-    let third = t[4];
     Text {
-        set,
-        size,
-        first,
-        second,
-        third,
+        set: row[0],
+        size: row[1],
+        first: row[2],
+        second: row[3],
+        third: row[4],
     }
 }
 
@@ -428,9 +441,11 @@ fn stands(t: Text, bytes: &[u8]) -> bool
 pub fn one_of(set: u32, bytes: &[u8]) -> bool
     ensures { λ r. ⌜ r ≡ isOneOf set (now (bytes .entry)) ⌝ }
 {
+    let strings = STRINGS;
     let mut i: usize = 0;
     while i < 20 {
-        let t = text_at(i);
+        let row = strings[i];
+        let t = text_from(row);
         if t.set == set {
             if stands(t, bytes) {
                 return true;

@@ -16,7 +16,7 @@ use Rattle.faces.specs.declared.Values.the-variants.{Below, Past}
 use Rattle.faces.specs.Faces.{widthOf, facesIn, below}
 use Rattle.rules.specs.declared.Line.{Line}
 use Rattle.rules.specs.Table.{letters, texts, stringOf, byte, int, flag, oneOf, vertices, weights, faces, indices, keys, boneNumber}
-use Rattle.rules.specs.Rules.{isN, takes, ruleOf, isOneOf}
+use Rattle.rules.specs.Rules.{isN, takes, linesOf, ruleOf, isOneOf}
 use Rattle.judge.specs.declared.Verdict.{Verdict}
 use Rattle.judge.specs.declared.Beside.{Beside}
 use Rattle.judge.specs.declared.Fault.{Fault}
@@ -156,11 +156,11 @@ passed (Element k) at v = (λ e. absurd (omega arith), λ h. cc)
 
 pub valued-right : (kind : ℕ) (s : List ℕ) (all : List Property) (bones : ℕ) (b : Beside) → Beheld kind all bones b →
     {starts : List ℕ} {ps : List Property} → Described s starts ps → Each (λ p. FitsLine (ruleOf kind (p .name)) p) ps →
-    (valued kind s b starts .number ≡ 0) ↔ Each (λ p. Keeps (ruleOf kind (p .name)) all bones p) ps
+    (valued (linesOf kind) s b starts .number ≡ 0) ↔ Each (λ p. Keeps (ruleOf kind (p .name)) all bones p) ps
 unfolding valued
 valued-right kind s all bones b beside none fits = (λ e. tt, λ h. refl)
 valued-right kind s all bones b beside (one {at} {p} {starts} {ps} a d) fits =
     rw (a .name)
-    (Iff·trans (passed (faultOf (ruleOf kind (p .name)) s at b) at (valued kind s b starts))
+    (Iff·trans (passed (faultOf (ruleOf kind (p .name)) s at b) at (valued (linesOf kind) s b starts))
     (Iff·and (kept kind s all bones b beside a (fits .0), right kind s all bones b beside a (fits .0))
     (valued-right kind s all bones b beside d (fits .1))))

@@ -1,12 +1,12 @@
 -- What the table says of lines by what they hold a property to, computed over it: their kind, their types and their length.
 use Prim.Native.Nat.{ℕ}
 use mathlib.Core.Path.{_≡_, refl, ap, sym, _∙_}
-use mathlib.Core.Bool.{Bool, true, cond, _&&_, and-eq-true-iff}
+use mathlib.Core.Logic.{⊎-elim}
+use mathlib.Core.Bool.{Bool, true, cond, _&&_}
 use mathlib.Core.List.{List, [], _∷_}
 use lib.Dec.{eqb}
 use borrow.Author.Tests.{eqb-true}
 use Rattle.le.specs.Le.{val, le, numberAt}
-use Rattle.le.proofs.Tests.{by-test}
 use Rattle.names.specs.Names.{same, decimal, number, bytesOk}
 use Rattle.names.specs.Names.{numbered as numberIn}
 use Rattle.kinds.specs.Kinds.{mesh, blendShape, curve}
@@ -14,7 +14,8 @@ use Rattle.rules.specs.declared.Line.{Line}
 use Rattle.rules.specs.declared.Text.{Text}
 use Rattle.rules.specs.Table.{letters, lines, unpacked, single, byte, int, long, string, N, texts, stringOf}
 use Rattle.rules.specs.Table.{flag, oneOf, vertices, weights, faces, indices, keys, boneNumber, linkTo}
-use Rattle.rules.specs.Rules.{lists, ruleIn, ruleOf}
+use Rattle.rules.specs.Rules.{lists, ruleIn, ofKind, linesOf, ruleOf}
+use Rattle.rules.proofs.Laws.{all, ruled}
 use Rattle.valid.proofs.Says.{says-eqb, says-and}
 
 two : (a b c d : ℕ) → (eqb a b && eqb c d) ≡ true → (a ≡ b) × (c ≡ d)
@@ -33,31 +34,22 @@ told h kind types array =
     (cond (eqb h (boneNumber .held)) (eqb types int && eqb array single)
     (cond (eqb h (linkTo 0 .held)) (eqb types long && eqb array single) true))))))))
 
-unfoldable all-told : List Line → Bool
-all-told [] = true
-all-told (l ∷ ls) = told (l .held) (l .kind) (l .types) (l .array) && all-told ls
+abbrev tells : Line → Bool
+tells l = told (l .held) (l .kind) (l .types) (l .array)
 
-lines-told : all-told lines ≡ true
-unfolding all-told lines
-lines-told = refl
+lines-tell : all tells lines ≡ true
+unfolding all lines
+lines-tell = refl
 
 module _ (kind : ℕ) (name : List ℕ) where
-  told-in : (ls : List Line) → all-told ls ≡ true → let l = ruleIn ls kind name in told (l .held) kind (l .types) (l .array) ≡ true
-  unfolding all-told ruleIn
-  told-in [] e = refl
-  told-in (l ∷ ls) e =
-      let both = and-eq-true-iff (told (l .held) (l .kind) (l .types) (l .array)) (all-told ls) .0 e in
-      by-test (eqb (l .kind) kind && lists l name)
-      (λ t. let same = eqb-true (l .kind) kind (and-eq-true-iff (eqb (l .kind) kind) (lists l name) .0 t .0) in
-      rw t (rw same at (both .0)))
-      (λ t. rw t (told-in ls (both .1)))
-
   abbrev l : Line
   l = ruleOf kind name
 
   by : {h : ℕ} → l .held ≡ h → told h kind (l .types) (l .array) ≡ true
-  unfolding ruleOf
-  by e = ap (λ h. told h kind (l .types) (l .array)) (sym e) ∙ told-in lines lines-told
+  by e =
+      ap (λ h. told h kind (l .types) (l .array)) (sym e)
+      ∙ ⊎-elim (λ f. ap (λ l. told (l .held) kind (l .types) (l .array)) f) (λ t. ap (λ k. told (l .held) k (l .types) (l .array)) (sym (t .1)) ∙ t .0)
+      (ruled tells kind name lines-tell)
 
   pub flag-line : l .held ≡ flag .held → (l .types ≡ byte) × (l .array ≡ single)
   flag-line e = two (l .types) byte (l .array) single (by e)
@@ -88,11 +80,11 @@ module _ (kind : ℕ) (name : List ℕ) where
 
 -- ---- two lines that others are held against
 pub weights-each : (ruleOf mesh (letters "mi") .types ≡ N) × (ruleOf mesh (letters "mi") .array ≡ single)
-unfolding val numberAt le letters unpacked lines lists same numberIn decimal number ruleIn ruleOf
+unfolding val numberAt le letters unpacked lines lists same numberIn decimal number ruleIn ofKind linesOf
 weights-each = (refl, refl)
 
 pub key-text : ruleOf curve (letters "kp") .types ≡ string
-unfolding val numberAt le letters unpacked lines lists same numberIn decimal number ruleIn ruleOf
+unfolding val numberAt le letters unpacked lines lists same numberIn decimal number ruleIn ofKind linesOf
 key-text = refl
 
 -- ---- no string of the sets has a zero

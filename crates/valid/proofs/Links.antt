@@ -12,7 +12,7 @@ use Rattle.le.proofs.Tests.{by-test}
 use Rattle.table.specs.declared.Row.{Row}
 use Rattle.body.specs.Body.{properties}
 use Rattle.rules.specs.Table.{linkTo}
-use Rattle.rules.specs.Rules.{ruleOf}
+use Rattle.rules.specs.Rules.{linesOf, ruleOf}
 use Rattle.format.specs.Layout.{Each, Property, GoodBody}
 use Rattle.links.specs.declared.Linked.{Linked}
 use Rattle.links.specs.Links.{reached, linksAt, refusalOf, unless, resolved}
@@ -33,7 +33,7 @@ Reaches all kind p = ruleOf kind (p .name) .held ≡ linkTo 0 .held → length (
 
 module _ (all : List Row) (kind row start : ℕ) (s : List ℕ) where
   resolved-right : {starts : List ℕ} {ps : List Property} → Described s starts ps → Each (λ p. FitsLine (ruleOf kind (p .name)) p) ps → (m : ℕ) →
-      (resolved m (linksAt all kind row start s starts) .number ≡ 0) ↔ Each (Reaches all kind) ps
+      (resolved m (linksAt all (linesOf kind) row start s starts) .number ≡ 0) ↔ Each (Reaches all kind) ps
   unfolding linksAt resolved
   resolved-right none fits m = (λ e. tt, λ h. refl)
   resolved-right (one {at} {p} {starts} {ps} a d) fits m =
@@ -45,7 +45,7 @@ module _ (all : List Row) (kind row start : ℕ) (s : List ℕ) where
       let line = link-line kind (p .name) link in
       let hash = hash-read a (takes-long _ (p .code) (fits .0 .0) (line .0)) (fits .0 .1 (line .1)) in
       let targets = reached (l .target) (val (p .content)) 0 all in
-      let here = one-target targets (start + at) (resolved (suc m) (linksAt all kind row start s starts)) in
+      let here = one-target targets (start + at) (resolved (suc m) (linksAt all (linesOf kind) row start s starts)) in
       let ih = resolved-right d (fits .1) (suc m) in
       rw (t, hash) (λ e. (λ k. here .0 e .0, ih .0 (here .0 e .1)), λ h. here .1 (h .0 link, ih .1 (h .1))))
       (λ t.
@@ -55,8 +55,8 @@ module _ (all : List Row) (kind row start : ℕ) (s : List ℕ) where
 -- for callers
 module _ (all : List Row) (kind row start n m : ℕ) (s : List ℕ) (good : GoodBody n s)
     (fits : Each (λ p. FitsLine (ruleOf kind (p .name)) p) (good .properties)) where
-  pub links-reach : resolved m (linksAt all kind row start s (properties s n .starts)) .number ≡ 0 → Each (Reaches all kind) (good .properties)
+  pub links-reach : resolved m (linksAt all (linesOf kind) row start s (properties s n .starts)) .number ≡ 0 → Each (Reaches all kind) (good .properties)
   links-reach = resolved-right all kind row start s (described n s good) fits m .0
 
-  pub links-good : Each (Reaches all kind) (good .properties) → resolved m (linksAt all kind row start s (properties s n .starts)) .number ≡ 0
+  pub links-good : Each (Reaches all kind) (good .properties) → resolved m (linksAt all (linesOf kind) row start s (properties s n .starts)) .number ≡ 0
   links-good = resolved-right all kind row start s (described n s good) fits m .1

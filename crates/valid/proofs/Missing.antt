@@ -2,12 +2,14 @@
 use Prim.Native.Nat.{ℕ}
 use mathlib.Core.Path.{_≡_, refl}
 use mathlib.Core.Logic.{_⊎_, inl, inr, ⊎-elim}
-use mathlib.Core.Bool.{Bool, true, false, _&&_, false≢true}
+use mathlib.Core.Bool.{Bool, true, false, _&&_, _||_, false≢true}
 use mathlib.Core.List.{List, [], _∷_}
 use lib.Dec.{eqb}
+use Rattle.le.proofs.Tests.{by-test}
 use Rattle.kinds.specs.Kinds.{mesh}
 use Rattle.rules.specs.declared.Line.{Line}
 use Rattle.rules.specs.Table.{letters, required, lines, nameOf}
+use Rattle.rules.specs.Rules.{ofKind, linesOf}
 use Rattle.judge.specs.Properties.{has}
 use Rattle.judge.specs.Judge.{isMissing, misses, partnered, unpartnered, lacks}
 use Rattle.format.specs.Layout.{Each, Property}
@@ -24,14 +26,19 @@ all-partners false true c h k m = (λ e. absurd (false≢true e), λ f. h .1 (f 
 all-partners false false c h k m = (λ e. ⊎-elim (λ x. absurd (false≢true (h .1 x))) (λ x. absurd (false≢true (k .1 x))), λ f. refl)
 
 module _ (kind : ℕ) (s : List ℕ) {starts : List ℕ} {ps : List Property} (d : Described s starts ps) where
-  none-missing : (ls : List Line) → Fails (misses ls kind s starts) (Each (λ l. l .kind ≡ kind → l .required ≡ required → Has (nameOf l) ps) ls)
-  unfolding misses
+  of-kind : (l : Line) (ls : List Line) →
+      misses (ofKind (l ∷ ls) kind) s starts ≡ ((eqb (l .kind) kind && isMissing l s starts) || misses (ofKind ls kind) s starts)
+  unfolding misses ofKind
+  of-kind l ls = by-test (eqb (l .kind) kind) (λ t. rw t) (λ t. rw t)
+
+  none-missing : (ls : List Line) → Fails (misses (ofKind ls kind) s starts) (Each (λ l. l .kind ≡ kind → l .required ≡ required → Has (nameOf l) ps) ls)
+  unfolding misses ofKind
   none-missing [] = (λ e. tt, λ h. refl)
   none-missing (l ∷ ls) =
       let there = fails-not (has s starts (nameOf l)) (says-has s (nameOf l) d) in
       let wanted = fails-and (eqb (l .required) required) _ (says-eqb (l .required) required) there in
       let here = fails-and (eqb (l .kind) kind) _ (says-eqb (l .kind) kind) wanted in
-      fails-or (eqb (l .kind) kind && isMissing l s starts) _ here (none-missing ls)
+      rw (of-kind l ls) (fails-or (eqb (l .kind) kind && isMissing l s starts) _ here (none-missing ls))
 
   all-partnered : Fails (unpartnered kind s starts) (kind ≡ mesh → Partnered ps)
   all-partnered =
@@ -41,6 +48,6 @@ module _ (kind : ℕ) (s : List ℕ) {starts : List ℕ} {ps : List Property} (d
       let partners = all-partners wb wv mi (says-has s (letters "wb") d) (says-has s (letters "wv") d) (says-has s (letters "mi") d) in
       fails-and (eqb kind mesh) _ (says-eqb kind mesh) (fails-not (partnered wb wv mi) partners)
 
-  pub lacks-none : Fails (lacks kind s starts) (HasRequired kind ps × (kind ≡ mesh → Partnered ps))
-  unfolding lacks
-  lacks-none = fails-or (misses lines kind s starts) _ (none-missing lines) all-partnered
+  pub lacks-none : Fails (lacks kind (linesOf kind) s starts) (HasRequired kind ps × (kind ≡ mesh → Partnered ps))
+  unfolding lacks linesOf
+  lacks-none = fails-or (misses (linesOf kind) s starts) _ (none-missing lines) all-partnered

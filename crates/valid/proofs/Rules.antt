@@ -7,6 +7,7 @@ use mathlib.Core.Bool.{cond, false≢true}
 use mathlib.Core.List.{List, []}
 use Rattle.body.specs.Body.{firstNamed, properties}
 use Rattle.faces.specs.declared.Face.{Face}
+use Rattle.rules.specs.Rules.{linesOf}
 use Rattle.judge.specs.declared.Verdict.{Verdict}
 use Rattle.judge.specs.Properties.{has, besideOf}
 use Rattle.judge.specs.Judge.{refuse, typed, lacks, valued, nodeFaces, nodeLinks, andThen, verdictAt, judgedBy, judgedAt, judged}
@@ -32,16 +33,16 @@ unfolding firstNamed
 none-before s name = (λ e. false≢true e, λ h. absurd h)
 
 module _ (kind : ℕ) (s : List ℕ) (bones : ℕ) where
-  verdict-right : {starts : List ℕ} {ps : List Property} → Described s starts ps → (verdictAt kind s starts bones .number ≡ 0) ↔ Obeys kind ps bones
+  verdict-right : {starts : List ℕ} {ps : List Property} → Described s starts ps → (verdictAt kind (linesOf kind) s starts bones .number ≡ 0) ↔ Obeys kind ps bones
   unfolding verdictAt
   verdict-right {starts} {ps} d =
       let types = typed-right kind s (λ name. ⊥) [] (none-before s) d in
       let missing = lacks-none kind s d in
-      let values = valued kind s (besideOf kind s starts bones) starts in
-      let first = typed kind s [] starts in
-      let second = cond (lacks kind s starts) (refuse 14 0) values in
+      let values = valued (linesOf kind) s (besideOf kind s starts bones) starts in
+      let first = typed (linesOf kind) s [] starts in
+      let second = cond (lacks kind (linesOf kind) s starts) (refuse 14 0) values in
       let ordered = both (first .number) first second refl in
-      let after = refused (lacks kind s starts) 14 0 values (λ e. omega arith) in (
+      let after = refused (lacks kind (linesOf kind) s starts) 14 0 values (λ e. omega arith) in (
         λ e.
             let typing = types .0 (ordered .0 e .0) in
             let rest = after .0 (ordered .0 e .1) in
@@ -60,8 +61,8 @@ module _ (kind : ℕ) (s : List ℕ) (bones : ℕ) where
   unfolding judged judgedAt
   judged-right n good =
       let starts = properties s n .starts in
-      let verdict = verdictAt kind s starts bones in
-      Iff·trans (counted (verdict .number) verdict (nodeFaces kind s starts) (nodeLinks kind s starts)) (verdict-right (described n s good))
+      let verdict = verdictAt kind (linesOf kind) s starts bones in
+      Iff·trans (counted (verdict .number) verdict (nodeFaces (linesOf kind) s starts) (nodeLinks (linesOf kind) s starts)) (verdict-right (described n s good))
 
 -- for callers: what is not refused obeys the rules, and what obeys them is not refused
 module _ (kind n : ℕ) (s : List ℕ) (bones : ℕ) (good : GoodBody n s) where

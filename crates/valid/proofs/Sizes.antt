@@ -12,7 +12,7 @@ use Rattle.body.specs.Body.{properties}
 use Rattle.faces.specs.Faces.{widthOf}
 use Rattle.faces.proofs.Laws.{length-facesIn}
 use Rattle.rules.specs.Table.{faces}
-use Rattle.rules.specs.Rules.{ruleOf, isN}
+use Rattle.rules.specs.Rules.{linesOf, ruleOf, isN}
 use Rattle.props.specs.Step.{codeAt, lengthAt}
 use Rattle.judge.specs.Properties.{ruleAt, restAt}
 use Rattle.judge.specs.Judge.{heldFaces, nodeFaces}
@@ -24,7 +24,7 @@ use Rattle.valid.proofs.Lines.{faces-line}
 use Rattle.valid.proofs.Values.{takes-number, elements-most}
 
 property-faces : (kind : ℕ) (s : List ℕ) {at : ℕ} {p : Property} → At s at p → FitsLine (ruleOf kind (p .name)) p
-    → length (heldFaces (ruleAt kind s at) s at) ≤ length (propertyBytes p)
+    → length (heldFaces (ruleAt (linesOf kind) s at) s at) ≤ length (propertyBytes p)
 property-faces kind s {at} {p} here fits =
     let l = ruleOf kind (p .name) in
     rw (here .name) (by-test (eqb (l .held) (faces .held))
@@ -35,17 +35,17 @@ property-faces kind s {at} {p} here fits =
     (λ t. rw t (omega arith)))
 
 node-faces : (kind : ℕ) (s starts : List ℕ) (ps : List Property) → Described s starts ps → Each (λ p. FitsLine (ruleOf kind (p .name)) p) ps
-    → length (nodeFaces kind s starts) ≤ length (flatMap propertyBytes ps)
+    → length (nodeFaces (linesOf kind) s starts) ≤ length (flatMap propertyBytes ps)
 unfolding nodeFaces flatMap
 node-faces kind s [] [] none h = omega arith
 node-faces kind s (at ∷ starts) (p ∷ ps) (one here more) h =
     let a = property-faces kind s here (h .0) in
     let b = node-faces kind s starts ps more (h .1) in
-    rw (length-append (heldFaces (ruleAt kind s at) s at) (nodeFaces kind s starts), length-append (propertyBytes p) (flatMap propertyBytes ps))
+    rw (length-append (heldFaces (ruleAt (linesOf kind) s at) s at) (nodeFaces (linesOf kind) s starts), length-append (propertyBytes p) (flatMap propertyBytes ps))
     (omega (arith, a, b))
 
 pub faces-most : (kind n : ℕ) (s : List ℕ) (bones : ℕ) (good : GoodBody n s) → Obeys kind (good .properties) bones
-    → length (nodeFaces kind s (properties s n .starts)) ≤ length s
+    → length (nodeFaces (linesOf kind) s (properties s n .starts)) ≤ length s
 faces-most kind n s bones good obeys =
-    subst (λ l. length (nodeFaces kind s (properties s n .starts)) ≤ length l) (sym (good .bytes))
+    subst (λ l. length (nodeFaces (linesOf kind) s (properties s n .starts)) ≤ length l) (sym (good .bytes))
     (node-faces kind s (properties s n .starts) (good .properties) (described n s good) (obeys .fits))

@@ -9,7 +9,7 @@ use lib.Dec.{eqb}
 use Rattle.names.specs.Names.{same}
 use Rattle.rules.specs.declared.Line.{Line}
 use Rattle.rules.specs.Table.{single}
-use Rattle.rules.specs.Rules.{takes, misfits, ruleOf}
+use Rattle.rules.specs.Rules.{takes, misfits, linesOf, ruleOf}
 use Rattle.judge.specs.Properties.{has}
 use Rattle.judge.specs.declared.Verdict.{Verdict}
 use Rattle.judge.specs.Judge.{refuse, isMistyped, typed}
@@ -46,14 +46,14 @@ module _ (H : List ℕ → Type 0) (name : List ℕ) where
 -- ---- all of 13, behind some properties that have the names H
 module _ (kind : ℕ) (s : List ℕ) where
   mistyped : (H : List ℕ → Type 0) (before : List ℕ) → ((name : List ℕ) → Says (has s before name) (H name)) →
-      {at : ℕ} {p : Property} → At s at p → Fails (isMistyped kind s before at) ((H (p .name) → ⊥) × FitsLine (ruleOf kind (p .name)) p)
+      {at : ℕ} {p : Property} → At s at p → Fails (isMistyped (linesOf kind) s before at) ((H (p .name) → ⊥) × FitsLine (ruleOf kind (p .name)) p)
   mistyped H before h {at} {p} a =
       rw (a .name, a .code, a .elements)
       (fails-or (has s before (p .name)) _ (fails (has s before (p .name)) (h (p .name))) (fits (ruleOf kind (p .name)) p))
 
   pub typed-right : (H : List ℕ → Type 0) (before : List ℕ) → ((name : List ℕ) → Says (has s before name) (H name)) →
       {starts : List ℕ} {ps : List Property} → Described s starts ps →
-      (typed kind s before starts .number ≡ 0) ↔ Each (λ p. H (p .name) → ⊥) ps × Distinct ps × Each (λ p. FitsLine (ruleOf kind (p .name)) p) ps
+      (typed (linesOf kind) s before starts .number ≡ 0) ↔ Each (λ p. H (p .name) → ⊥) ps × Distinct ps × Each (λ p. FitsLine (ruleOf kind (p .name)) p) ps
   unfolding typed
   typed-right H before h none = (λ e. (tt, tt, tt), λ p. refl)
   typed-right H before h (one {at} {p} {starts} {ps} a d) =
@@ -61,7 +61,7 @@ module _ (kind : ℕ) (s : List ℕ) where
       λ name. rw (has-snoc s name before at, a .name) (says-or (has s before name) (same (p .name) name) (h name) (says-same (p .name) name)) in
       let ih = typed-right (λ name. H name ⊎ (p .name ≡ name)) (before ++ (at ∷ [])) next d in
       let first = mistyped H before h a in
-      let here = refused (isMistyped kind s before at) 13 (24 + at) (typed kind s (before ++ (at ∷ [])) starts) (λ e. omega arith) in (
+      let here = refused (isMistyped (linesOf kind) s before at) 13 (24 + at) (typed (linesOf kind) s (before ++ (at ∷ [])) starts) (λ e. omega arith) in (
         λ e.
             let now = first .0 (here .0 e .0) in
             let rest = ih .0 (here .0 e .1) in

@@ -14,7 +14,7 @@ use Rattle.props.specs.Step.{headerRefusal, dataRefusal, toZero, dataOf, nameAt
 use Rattle.body.specs.Body.{pass, properties, firstNamed}
 use Rattle.faces.specs.Faces.{widthOf, facesIn, below, degenerate}
 use Rattle.rules.specs.Table.{letters, lines, unpacked, texts}
-use Rattle.rules.specs.Rules.{lists, ruleIn, ruleOf, isText, inSet, isOneOf}
+use Rattle.rules.specs.Rules.{lists, ruleIn, ofKind, linesOf, isText, inSet, isOneOf}
 use Rattle.judge.specs.Properties.{lengthOf, valueOf, typesOf, besideOf}
 use Rattle.judge.specs.Judge.{typed, misses, lacks, faultOf, valued, nodeFaces, nodeLinks, verdictAt, judgedAt, judged}
 use Rattle.format.specs.Forest.{header, fileHeader}
@@ -34,7 +34,7 @@ rowsBy (Accepted a) rows = rows
 rowsBy (Refused n place) rows = []
 
 unfoldable pub read : List ℕ → Answer
-unfolding val numberAt bytesOk same decimal number numbered kindLines lineIn lineOf isKnown standsAtTop standsUnder mayStand headerRefusal dataRefusal toZero dataOf nameAt stepAt pass properties firstNamed widthOf facesIn below degenerate letters lines unpacked texts lists ruleIn ruleOf isText inSet isOneOf le lengthOf valueOf typesOf besideOf typed misses lacks faultOf valued nodeFaces nodeLinks verdictAt judgedAt judged reached linksAt linksFrom resolved linked headerAt nodeRefusal andThen children knownNode nodeBy node nodeAt childrenAt walkOf limited bonesUnder judgedWith ruled ownKnown ownUnknown checked verdict
+unfolding val numberAt bytesOk same decimal number numbered kindLines lineIn lineOf isKnown standsAtTop standsUnder mayStand headerRefusal dataRefusal toZero dataOf nameAt stepAt pass properties firstNamed widthOf facesIn below degenerate letters lines unpacked texts lists ruleIn ofKind linesOf isText inSet isOneOf le lengthOf valueOf typesOf besideOf typed misses lacks faultOf valued nodeFaces nodeLinks verdictAt judgedAt judged reached linksAt linksFrom resolved linked headerAt nodeRefusal andThen children knownNode nodeBy node nodeAt childrenAt walkOf limited bonesUnder judgedWith ruled ownKnown ownUnknown checked verdict
 read s = record { numbers = numbersOf (verdict s); rows = rowsBy (verdict s) (limited s .rows) }
 
 -- a file of so many roots, and a node's header alone

@@ -9,14 +9,10 @@ use Rattle.judge.proofs.Presence.{not-missing, may-miss}
 use Rattle.judge.proofs.is_missing.Statement.{statement}
 use Rattle.judge.proofs.is_missing.Tie as tie
 
-line-at-requires : tie.Need-line-at-requires
-line-at-requires c κs = search needs
-
 returns : tie.Need-returns
 returns c =
-    let l = c .before .before in
-    let a = l .before .before .before .args in
-    not-missing (a .body .now) (a .starts .now) (a .k) (l .line-at .ensures) (c .if1 .taken)
+    let a = c .before .before .before .before .args in
+    not-missing (a .body .now) (a .starts .now) (a .l) (c .if1 .taken)
 
 name-of-requires : tie.Need-name-of-requires
 name-of-requires c κs = search needs
@@ -33,16 +29,15 @@ has-requires c κs = search needs
 returns-2 : tie.Need-returns-2
 returns-2 c =
     let n = c .before .before .before in
-    let l = n .before .before .before in
-    let a = l .before .before .before .args in
+    let e = n .before in
+    let a = e .before .before .before .before .args in
     ap not (c .has .ensures ∙ ap (has (a .body .now) (a .starts .now)) (taken _ _ _ _ (n .name-of .ensures)))
-    ∙ may-miss (a .body .now) (a .starts .now) (a .k) (l .line-at .ensures) (n .before .if1 .left)
+    ∙ may-miss (a .body .now) (a .starts .now) (a .l) (e .if1 .left)
 
 pub is-missing-spec : {M : Type 1} → statement M
 is-missing-spec =
     tie.close
     (tie.spec
-    line-at-requires
     returns
     name-of-requires
     array-share-prefix-name

@@ -4,6 +4,7 @@ use mathlib.Core.Path.{sym, ap, _∙_}
 use mathlib.Core.List.{map}
 use lib.ListN.{length, take, replicate, length-map}
 use lib.Seq.{length-take-le}
+use Rattle.rules.specs.Table.{linesFrom}
 use Rattle.judge.specs.Contract.{lineNumber}
 use Rattle.judge.proofs.Values.{first-numbers, mistyped, lacking, by-values, refused-bounded}
 use borrow.Author.Needs.{needs}
@@ -23,7 +24,7 @@ returns : tie.Need-returns
 returns c =
     let v = c .before .before .before .before in
     let a = v .before .before .before .before .args in (
-      c .refused .ensures ∙ mistyped (a .kind) (a .body .now) (a .starts .now) (a .bones) (v .typed .ensures .0) (c .before .if1 .taken),
+      c .refused .ensures ∙ mistyped (a .kind) (linesFrom (a .lines .now)) (a .body .now) (a .starts .now) (a .bones) (v .typed .ensures .0) (c .before .if1 .taken),
       refused-bounded _ _ (length (a .body .now)) (v .typed .ensures .2) (c .refused .ensures),
     )
 
@@ -39,7 +40,7 @@ returns-2 c =
     let v = l .before .before .before .before in
     let a = v .before .before .before .before .args in (
       c .refused2 .ensures
-          ∙ lacking (a .kind) (a .body .now) (a .starts .now) (a .bones) (v .typed .ensures .0) (l .before .if1 .left)
+          ∙ lacking (a .kind) (linesFrom (a .lines .now)) (a .body .now) (a .starts .now) (a .bones) (v .typed .ensures .0) (l .before .if1 .left)
           (sym (l .lacks .ensures) ∙ c .before .if2 .taken),
       refused-bounded 14 0 (length (a .body .now)) (omega arith) (c .refused2 .ensures),
     )
@@ -56,7 +57,7 @@ valued-requires c κs =
     let v = e .before .before .before in
     let s = v .before .before .before .before in
     let a = s .args in
-    let line = lineNumber (a .kind) (a .body .now) in
+    let line = lineNumber (linesFrom (a .lines .now)) (a .body .now) in
     let n = length (a .starts .now) in (
       s .pre .0,
       ap (take n) (v .typed .ensures .1 (e .if1 .left))
@@ -70,7 +71,7 @@ returns-3 c =
     let v = l .before .before .before .before in
     let a = v .before .before .before .before .args in (
       c .valued .ensures .0
-          ∙ by-values (a .kind) (a .body .now) (a .starts .now) (a .bones) (v .typed .ensures .0) (l .before .if1 .left)
+          ∙ by-values (a .kind) (linesFrom (a .lines .now)) (a .body .now) (a .starts .now) (a .bones) (v .typed .ensures .0) (l .before .if1 .left)
           (sym (l .lacks .ensures) ∙ c .before .before .if2 .left),
       c .valued .ensures .1,
     )

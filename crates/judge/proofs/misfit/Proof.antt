@@ -1,4 +1,4 @@
--- `judge::misfit`: the line, and the type and the length that it is held against.
+-- `judge::misfit`: the type and the length that the line is held against.
 use borrow.Author.Needs.{needs}
 use Rattle.judge.proofs.misfit.Statement.{statement}
 use Rattle.judge.proofs.misfit.Tie as tie
@@ -9,18 +9,15 @@ code-at-requires c κs = search needs
 length-at-requires : tie.Need-length-at-requires
 length-at-requires c κs = search needs
 
-line-at-requires : tie.Need-line-at-requires
-line-at-requires c κs = search needs
-
 misfits-requires : tie.Need-misfits-requires
 misfits-requires c κs = search needs
 
 returns : tie.Need-returns
 returns c =
-    let l = c .before in
-    rw (← l .line-at .ensures, ← l .before .before .code-at .ensures, ← l .before .length-at .ensures) (c .misfits .ensures)
+    let n = c .before in
+    rw (← n .before .code-at .ensures, ← n .length-at .ensures) (c .misfits .ensures)
 
 pub misfit-spec : {M : Type 1} → statement M
 misfit-spec =
     tie.close
-    (tie.spec code-at-requires length-at-requires line-at-requires misfits-requires returns)
+    (tie.spec code-at-requires length-at-requires misfits-requires returns)

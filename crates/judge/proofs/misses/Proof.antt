@@ -1,40 +1,52 @@
--- `judge::misses`: what the lines from k on say, up to the end of the span, is what all say.
-use Prim.Native.Nat.{_-_}
+-- `judge::misses`: what the lines from k on say is what all say.
+use Prim.Native.Nat.{_+_, _-_, _≤_, _<_}
 use native.Mathlib.Omega.{arith}
-use mathlib.Core.Path.{_≡_, sym, ap, _∙_}
+use mathlib.Core.Path.{_≡_, refl, sym, ap, _∙_}
+use mathlib.Core.Bool.{Bool, _||_}
+use lib.ListN.{length, drop, length-map}
 use borrow.Author.Needs.{needs}
-use Rattle.rules.specs.Table.{lines}
-use Rattle.rules.proofs.Laws.{upTo}
-use Rattle.judge.specs.Judge.{misses}
-use Rattle.judge.proofs.Presence.{anyMissing, by-span, next, ended}
+use Rattle.rules.specs.Table.{lineFrom, linesFrom}
+use Rattle.judge.specs.Judge.{isMissing, misses}
+use Rattle.judge.proofs.Presence.{next, ended}
 use Rattle.judge.proofs.misses.Statement.{statement}
 use Rattle.judge.proofs.misses.Tie as tie
 
 abbrev Inv-loop : tie.InvT-loop
-Inv-loop kind body starts to k₀ k = anyMissing body starts (upTo k to) ≡ misses lines kind body starts
+Inv-loop lines body starts k₀ k = (k ≤ length lines) × (misses (drop k (linesFrom lines)) body starts ≡ misses (linesFrom lines) body starts)
 
 abbrev μ-loop : tie.MeasureT-loop
-μ-loop kind body starts to k₀ k = to - k
-
-span-of-requires : tie.Need-span-of-requires Inv-loop μ-loop
-span-of-requires c κs = search needs
+μ-loop lines body starts k₀ k = length lines - k
 
 loop-holds : tie.Need-loop-holds Inv-loop μ-loop
-loop-holds c =
-    let a = c .before .before .before .args in
-    ap (λ span. anyMissing (a .body .now) (a .starts .now) (upTo (span .from) (span .to))) (c .span-of .ensures)
-    ∙ by-span (a .body .now) (a .starts .now) (a .kind)
+loop-holds c = (omega arith, refl)
+
+line-in-requires : tie.Need-line-in-requires Inv-loop μ-loop
+line-in-requires c κs = search needs
 
 is-missing-requires : tie.Need-is-missing-requires Inv-loop μ-loop
 is-missing-requires c κs = search needs
 
+-- what a line and those behind it say
+module _ (c : tie.After-is-missing Inv-loop μ-loop) where
+  abbrev head : tie.At-loop Inv-loop μ-loop
+  head = c .before .before .before
+
+  abbrev start : tie.Start Inv-loop μ-loop
+  start = head .before .before .before
+
+  abbrev others : Bool
+  others = misses (drop (head .loop .k + 1) (linesFrom (start .args .lines .now))) (start .args .body .now) (start .args .starts .now)
+
+  says : {b : Bool} → c .is-missing .result ≡ b → (b || others) ≡ misses (linesFrom (start .args .lines .now)) (start .args .body .now) (start .args .starts .now)
+  says e =
+      let a = start .args in
+      let ls = linesFrom (a .lines .now) in
+      let line = sym e ∙ c .is-missing .ensures ∙ ap (λ l. isMissing l (a .body .now) (a .starts .now)) (c .before .line-in .ensures) in
+      let inside : head .loop .k < length ls = omega (arith, length-map (a .lines .now) lineFrom, c .before .before .loop-test .taken) in
+      ap (λ b. b || others) line ∙ sym (next (a .body .now) (a .starts .now) ls (head .loop .k) inside) ∙ head .loop .inv .1
+
 returns : tie.Need-returns Inv-loop μ-loop
-returns c =
-    let e = c .before in
-    let l = e .before .before in
-    let a = l .before .before .before .before .args in
-    rw (sym (e .is-missing .ensures) ∙ c .if1 .taken) at
-    (sym (next (a .body .now) (a .starts .now) (l .before .span-of .result .to) (l .loop .k) (omega arith)) ∙ l .loop .inv)
+returns c = says (c .before) (c .if1 .taken)
 
 add-k : tie.Need-add-k Inv-loop μ-loop
 add-k c = omega arith
@@ -43,18 +55,14 @@ loop-less : tie.Need-loop-less Inv-loop μ-loop
 loop-less c = omega arith
 
 loop-again : tie.Need-loop-again Inv-loop μ-loop
-loop-again c =
-    let e = c .before in
-    let l = e .before .before in
-    let a = l .before .before .before .before .args in
-    rw (sym (e .is-missing .ensures) ∙ c .if1 .left) at
-    (sym (next (a .body .now) (a .starts .now) (l .before .span-of .result .to) (l .loop .k) (omega arith)) ∙ l .loop .inv)
+loop-again c = (omega arith, says (c .before) (c .if1 .left))
 
 returns-2 : tie.Need-returns-2 Inv-loop μ-loop
 returns-2 c =
     let l = c .before in
-    let a = l .before .before .before .before .args in
-    sym (ended (a .body .now) (a .starts .now) (l .before .span-of .result .to) (l .loop .k) (omega arith)) ∙ l .loop .inv
+    let a = l .before .before .before .args in
+    sym (ended (a .body .now) (a .starts .now) (linesFrom (a .lines .now)) (l .loop .k) (omega (arith, length-map (a .lines .now) lineFrom, c .loop-test .left)))
+    ∙ l .loop .inv .1
 
 pub misses-spec : {M : Type 1} → statement M
 misses-spec =
@@ -62,8 +70,8 @@ misses-spec =
     (tie.spec
     Inv-loop
     μ-loop
-    span-of-requires
     loop-holds
+    line-in-requires
     is-missing-requires
     returns
     add-k

@@ -5,18 +5,16 @@ use mathlib.Core.Path.{refl, sym}
 use lib.ListN.{length}
 use lib.Seq.{length-take-le}
 use borrow.Author.Needs.{needs}
+use Rattle.rules.specs.Table.{linesFrom}
 use Rattle.judge.proofs.Typing.{Noted, as-long, all-noted, refused, passed}
 use Rattle.judge.proofs.typed.Statement.{statement}
 use Rattle.judge.proofs.typed.Tie as tie
 
 abbrev Inv-loop : tie.InvT-loop
-Inv-loop kind body starts numbers₀ span keys₀ i₀ numbers keys i = Noted kind body starts numbers₀ numbers keys i
+Inv-loop lines body starts numbers₀ keys₀ i₀ numbers keys i = Noted (linesFrom lines) body starts numbers₀ numbers keys i
 
 abbrev μ-loop : tie.MeasureT-loop
-μ-loop kind body starts numbers₀ span keys₀ i₀ numbers keys i = length starts - i
-
-span-of-requires : tie.Need-span-of-requires Inv-loop μ-loop
-span-of-requires c κs = search needs
+μ-loop lines body starts numbers₀ keys₀ i₀ numbers keys i = length starts - i
 
 loop-holds : tie.Need-loop-holds Inv-loop μ-loop
 loop-holds c = record { within = omega arith; sized = refl; keyed = refl; noted = refl; passes = refl }
@@ -55,28 +53,32 @@ is-before-requires c κs =
     let u = c .before .before .before in
     (u .u64-at .ensures, u .before .before .before .before .loop .inv .keyed)
 
+line-in-requires : tie.Need-line-in-requires Inv-loop μ-loop
+line-in-requires c κs = search needs
+
 misfit-requires : tie.Need-misfit-requires Inv-loop μ-loop
 misfit-requires c κs = search needs
 
 add-place : tie.Need-add-place Inv-loop μ-loop
 add-place c =
-    let l = c .before .before .before .before .before .before .before .before .before .before in
-    omega (arith, l .before .before .before .before .before .pre .2 (l .loop .i))
+    let l = c .before .before .before .before .before .before .before .before .before .before .before in
+    omega (arith, l .before .before .before .before .pre .2 (l .loop .i))
 
 same-length : tie.Need-same-length Inv-loop μ-loop
 same-length c =
-    as-long (c .before .before .before .before .before .before .before .before .before .before .loop .inv)
+    as-long (c .before .before .before .before .before .before .before .before .before .before .before .loop .inv)
 
 returns : tie.Need-returns Inv-loop μ-loop
 returns c =
     let m = c .before in
-    let f = m .before .before .before .before in
+    let i = m .before in
+    let f = i .before .before .before .before in
     let n = f .before .before in
     let l = n .before .before .before in (
-      refused (l .loop .inv) (omega arith) (n .name-at .ensures) (l .before .span-of .ensures) (f .find .ensures .0)
-          (m .before .is-before .ensures) (m .misfit .ensures) (c .if1 .taken),
+      refused (l .loop .inv) (omega arith) (n .name-at .ensures) (f .find .ensures) (i .line-in .ensures)
+          (i .before .is-before .ensures) (m .misfit .ensures) (c .if1 .taken),
       λ z. absurd (omega (arith, z)),
-      omega (arith, l .before .before .before .before .before .pre .2 (l .loop .i)),
+      omega (arith, l .before .before .before .before .pre .2 (l .loop .i)),
     )
 
 mul-keys : tie.Need-mul-keys Inv-loop μ-loop
@@ -90,7 +92,7 @@ mul-numbers c = omega arith
 
 slice-write-numbers : tie.Need-slice-write-numbers Inv-loop μ-loop
 slice-write-numbers c =
-    omega (arith, as-long (c .before .before .before .before .before .before .before .before .before .before .loop .inv))
+    omega (arith, as-long (c .before .before .before .before .before .before .before .before .before .before .before .loop .inv))
 
 add-i : tie.Need-add-i Inv-loop μ-loop
 add-i c = omega arith
@@ -101,12 +103,13 @@ loop-less c = omega arith
 loop-again : tie.Need-loop-again Inv-loop μ-loop
 loop-again c =
     let m = c .before in
-    let f = m .before .before .before .before in
+    let i = m .before in
+    let f = i .before .before .before .before in
     let n = f .before .before in
     let l = n .before .before .before in
-    passed (l .loop .inv) (omega arith) (n .name-at .ensures) (l .before .span-of .ensures) (f .find .ensures .0)
-    (m .before .is-before .ensures) (m .misfit .ensures)
-    (l .before .before .before .before .before .pre .0) (f .before .u64-at .ensures) (c .if1 .left)
+    passed (l .loop .inv) (omega arith) (n .name-at .ensures) (f .find .ensures) (i .line-in .ensures)
+    (i .before .is-before .ensures) (m .misfit .ensures)
+    (l .before .before .before .before .pre .0) (f .before .u64-at .ensures) (c .if1 .left)
 
 same-length-2 : tie.Need-same-length-2 Inv-loop μ-loop
 same-length-2 c = as-long (c .before .loop .inv)
@@ -122,7 +125,6 @@ typed-spec =
     (tie.spec
     Inv-loop
     μ-loop
-    span-of-requires
     loop-holds
     mul-at
     shared-slice-read-at
@@ -133,6 +135,7 @@ typed-spec =
     array-share-prefix-keys
     slice-aggregate-is-before-2
     is-before-requires
+    line-in-requires
     misfit-requires
     add-place
     same-length

@@ -6,6 +6,7 @@ use lib.ListN.{length, drop, getD}
 use borrow.Author.Needs.{needs}
 use mir.Syntax.{w64}
 use mir.Val.{Fits}
+use Rattle.rules.specs.Table.{linesFrom}
 use Rattle.judge.specs.declared.Fault.{Fault}
 use Rattle.judge.specs.declared.Verdict.{Verdict}
 use Rattle.judge.specs.declared.Judged.{Judged}
@@ -17,15 +18,15 @@ use Rattle.judge.proofs.valued.Statement.{statement}
 use Rattle.judge.proofs.valued.Tie as tie
 
 abbrev Inv-loop : tie.InvT-loop
-Inv-loop kind body starts numbers bones b faces₀ degenerate₀ links₀ i₀ faces degenerate links i =
+Inv-loop kind lines body starts numbers bones b faces₀ degenerate₀ links₀ i₀ faces degenerate links i =
     (i ≤ length starts)
     × (faces ≤ i * 4294967296)
     × (degenerate ≤ i * 4294967296)
     × (links ≤ i)
-    × (onTop faces degenerate links kind body b (drop i starts) ≡ valuedTo kind body (besideOf kind body starts bones) starts)
+    × (onTop faces degenerate links (linesFrom lines) body b (drop i starts) ≡ valuedTo (linesFrom lines) body (besideOf kind body starts bones) starts)
 
 abbrev μ-loop : tie.MeasureT-loop
-μ-loop kind body starts numbers bones b faces₀ degenerate₀ links₀ i₀ faces degenerate links i = length starts - i
+μ-loop kind lines body starts numbers bones b faces₀ degenerate₀ links₀ i₀ faces degenerate links i = length starts - i
 
 beside-of-requires : tie.Need-beside-of-requires Inv-loop μ-loop
 beside-of-requires c κs = search needs
@@ -37,8 +38,8 @@ loop-holds c =
       omega arith,
       omega arith,
       omega arith,
-      ap (λ b. onTop 0 0 0 (a .kind) (a .body .now) b (a .starts .now)) (c .beside-of .ensures)
-          ∙ on-none (a .kind) (a .body .now) (besideOf (a .kind) (a .body .now) (a .starts .now) (a .bones)) (a .starts .now),
+      ap (λ b. onTop 0 0 0 (linesFrom (a .lines .now)) (a .body .now) b (a .starts .now)) (c .beside-of .ensures)
+          ∙ on-none (linesFrom (a .lines .now)) (a .body .now) (besideOf (a .kind) (a .body .now) (a .starts .now) (a .bones)) (a .starts .now),
     )
 
 mul-at : tie.Need-mul-at Inv-loop μ-loop
@@ -47,17 +48,17 @@ mul-at c = search needs
 shared-slice-read-at : tie.Need-shared-slice-read-at Inv-loop μ-loop
 shared-slice-read-at c = search needs
 
-mul-line-at : tie.Need-mul-line-at Inv-loop μ-loop
-mul-line-at c = omega arith
+mul-line-in : tie.Need-mul-line-in Inv-loop μ-loop
+mul-line-in c = omega arith
 
-shared-slice-read-line-at : tie.Need-shared-slice-read-line-at Inv-loop μ-loop
-shared-slice-read-line-at c =
+shared-slice-read-line-in : tie.Need-shared-slice-read-line-in Inv-loop μ-loop
+shared-slice-read-line-in c =
     let l = c .before .before .before in
     let s = l .before .before .before .before .before in
-    omega (arith, as-many (s .args .kind) (s .args .body .now) (s .args .starts .now) (s .pre .1))
+    omega (arith, as-many (linesFrom (s .args .lines .now)) (s .args .body .now) (s .args .starts .now) (s .pre .1))
 
-line-at-requires : tie.Need-line-at-requires Inv-loop μ-loop
-line-at-requires c κs = search needs
+line-in-requires : tie.Need-line-in-requires Inv-loop μ-loop
+line-in-requires c κs = search needs
 
 kept-at-requires : tie.Need-kept-at-requires Inv-loop μ-loop
 kept-at-requires c κs = search needs
@@ -74,21 +75,21 @@ module _ (c : tie.After-kept-at Inv-loop μ-loop) where
   at = getD (start .args .starts .now) (head .loop .i) 0
 
   abbrev all : Judged
-  all = let a = start .args in valuedTo (a .kind) (a .body .now) (besideOf (a .kind) (a .body .now) (a .starts .now) (a .bones)) (a .starts .now)
+  all = let a = start .args in valuedTo (linesFrom (a .lines .now)) (a .body .now) (besideOf (a .kind) (a .body .now) (a .starts .now) (a .bones)) (a .starts .now)
 
   within : Fits w64 (24 + at)
   within = omega (arith, start .pre .2 (head .loop .i))
 
-  line : c .before .line-at .result ≡ ruleAt (start .args .kind) (start .args .body .now) at
+  line : c .before .line-in .result ≡ ruleAt (linesFrom (start .args .lines .now)) (start .args .body .now) at
   line =
       let a = start .args in
-      line-found (a .kind) (a .body .now) (a .starts .now) (start .pre .1) (head .loop .i) (omega arith) (c .before .line-at .ensures)
+      line-found (linesFrom (a .lines .now)) (a .body .now) (a .starts .now) (start .pre .1) (head .loop .i) (omega arith) (c .before .line-in .ensures)
 
   wrong : {q : Fault} → c .kept-at .result .fault ≡ q → ((v : Verdict) → byFault q at v ≡ refuse 15 (24 + at)) → refusedWith 15 (24 + at) ≡ all
   wrong r w =
       let a = start .args in
       let p = head .loop in
-      sym (stopped (a .kind) (a .body .now) (head .before .beside-of .result) (p .faces) (p .degenerate) (p .links) (a .starts .now) (p .i)
+      sym (stopped (linesFrom (a .lines .now)) (a .body .now) (head .before .beside-of .result) (p .faces) (p .degenerate) (p .links) (a .starts .now) (p .i)
       (omega arith) line (c .kept-at .ensures .0) r w)
       ∙ p .inv .4
 
@@ -136,7 +137,7 @@ add-links : tie.Need-add-links Inv-loop μ-loop
 add-links c =
     let m = c .before .before .before .before .before in
     let l = m .before .before .before .before .before in
-    let most : c .one-link .result ≤ 1 = omega (arith, c .one-link .ensures, one-most (m .before .line-at .result)) in
+    let most : c .one-link .result ≤ 1 = omega (arith, c .one-link .ensures, one-most (m .before .line-in .result)) in
     let sum : l .loop .links + c .one-link .result ≤ 65 = omega (arith, most) in
     omega (arith, sum)
 
@@ -155,14 +156,14 @@ loop-again c =
     let p = l .loop in
     let k = m .kept-at .result in
     let b = l .before .beside-of .result in
-    let one = one-most (m .before .line-at .result) in
+    let one = one-most (m .before .line-in .result) in
     let rest = drop (p .i + 1) (a .starts .now) in (
       omega arith,
       omega arith,
       omega arith,
       omega (arith, c .one-link .ensures, one),
-      ap (λ n. onTop (p .faces + k .faces) (p .degenerate + k .degenerate) (p .links + n) (a .kind) (a .body .now) b rest) (c .one-link .ensures)
-          ∙ sym (passed (a .kind) (a .body .now) b (p .faces) (p .degenerate) (p .links) (a .starts .now) (p .i) (omega arith)
+      ap (λ n. onTop (p .faces + k .faces) (p .degenerate + k .degenerate) (p .links + n) (linesFrom (a .lines .now)) (a .body .now) b rest) (c .one-link .ensures)
+          ∙ sym (passed (linesFrom (a .lines .now)) (a .body .now) b (p .faces) (p .degenerate) (p .links) (a .starts .now) (p .i) (omega arith)
           (line m) (m .kept-at .ensures .0) (t .enum-told .given .1))
           ∙ p .inv .4,
     )
@@ -173,7 +174,7 @@ returns-3 c =
     let a = l .before .before .before .before .before .args in
     let p = l .loop in
     let b = l .before .beside-of .result in (
-      sym (ended (a .kind) (a .body .now) b (p .faces) (p .degenerate) (p .links) (a .starts .now) (p .i) (c .loop-test .left))
+      sym (ended (linesFrom (a .lines .now)) (a .body .now) b (p .faces) (p .degenerate) (p .links) (a .starts .now) (p .i) (c .loop-test .left))
           ∙ p .inv .4,
       record { place = omega arith; faces = omega arith; degenerates = omega arith; links = omega arith },
     )
@@ -188,9 +189,9 @@ valued-spec =
     loop-holds
     mul-at
     shared-slice-read-at
-    mul-line-at
-    shared-slice-read-line-at
-    line-at-requires
+    mul-line-in
+    shared-slice-read-line-in
+    line-in-requires
     kept-at-requires
     enum-told
     add-faces

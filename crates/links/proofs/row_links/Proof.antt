@@ -1,11 +1,14 @@
--- `links::row_links`: the properties that the index tells of are those of the body.
+-- `links::row_links`: the properties that the index tells of are those of the body, and the lines are the kind's.
 use Prim.Native.Nat.{_+_, _^_, _≤_, _<_}
 use native.Mathlib.Omega.{arith}
-use mathlib.Core.Path.{sym, _∙_}
-use lib.ListN.{length}
+use mathlib.Core.Path.{_≡_, sym, _∙_}
+use lib.ListN.{length, take, replicate}
 use lib.Seq.{length-take-le}
 use borrow.Author.Tests.{not-true, not-false}
 use Rattle.body.proofs.Places.{starts-room}
+use Rattle.rules.specs.Table.{linesFrom}
+use Rattle.rules.specs.Rules.{linesOf}
+use Rattle.rules.proofs.Laws.{lines-room, lines-taken}
 use Rattle.links.proofs.Turns.{index-few, index-within, row-unknown, row-known, body-fits}
 use borrow.Author.Needs.{needs}
 use Rattle.links.proofs.row_links.Statement.{statement}
@@ -29,20 +32,50 @@ room c = starts-room _ _ (c .index-of .ensures .0) (c .index-of .ensures .1)
 cast-start : tie.Need-cast-start
 cast-start c = search needs
 
-array-share-prefix-starts : tie.Need-array-share-prefix-starts
-array-share-prefix-starts c = room (c .before .before)
+slice-aggregate-put-lines : tie.Need-slice-aggregate-put-lines
+slice-aggregate-put-lines c = search needs
+
+put-lines-requires : tie.Need-put-lines-requires
+put-lines-requires c κs = search needs
+
+-- the lines of the row's kind
+module _ (c : tie.After-put-lines) where
+  abbrev indexed : tie.After-index-of
+  indexed = c .before .before .before .before
+
+  abbrev bodied : tie.After-body-of
+  bodied = indexed .before
+
+  abbrev start : tie.Start
+  start = bodied .before .before .before .before .before .before .before .before
+
+  lines-fit : c .put-lines .result ≤ length (c .put-lines .last .1 .0)
+  lines-fit = let p = c .put-lines .ensures in lines-room (linesOf (start .args .row .kind)) (replicate 14 (replicate 12 0)) (p .2) (p .0) (p .1)
+
+  lines-are : linesFrom (take (c .put-lines .result) (c .put-lines .last .1 .0)) ≡ linesOf (start .args .row .kind)
+  lines-are = let p = c .put-lines .ensures in lines-taken (linesOf (start .args .row .kind)) (replicate 14 (replicate 12 0)) (p .2) (p .0) (p .1)
+
+array-share-prefix-lines : tie.Need-array-share-prefix-lines
+array-share-prefix-lines c = lines-fit (c .before)
 
 slice-aggregate-node-links : tie.Need-slice-aggregate-node-links
-slice-aggregate-node-links c = sym (length-take-le _ _ (room (c .before .before .before)))
+slice-aggregate-node-links c = sym (length-take-le _ _ (lines-fit (c .before .before)))
+
+array-share-prefix-starts : tie.Need-array-share-prefix-starts
+array-share-prefix-starts c = room (indexed (c .before .before))
+
+slice-aggregate-node-links-2 : tie.Need-slice-aggregate-node-links-2
+slice-aggregate-node-links-2 c = sym (length-take-le _ _ (room (indexed (c .before .before .before))))
 
 node-links-requires : tie.Need-node-links-requires
 node-links-requires c κs =
-    let i = c .before .before .before .index-of .ensures .0 in
-    let b = c .before .before .before .before in
-    let s = b .before .before .before .before .before .before .before .before in
+    let p = c .before .before .before in
+    let i = indexed p .index-of .ensures .0 in
+    let b = bodied p in
+    let s = start p in
     let size = body-fits (s .args .file .now) (s .args .row) (b .body-of .ensures) in
     let room : s .args .row .start + length (b .body-of .result .now) < 2 ^ 64
-    = omega (arith, s .good .0 .1, c .before .struct-known .given, size) in (
+    = omega (arith, s .good .0 .1, p .before .before .struct-known .given, size) in (
       s .pre .0,
       index-within _ _ i,
       room,
@@ -51,10 +84,11 @@ node-links-requires c κs =
 
 returns-2 : tie.Need-returns-2
 returns-2 c =
-    let i = c .before .before .before .before .index-of .ensures .0 in
-    let b = c .before .before .before .before .before in
+    let p = c .before .before .before .before in
+    let i = indexed p .index-of .ensures .0 in
+    let b = bodied p in
     let k = b .before .before .known .ensures in (
-      c .node-links .ensures .0 ∙ row-known _ _ _ _ (sym k ∙ not-false _ (b .before .if1 .left)) (b .body-of .ensures) i,
+      c .node-links .ensures .0 ∙ row-known _ _ _ _ (sym k ∙ not-false _ (b .before .if1 .left)) (b .body-of .ensures) i (lines-are p),
       omega (arith, c .node-links .ensures .1, index-few _ _ i),
     )
 
@@ -67,7 +101,11 @@ row-links-spec =
     body-of-requires
     index-of-requires
     cast-start
-    array-share-prefix-starts
+    slice-aggregate-put-lines
+    put-lines-requires
+    array-share-prefix-lines
     slice-aggregate-node-links
+    array-share-prefix-starts
+    slice-aggregate-node-links-2
     node-links-requires
     returns-2)

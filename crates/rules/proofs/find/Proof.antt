@@ -1,102 +1,83 @@
 -- `rules::find`: the place that the lines from i on give is what all give.
-use Prim.Native.Nat.{_-_, _<_}
+use Prim.Native.Nat.{_+_, _-_, _≤_, _<_}
 use native.Mathlib.Omega.{arith}
-use mathlib.Core.Path.{_≡_, refl, sym, _∙_, ap, subst}
-use mathlib.Core.Bool.{false, _&&_}
-use lib.Dec.{ltb}
+use native.Mathlib.Nat.{zero-add}
+use mathlib.Core.Path.{_≡_, sym, _∙_}
+use mathlib.Core.List.{[]}
+use lib.ListN.{length, drop, getD, length-map, List·getD-map}
 use borrow.Author.Needs.{needs}
-use borrow.Author.Tests.{le-ltb}
-use Rattle.le.specs.Le.{val, numberAt}
-use Rattle.rules.specs.Table.{letters, lines, lineAt, nameOf}
-use Rattle.rules.specs.Rules.{lists, place, findIn}
-use Rattle.rules.proofs.Laws.{upTo, inner, row-line, place-passed, place-hit, place-ended}
-use Rattle.rules.proofs.Names.{first-at}
+use Rattle.rules.specs.Table.{lineFrom, linesFrom}
+use Rattle.rules.specs.Rules.{findIn}
+use Rattle.rules.proofs.Laws.{find-passed, find-hit, find-ended}
 use Rattle.rules.proofs.find.Statement.{statement}
 use Rattle.rules.proofs.find.Tie as tie
 
 abbrev Inv-loop : tie.InvT-loop
-Inv-loop name to from four lines i₀ i = place i (upTo i to) name ≡ place i₀ (upTo i₀ to) name
+Inv-loop lines name four i₀ i = (i ≤ length lines) × (i + findIn (drop i (linesFrom lines)) name ≡ findIn (linesFrom lines) name)
 
 abbrev μ-loop : tie.MeasureT-loop
-μ-loop name to from four lines i₀ i = 81 - i
-
--- no lines
-returns : tie.Need-returns Inv-loop μ-loop
-unfolding findIn
-returns c =
-    let a = c .before .before .args in
-    let none : (ltb (a .span .from) (a .span .to) && ltb (a .span .from) 81) ≡ false = rw (le-ltb (a .span .from) (a .span .to) (c .if1 .taken)) in
-    (sym (place-ended (a .name .now) (a .span .to) (a .span .from) none), omega arith)
+μ-loop lines name four i₀ i = length lines - i
 
 u32-at-requires : tie.Need-u32-at-requires Inv-loop μ-loop
 u32-at-requires c κs = search needs
 
 loop-holds : tie.Need-loop-holds Inv-loop μ-loop
-loop-holds c = refl
-
--- in the loop a line is in the table
-below : (c : tie.In-loop Inv-loop μ-loop) → c .before .loop .i < 81
-below c = inner (c .before .before .before .before .before .args .span .to) (c .before .loop .i) (c .loop-test .taken) .1
+loop-holds c = (omega arith, zero-add _)
 
 mul-row : tie.Need-mul-row Inv-loop μ-loop
-mul-row c = omega (arith, below c)
+mul-row c = search needs
 
-array-copy-out-row : tie.Need-array-copy-out-row Inv-loop μ-loop
-array-copy-out-row c = omega (arith, below c)
+shared-slice-copy-out-row : tie.Need-shared-slice-copy-out-row Inv-loop μ-loop
+shared-slice-copy-out-row c = search needs
 
-line-of-requires : tie.Need-line-of-requires Inv-loop μ-loop
-line-of-requires c κs = search needs
-
--- the line that is read is that of the table
-is-line : (c : tie.After-line-of Inv-loop μ-loop) → c .line-of .result ≡ lineAt (c .before .before .before .loop .i)
-unfolding lines letters numberAt val
-is-line c = c .line-of .ensures ∙ row-line (c .before .before .before .loop .i) (below (c .before .before))
+line-from-requires : tie.Need-line-from-requires Inv-loop μ-loop
+line-from-requires c κs = search needs
 
 has-name-requires : tie.Need-has-name-requires Inv-loop μ-loop
-has-name-requires c κs = (
-  c .before .before .before .before .u32-at .ensures,
-  subst (λ l. l .first ≡ numberAt 4 (nameOf l) 0) (sym (is-line c)) (first-at (c .before .before .before .loop .i) (below (c .before .before))),
-)
+has-name-requires c κs = search needs
 
--- whether it has the name
-has : (c : tie.After-has-name Inv-loop μ-loop) →
-    c .has-name .result ≡ lists (lineAt (c .before .before .before .before .loop .i)) (c .before .before .before .before .before .before .before .before .args .name .now)
-has c = c .has-name .ensures ∙ ap (λ l. lists l (c .before .before .before .before .before .before .before .before .args .name .now)) (is-line (c .before))
+-- the line of a turn is one of those lent
+module _ (c : tie.After-has-name Inv-loop μ-loop) where
+  abbrev head : tie.At-loop Inv-loop μ-loop
+  head = c .before .before .before .before
 
-returns-2 : tie.Need-returns-2 Inv-loop μ-loop
-unfolding findIn
-returns-2 c =
+  abbrev start : tie.Start Inv-loop μ-loop
+  start = head .before .before .before
+
+  is-line : c .before .line-from .result ≡ getD (linesFrom (start .args .lines .now)) (head .loop .i) (lineFrom [])
+  is-line = c .before .line-from .ensures ∙ sym (List·getD-map lineFrom (start .args .lines .now) (head .loop .i) [])
+
+  inside : head .loop .i < length (linesFrom (start .args .lines .now))
+  inside = omega (arith, length-map (start .args .lines .now) lineFrom, c .before .before .before .loop-test .taken)
+
+returns : tie.Need-returns Inv-loop μ-loop
+returns c =
     let e = c .before in
-    let l = e .before .before .before .before in
-    let t = e .before .before .before .loop-test .taken in
-    let a = l .before .before .before .before .args in
-    let hit = place-hit (a .name .now) (a .span .to) (l .loop .i) t (sym (has e) ∙ c .if2 .taken) in
-    (sym hit ∙ l .loop .inv, omega (arith, inner (a .span .to) (l .loop .i) t))
+    let l = head e .loop in
+    sym (find-hit (linesFrom (start e .args .lines .now)) (start e .args .name .now) (l .i) (inside e) (is-line e) (sym (e .has-name .ensures) ∙ c .if1 .taken))
+    ∙ l .inv .1
 
 add-i : tie.Need-add-i Inv-loop μ-loop
-add-i c =
-    let l = c .before .before .before .before .before in
-    omega (arith, inner (l .before .before .before .before .args .span .to) (l .loop .i) (c .before .before .before .before .loop-test .taken))
+add-i c = omega arith
 
 loop-less : tie.Need-loop-less Inv-loop μ-loop
-loop-less c =
-    let l = c .before .before .before .before .before in
-    omega (arith, inner (l .before .before .before .before .args .span .to) (l .loop .i) (c .before .before .before .before .loop-test .taken))
+loop-less c = omega arith
 
 loop-again : tie.Need-loop-again Inv-loop μ-loop
 loop-again c =
     let e = c .before in
-    let l = e .before .before .before .before in
-    let t = e .before .before .before .loop-test .taken in
-    let a = l .before .before .before .before .args in
-    sym (place-passed (a .name .now) (a .span .to) (l .loop .i) t (sym (has e) ∙ c .if2 .left)) ∙ l .loop .inv
+    let l = head e .loop in (
+      omega arith,
+      sym (find-passed (linesFrom (start e .args .lines .now)) (start e .args .name .now) (l .i) (inside e) (is-line e) (sym (e .has-name .ensures) ∙ c .if1 .left))
+          ∙ l .inv .1,
+    )
 
-returns-3 : tie.Need-returns-3 Inv-loop μ-loop
-unfolding findIn
-returns-3 c =
+returns-2 : tie.Need-returns-2 Inv-loop μ-loop
+returns-2 c =
     let l = c .before in
-    let a = l .before .before .before .before .args in
-    (sym (place-ended (a .name .now) (a .span .to) (l .loop .i) (c .loop-test .left)) ∙ l .loop .inv, omega arith)
+    let a = l .before .before .before .args in
+    let all = linesFrom (a .lines .now) in
+    sym (find-ended all (a .name .now) (l .loop .i) (omega (arith, length-map (a .lines .now) lineFrom, c .loop-test .left))) ∙ l .loop .inv .1
 
 pub find-spec : {M : Type 1} → statement M
 find-spec =
@@ -104,15 +85,14 @@ find-spec =
     (tie.spec
     Inv-loop
     μ-loop
-    returns
     u32-at-requires
     loop-holds
     mul-row
-    array-copy-out-row
-    line-of-requires
+    shared-slice-copy-out-row
+    line-from-requires
     has-name-requires
-    returns-2
+    returns
     add-i
     loop-less
     loop-again
-    returns-3)
+    returns-2)

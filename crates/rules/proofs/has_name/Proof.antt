@@ -13,12 +13,15 @@ returns c =
     let a = c .before .before .before .before .args in
     c .is-numbered .ensures ∙ sym (lists-numbered (a .name .now) (a .l) (c .before .if1 .taken))
 
+four-of-requires : tie.Need-four-of-requires
+four-of-requires c κs = search needs
+
 returns-2 : tie.Need-returns-2
 returns-2 c =
-    let e = c .before .before in
+    let f = c .before in
+    let e = f .before in
     let s = e .before .before .before in
-    let a = s .args in
-    sym (lists-other (a .name .now) (a .l) (e .if1 .left) (s .pre .1) (s .pre .0) (c .if2 .taken))
+    sym (lists-other (s .args .name .now) (s .args .l) (e .if1 .left) (f .four-of .ensures) (s .pre) (c .if2 .taken))
 
 is-plain-requires : tie.Need-is-plain-requires
 is-plain-requires c κs = search needs
@@ -31,4 +34,4 @@ returns-3 c =
 
 pub has-name-spec : {M : Type 1} → statement M
 has-name-spec =
-    tie.close (tie.spec is-numbered-requires returns returns-2 is-plain-requires returns-3)
+    tie.close (tie.spec is-numbered-requires returns four-of-requires returns-2 is-plain-requires returns-3)

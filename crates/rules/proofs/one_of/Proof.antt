@@ -1,28 +1,42 @@
--- `rules::one_of`: what the strings from i on say is what all say.
+-- `rules::one_of`: what the strings from i on say is what all say. The table is the definition's strings, each as the row of its
+-- numbers.
 use Prim.Native.Nat.{_-_}
 use native.Mathlib.Omega.{arith}
 use mathlib.Core.Logic.{⊎-elim}
 use mathlib.Core.Path.{_≡_, refl, sym, _∙_}
-use lib.ListN.{drop}
+use mathlib.Core.List.{[], map}
+use lib.ListN.{drop, getD, List·getD-map}
 use borrow.Author.Needs.{needs}
-use Rattle.rules.specs.Table.{texts}
+use Rattle.le.specs.Le.{val, numberAt}
+use Rattle.rules.specs.Table.{letters, texts, textRow, textFrom}
 use Rattle.rules.specs.Rules.{inSet, isOneOf}
 use Rattle.rules.proofs.Laws.{set-passed, text-passed, text-hit, text-ended}
 use Rattle.rules.proofs.one_of.Statement.{statement}
 use Rattle.rules.proofs.one_of.Tie as tie
 
 abbrev Inv-loop : tie.InvT-loop
-Inv-loop set bytes i₀ i = inSet (drop i texts) set bytes ≡ isOneOf set bytes
+Inv-loop set bytes strings i₀ i = inSet (drop i texts) set bytes ≡ isOneOf set bytes
 
 abbrev μ-loop : tie.MeasureT-loop
-μ-loop set bytes i₀ i = 20 - i
+μ-loop set bytes strings i₀ i = 20 - i
 
 loop-holds : tie.Need-loop-holds Inv-loop μ-loop
 unfolding isOneOf
 loop-holds c = refl
 
-text-at-requires : tie.Need-text-at-requires Inv-loop μ-loop
-text-at-requires c κs = search needs
+mul-row : tie.Need-mul-row Inv-loop μ-loop
+mul-row c = search needs
+
+array-copy-out-row : tie.Need-array-copy-out-row Inv-loop μ-loop
+array-copy-out-row c = search needs
+
+text-from-requires : tie.Need-text-from-requires Inv-loop μ-loop
+text-from-requires c κs = search needs
+
+-- the string that is read is that of the table
+is-text : (c : tie.After-text-from Inv-loop μ-loop) → c .text-from .result ≡ getD texts (c .before .before .before .loop .i) (textFrom [])
+unfolding texts letters numberAt val
+is-text c = c .text-from .ensures ∙ sym (List·getD-map textFrom (map textRow texts) (c .before .before .before .loop .i) [])
 
 stands-requires : tie.Need-stands-requires Inv-loop μ-loop
 stands-requires c κs = search needs
@@ -31,10 +45,10 @@ returns : tie.Need-returns Inv-loop μ-loop
 returns c =
     let s = c .before in
     let t = s .before .before .before in
-    let l = t .before .before in
+    let l = t .before .before .before in
     let a = l .before .before .args in
     let stands = sym (s .stands .ensures) ∙ c .if2 .taken in
-    sym (text-hit (a .set) (a .bytes .now) (l .loop .i) (omega arith) (t .text-at .ensures) (s .before .if1 .taken) stands) ∙ l .loop .inv
+    sym (text-hit (a .set) (a .bytes .now) (l .loop .i) (omega arith) (is-text t) (s .before .if1 .taken) stands) ∙ l .loop .inv
 
 add-i : tie.Need-add-i Inv-loop μ-loop
 add-i c = omega arith
@@ -45,11 +59,11 @@ loop-less c = omega arith
 loop-again : tie.Need-loop-again Inv-loop μ-loop
 loop-again c =
     let t = c .before .before in
-    let l = t .before .before in
+    let l = t .before .before .before in
     let a = l .before .before .args in
     sym (⊎-elim
-    (λ x. text-passed (a .set) (a .bytes .now) (l .loop .i) (omega arith) (t .text-at .ensures) (sym (x .1 .ensures) ∙ x .2 .left))
-    (λ x. set-passed (a .set) (a .bytes .now) (l .loop .i) (omega arith) (t .text-at .ensures) (x .left))
+    (λ x. text-passed (a .set) (a .bytes .now) (l .loop .i) (omega arith) (is-text t) (sym (x .1 .ensures) ∙ x .2 .left))
+    (λ x. set-passed (a .set) (a .bytes .now) (l .loop .i) (omega arith) (is-text t) (x .left))
     (c .if1 .came)) ∙ l .loop .inv
 
 returns-2 : tie.Need-returns-2 Inv-loop μ-loop
@@ -65,7 +79,9 @@ one-of-spec =
     Inv-loop
     μ-loop
     loop-holds
-    text-at-requires
+    mul-row
+    array-copy-out-row
+    text-from-requires
     stands-requires
     returns
     add-i
