@@ -60,7 +60,7 @@ fn misfit(l: rules::Line, body: &[u8], at: usize) -> bool
 
 // The first property whose name came before, or which has another type or length than its line says. It notes where each
 // property's line stands among the lines of the kind.
-fn typed(lines: &[[u32; 12]], body: &[u8], starts: &[usize], numbers: &mut [usize]) -> Verdict
+fn typed(lines: &[rules::Columns], body: &[u8], starts: &[usize], numbers: &mut [usize]) -> Verdict
     requires { ⌜ (length (now starts) ≤ 64) × (length (now starts) ≤ length (now numbers)) × Within (now body) (now starts) ⌝ }
     ensures { λ r. ⌜ (r ≡ typed (linesFrom (now (lines .entry))) (now (body .entry)) [] (now (starts .entry))) × (r .number ≡ 0 → now (numbers .exit) ≡ sets (now (numbers .entry)) 0 (map (lineNumber (linesFrom (now (lines .entry))) (now (body .entry))) (now (starts .entry)))) × (r .at ≤ 24 + length (now (body .entry))) ⌝ }
 {
@@ -109,7 +109,7 @@ fn is_missing(l: rules::Line, body: &[u8], starts: &[usize]) -> bool
 }
 
 // Whether a required property is missing.
-fn misses(lines: &[[u32; 12]], body: &[u8], starts: &[usize]) -> bool
+fn misses(lines: &[rules::Columns], body: &[u8], starts: &[usize]) -> bool
     ensures { λ r. ⌜ r ≡ misses (linesFrom (now (lines .entry))) (now (body .entry)) (now (starts .entry)) ⌝ }
 {
     let mut k: usize = 0;
@@ -135,7 +135,7 @@ fn unpartnered(kind: u32, body: &[u8], starts: &[usize]) -> bool
     !((!wb & !wv) | (wb & wv & mi))
 }
 
-fn lacks(kind: u32, lines: &[[u32; 12]], body: &[u8], starts: &[usize]) -> bool
+fn lacks(kind: u32, lines: &[rules::Columns], body: &[u8], starts: &[usize]) -> bool
     ensures { λ r. ⌜ r ≡ lacks kind (linesFrom (now (lines .entry))) (now (body .entry)) (now (starts .entry)) ⌝ }
 {
     misses(lines, body, starts) | unpartnered(kind, body, starts)
@@ -154,17 +154,6 @@ pub struct Beside {
     bones: u32,
 }
 
-// The length of the property of a name; 0 where there is none.
-fn length_of(body: &[u8], starts: &[usize], name: &[u8]) -> u32
-    ensures { λ r. ⌜ r ≡ lengthOf (now (body .entry)) (now (starts .entry)) (now (name .entry)) ⌝ }
-{
-    let i = body::find(body, starts, name);
-    if i < starts.len() {
-        return props::length_at(body, starts[i]);
-    }
-    0
-}
-
 // The first value of the property at a place.
 fn value_at(body: &[u8], at: usize) -> u32
     ensures { λ r. ⌜ r ≡ valueAt (now (body .entry)) at ⌝ }
@@ -173,15 +162,27 @@ fn value_at(body: &[u8], at: usize) -> u32
     le::number_at(props::rest_at(body, at), 0, width)
 }
 
-// The first value of the property of a name; 0 where there is none.
-fn value_of(body: &[u8], starts: &[usize], name: &[u8]) -> u32
-    ensures { λ r. ⌜ r ≡ valueOf (now (body .entry)) (now (starts .entry)) (now (name .entry)) ⌝ }
+// The length and the first value of the property of a name; 0 where there is none.
+struct Content {
+    length: u32,
+    value: u32,
+}
+
+fn content_of(body: &[u8], starts: &[usize], name: &[u8]) -> Content
+    ensures { λ r. ⌜ (r .length ≡ lengthOf (now (body .entry)) (now (starts .entry)) (now (name .entry))) × (r .value ≡ valueOf (now (body .entry)) (now (starts .entry)) (now (name .entry))) ⌝ }
 {
     let i = body::find(body, starts, name);
     if i < starts.len() {
-        return value_at(body, starts[i]);
+        let at = starts[i];
+        return Content {
+            length: props::length_at(body, at),
+            value: value_at(body, at),
+        };
     }
-    0
+    Content {
+        length: 0,
+        value: 0,
+    }
 }
 
 // The types that kp wants of kv: v4 for rq, N for vb, else f.
@@ -211,12 +212,12 @@ fn beside_of(kind: u32, body: &[u8], starts: &[usize], bones: u32) -> Beside
     let mut keys: u32 = 0;
     let mut types: u32 = 0;
     if kind == MESH {
-        vertices = length_of(body, starts, b"vp");
-        weights = value_of(body, starts, b"mi") as u64 * vertices as u64;
+        vertices = content_of(body, starts, b"vp").length;
+        weights = content_of(body, starts, b"mi").value as u64 * vertices as u64;
     } else if kind == BLEND_SHAPE {
-        indices = length_of(body, starts, b"vi");
+        indices = content_of(body, starts, b"vi").length;
     } else if kind == CURVE {
-        keys = length_of(body, starts, b"kb");
+        keys = content_of(body, starts, b"kb").length;
         types = types_of(body, starts);
     }
     Beside {
@@ -367,7 +368,7 @@ fn one_link(l: rules::Line) -> u32
 // The first property that breaks what its line holds it to, or what they count.
 fn valued(
     kind: u32,
-    lines: &[[u32; 12]],
+    lines: &[rules::Columns],
     body: &[u8],
     starts: &[usize],
     numbers: &[usize],
@@ -411,7 +412,13 @@ fn valued(
 }
 
 // 13, then 14, then 15 of the properties that start at some places of the body.
-fn judge_at(kind: u32, lines: &[[u32; 12]], body: &[u8], starts: &[usize], bones: u32) -> Judged
+fn judge_at(
+    kind: u32,
+    lines: &[rules::Columns],
+    body: &[u8],
+    starts: &[usize],
+    bones: u32,
+) -> Judged
     requires { ⌜ (length (now starts) ≤ 64) × Within (now body) (now starts) ⌝ }
     ensures { λ r. ⌜ (r ≡ judgedAt kind (linesFrom (now (lines .entry))) (now (body .entry)) (now (starts .entry)) bones) × Bounded r (length (now (body .entry))) ⌝ }
 {

@@ -23,6 +23,17 @@ getD-inside [] i d e h = absurd (omega arith)
 getD-inside (x ∷ l) zero d e h = refl
 getD-inside (x ∷ l) (suc i) d e h = getD-inside l i d e (omega arith)
 
+-- a test of all of a list, and of one
+unfoldable pub all : {A : Type 0} → (A → Bool) → List A → Bool
+all test [] = true
+all test (x ∷ l) = test x && all test l
+
+pub all-at : {A : Type 0} (test : A → Bool) (l : List A) (i : ℕ) (d : A) → all test l ≡ true → i < length l → test (getD l i d) ≡ true
+unfolding all
+all-at test [] i d e h = absurd (omega arith)
+all-at test (x ∷ l) zero d e h = and-eq-true-iff (test x) (all test l) .0 e .0
+all-at test (x ∷ l) (suc i) d e h = all-at test l i d (and-eq-true-iff (test x) (all test l) .0 e .1) (omega arith)
+
 -- ---- some lines
 
 module _ (ls : List Line) (name : List ℕ) (i : ℕ) where
@@ -57,10 +68,6 @@ found [] name = refl
 found (l ∷ ls) name = by-test (lists l name) (λ t. rw t) (λ t. rw t (found ls name))
 
 -- for callers: what a test says of all lines, it says of the line of a kind and name, but for a free name
-unfoldable pub all : (Line → Bool) → List Line → Bool
-all test [] = true
-all test (l ∷ ls) = test l && all test ls
-
 module _ (test : Line → Bool) (kind : ℕ) (name : List ℕ) where
   ruled-in : (ls : List Line) → all test ls ≡ true → let l = ruleIn (ofKind ls kind) name in (l ≡ free) ⊎ ((test l ≡ true) × (l .kind ≡ kind))
   unfolding all ofKind ruleIn

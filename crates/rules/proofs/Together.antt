@@ -70,17 +70,22 @@ module _ (kind : ℕ) where
       (λ t. rw t (stand ls (tail-together l ls e)))
 
 -- ---- the lines of a kind are those of its span, and are put into rows
-module _ (kind : ℕ) {span : Span} (e : span ≡ spanOf kind) (h : (span .from ≤ span .to) × (span .to ≤ span .from + 14) × (span .to ≤ 81)) where
+
+-- lines of a kind stand there, in the table and at most 14
+abbrev pub Spanned : ℕ → Span → Type 0
+Spanned kind s = (s ≡ spanOf kind) × (s .from ≤ s .to) × (s .to ≤ s .from + 14) × (s .to ≤ 81)
+
+module _ (kind : ℕ) {span : Span} (s : Spanned kind span) where
   of-span : linesOf kind ≡ take (span .to - span .from) (drop (span .from) lines)
   unfolding spanOf linesOf
   of-span =
       let at = before lines kind in
       let count = run (drop at lines) kind in
       let taken : at + count - at ≡ count = omega arith in
-      rw e (rw taken (stand kind lines all-together))
+      rw (s .0) (rw taken (stand kind lines all-together))
 
   counted : length (linesOf kind) ≡ span .to - span .from
-  counted = rw of-span (length-take-le (span .to - span .from) (drop (span .from) lines) (omega (arith, h, length-drop (span .from) lines, many)))
+  counted = rw of-span (length-take-le (span .to - span .from) (drop (span .from) lines) (omega (arith, s .3, length-drop (span .from) lines, many)))
 
   module _ (rows : List (List ℕ)) where
     -- so many were put, and this is in the rows then
@@ -91,7 +96,7 @@ module _ (kind : ℕ) {span : Span} (e : span ≡ spanOf kind) (h : (span .from 
         × (length (linesOf kind) ≤ 14)
 
     few : length (linesOf kind) ≤ 14
-    few = omega (arith, h, counted)
+    few = omega (arith, s .2, counted)
 
     pub put-none : span .to ≤ span .from → Put 0 rows
     put-none n =

@@ -7,17 +7,17 @@ use borrow.Author.Needs.{needs}
 use Rattle.judge.proofs.beside_of.Statement.{statement}
 use Rattle.judge.proofs.beside_of.Tie as tie
 
-slice-aggregate-length-of : tie.Need-slice-aggregate-length-of
-slice-aggregate-length-of c = search needs
+slice-aggregate-content-of : tie.Need-slice-aggregate-content-of
+slice-aggregate-content-of c = search needs
 
-length-of-requires : tie.Need-length-of-requires
-length-of-requires c κs = search needs
+content-of-requires : tie.Need-content-of-requires
+content-of-requires c κs = search needs
 
-slice-aggregate-value-of : tie.Need-slice-aggregate-value-of
-slice-aggregate-value-of c = search needs
+slice-aggregate-content-of-2 : tie.Need-slice-aggregate-content-of-2
+slice-aggregate-content-of-2 c = search needs
 
-value-of-requires : tie.Need-value-of-requires
-value-of-requires c κs = search needs
+content-of-requires-2 : tie.Need-content-of-requires-2
+content-of-requires-2 c κs = search needs
 
 cast-weights : tie.Need-cast-weights
 cast-weights c = search needs
@@ -28,17 +28,17 @@ cast-weights-2 c = search needs
 mul-weights : tie.Need-mul-weights
 mul-weights c = product-fits (search needs) (search needs)
 
-slice-aggregate-length-of-2 : tie.Need-slice-aggregate-length-of-2
-slice-aggregate-length-of-2 c = search needs
+slice-aggregate-content-of-3 : tie.Need-slice-aggregate-content-of-3
+slice-aggregate-content-of-3 c = search needs
 
-length-of-requires-2 : tie.Need-length-of-requires-2
-length-of-requires-2 c κs = search needs
+content-of-requires-3 : tie.Need-content-of-requires-3
+content-of-requires-3 c κs = search needs
 
-slice-aggregate-length-of-3 : tie.Need-slice-aggregate-length-of-3
-slice-aggregate-length-of-3 c = search needs
+slice-aggregate-content-of-4 : tie.Need-slice-aggregate-content-of-4
+slice-aggregate-content-of-4 c = search needs
 
-length-of-requires-3 : tie.Need-length-of-requires-3
-length-of-requires-3 c κs = search needs
+content-of-requires-4 : tie.Need-content-of-requires-4
+content-of-requires-4 c κs = search needs
 
 types-of-requires : tie.Need-types-of-requires
 types-of-requires c κs = search needs
@@ -46,22 +46,22 @@ types-of-requires c κs = search needs
 returns : tie.Need-returns
 unfolding besideOf letters
 returns c =
-    let v = c .before .before in
-    let k = v .before .before in
-    rw (k .if1 .taken, v .length-of .ensures, c .value-of .ensures)
+    let m = c .before in
+    let v = m .before .before in
+    rw (v .before .before .if1 .taken, v .content-of .ensures .0, m .content-of2 .ensures .1)
 
 returns-2 : tie.Need-returns-2
 unfolding besideOf letters
 returns-2 c =
     let k = c .before .before in
-    rw (k .if2 .taken, c .length-of2 .ensures)
+    rw (k .if2 .taken, c .content-of3 .ensures .0)
 
 returns-3 : tie.Need-returns-3
 unfolding besideOf letters
 returns-3 c =
     let l = c .before in
     let k = l .before .before in
-    rw (k .if3 .taken, l .length-of3 .ensures, c .types-of .ensures)
+    rw (k .if3 .taken, l .content-of4 .ensures .0, c .types-of .ensures)
 
 returns-4 : tie.Need-returns-4
 unfolding besideOf
@@ -72,17 +72,17 @@ pub beside-of-spec : {M : Type 1} → statement M
 beside-of-spec =
     tie.close
     (tie.spec
-    slice-aggregate-length-of
-    length-of-requires
-    slice-aggregate-value-of
-    value-of-requires
+    slice-aggregate-content-of
+    content-of-requires
+    slice-aggregate-content-of-2
+    content-of-requires-2
     cast-weights
     cast-weights-2
     mul-weights
-    slice-aggregate-length-of-2
-    length-of-requires-2
-    slice-aggregate-length-of-3
-    length-of-requires-3
+    slice-aggregate-content-of-3
+    content-of-requires-3
+    slice-aggregate-content-of-4
+    content-of-requires-4
     types-of-requires
     returns
     returns-2

@@ -1,10 +1,8 @@
 -- `judge::types_of`: the string at the place that the search gives, or none.
-use mathlib.Core.Path.{_≡_, sym, ap, _∙_}
-use mathlib.Core.Bool.{false}
-use Rattle.rules.specs.Table.{letters, float}
-use Rattle.rules.specs.Rules.{isText}
-use Rattle.judge.specs.Properties.{restAt, keyTypes, typesOf}
-use Rattle.judge.proofs.Named.{there, nowhere, rotation, visibility, other}
+use mathlib.Core.Path.{_≡_, sym, ap}
+use borrow.Author.Tests.{lt-ltb, le-ltb}
+use Rattle.rules.specs.Table.{letters}
+use Rattle.judge.specs.Properties.{keyTypes, typesOf}
 use borrow.Author.Needs.{needs}
 use Rattle.judge.proofs.types_of.Statement.{statement}
 use Rattle.judge.proofs.types_of.Tie as tie
@@ -17,10 +15,7 @@ find-requires c κs = search needs
 
 returns : tie.Need-returns
 unfolding typesOf letters
-returns c =
-    let f = c .before in
-    let a = f .before .before .before .before .args in
-    nowhere (λ at. keyTypes (restAt (a .body .now) at)) float (a .body .now) (a .starts .now) (letters "kp") (f .find .ensures .0) (c .if1 .taken)
+returns c = rw (← c .before .find .ensures .0, le-ltb _ _ (c .if1 .taken))
 
 mul-rest-at : tie.Need-mul-rest-at
 mul-rest-at c = search needs
@@ -38,28 +33,19 @@ is-text-requires : tie.Need-is-text-requires
 is-text-requires c κs = search needs
 
 -- what the string at that place wants is what is sought
-module _ (c : tie.After-rest-at) where
-  abbrev start : tie.Start
-  start = c .before .before .before .before .before .before .before
-
-  wanted : keyTypes (c .rest-at .result .now) ≡ typesOf (start .args .body .now) (start .args .starts .now)
-  unfolding typesOf letters
-  wanted =
-      let f = c .before .before .before in
-      let a = start .args in
-      ap keyTypes (c .rest-at .ensures)
-      ∙ there (λ at. keyTypes (restAt (a .body .now) at)) float (a .body .now) (a .starts .now) (letters "kp") (f .find .ensures .0)
-      (c .before .before .if1 .left)
-
-not-rotation : (c : tie.Else2) → isText (c .before .before .before .rest-at .result .now) (letters "rq") ≡ false
-unfolding letters
-not-rotation c = sym (c .before .is-text .ensures) ∙ c .if2 .left
+wanted : (c : tie.After-rest-at) →
+    let a = c .before .before .before .before .before .before .before .args in
+    typesOf (a .body .now) (a .starts .now) ≡ keyTypes (c .rest-at .result .now)
+unfolding typesOf letters
+wanted c =
+    let t = c .before .before in
+    rw (← t .before .find .ensures .0, lt-ltb _ _ (t .if1 .left)) (ap keyTypes (sym (c .rest-at .ensures)))
 
 returns-2 : tie.Need-returns-2
 unfolding letters
 returns-2 c =
     let t = c .before in
-    rotation (t .before .before .rest-at .result .now) (sym (t .is-text .ensures) ∙ c .if2 .taken) ∙ wanted (t .before .before)
+    rw (wanted (t .before .before), ← t .is-text .ensures, c .if2 .taken)
 
 slice-aggregate-is-text-2 : tie.Need-slice-aggregate-is-text-2
 slice-aggregate-is-text-2 c = search needs
@@ -71,17 +57,15 @@ returns-3 : tie.Need-returns-3
 unfolding letters
 returns-3 c =
     let t = c .before in
-    let s = t .before .before .before in
-    visibility (s .before .before .rest-at .result .now) (not-rotation (t .before .before)) (sym (t .is-text2 .ensures) ∙ c .if3 .taken)
-    ∙ wanted (s .before .before)
+    let s = t .before .before in
+    rw (wanted (s .before .before .before), ← s .before .is-text .ensures, s .if2 .left, ← t .is-text2 .ensures, c .if3 .taken)
 
 returns-4 : tie.Need-returns-4
 unfolding letters
 returns-4 c =
     let t = c .before in
-    let s = t .before .before .before in
-    other (s .before .before .rest-at .result .now) (not-rotation (t .before .before)) (sym (t .is-text2 .ensures) ∙ c .if3 .left)
-    ∙ wanted (s .before .before)
+    let s = t .before .before in
+    rw (wanted (s .before .before .before), ← s .before .is-text .ensures, s .if2 .left, ← t .is-text2 .ensures, c .if3 .left)
 
 pub types-of-spec : {M : Type 1} → statement M
 types-of-spec =

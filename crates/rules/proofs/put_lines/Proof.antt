@@ -23,13 +23,13 @@ span-of-requires : tie.Need-span-of-requires Inv-loop μ-loop
 span-of-requires c κs = search needs
 
 returns : tie.Need-returns Inv-loop μ-loop
-returns c = let s = c .before .span-of .ensures in put-none _ (s .0) (s .1, s .2, s .3) _ (c .if1 .taken)
+returns c = put-none _ (c .before .span-of .ensures) _ (c .if1 .taken)
 
 sub-count : tie.Need-sub-count Inv-loop μ-loop
 sub-count c = omega arith
 
 returns-2 : tie.Need-returns-2 Inv-loop μ-loop
-returns-2 c = let s = c .before .before .span-of .ensures in put-short _ (s .0) (s .1, s .2, s .3) _ (c .if2 .taken)
+returns-2 c = put-short _ (c .before .before .span-of .ensures) _ (c .if2 .taken)
 
 loop-holds : tie.Need-loop-holds Inv-loop μ-loop
 loop-holds c = (omega arith, refl)
@@ -89,9 +89,11 @@ same-length c = length-put (c .before)
 returns-3 : tie.Need-returns-3 Inv-loop μ-loop
 returns-3 c =
     let l = c .before in
-    let s = l .before .before .before .span-of .ensures in
-    let done : l .loop .i ≡ l .before .before .before .span-of .result .to - l .before .before .before .span-of .result .from = omega (arith, l .loop .inv .0, c .loop-test .left) in
-    put-all _ (s .0) (s .1, s .2, s .3) _ (omega (arith, l .before .if2 .left)) (l .loop .inv .1 ∙ ap (λ n. sets (l .before .before .before .before .args .rows .now) 0 (map rowOf (take n (drop (l .before .before .before .span-of .result .from) lines)))) done)
+    let s = l .before .before .before in
+    let from = s .span-of .result .from in
+    let done : l .loop .i ≡ s .span-of .result .to - from = omega (arith, l .loop .inv .0, c .loop-test .left) in
+    put-all _ (s .span-of .ensures) _ (omega (arith, l .before .if2 .left))
+    (l .loop .inv .1 ∙ ap (λ n. sets (s .before .args .rows .now) 0 (map rowOf (take n (drop from lines)))) done)
 
 pub put-lines-spec : {M : Type 1} → statement M
 put-lines-spec =
