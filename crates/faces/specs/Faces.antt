@@ -11,7 +11,7 @@ use Rattle.faces.specs.declared.Values.{Values}
 use Rattle.faces.specs.declared.Values.the-variants.{Below, Past}
 use Rattle.faces.specs.declared.Scanned.{Scanned}
 
--- the width of a value: b 1, h 2, i 4; any other type is read as i
+-- the width of a value, the size of b, h, i; any other type is read as i
 unfoldable pub widthOf : ℕ → ℕ
 widthOf code = cond (eqb code 0x62) 1 (cond (eqb code 0x68) 2 4)
 

@@ -1,4 +1,4 @@
--- What private functions promise to those that call them.
+-- What functions promise to those that call them, beside what the rules give.
 use Prim.Native.Nat.{ℕ, _+_, _*_, _^_, _≤_}
 use mathlib.Core.Bool.{Bool, false, _||_}
 use mathlib.Core.List.{List, [], _∷_}
@@ -21,11 +21,11 @@ use Rattle.judge.specs.Judge.{faultOf, heldFaces, valued, nodeFaces, nod
 abbrev pub Within : (s starts : List ℕ) → Type 0
 Within s starts = (i : ℕ) → getD starts i 0 ≤ length s
 
--- where the line of the property at a place stands among some
+-- where the line of the property at a place stands among some lines
 abbrev pub lineNumber : List Line → (s : List ℕ) (at : ℕ) → ℕ
 lineNumber ls s at = findIn ls (nameAt s at)
 
--- the first eight letters of its name
+-- the first eight letters of its name, as one number
 abbrev pub keyAt : (s : List ℕ) (at : ℕ) → ℕ
 keyAt s at = numberAt 8 (nameAt s at) 0
 

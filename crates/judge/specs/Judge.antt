@@ -40,7 +40,7 @@ repeats s before at = has s before (nameAt s at)
 abbrev pub isMistyped : List Line → (s before : List ℕ) (at : ℕ) → Bool
 isMistyped ls s before at = repeats s before at || misfits (ruleAt ls s at) (codeAt s at) (lengthAt s at)
 
--- behind some properties, the first of the others of which 13 holds
+-- the first property of which 13 holds, of those behind the ones at `before`
 unfoldable pub typed : List Line → (s before starts : List ℕ) → Verdict
 typed ls s before [] = right
 typed ls s before (at ∷ more) =
@@ -95,7 +95,7 @@ parentOk (negsuc zero) bones = true
 parentOk (negsuc (suc n)) bones = false
 
 -- "f has a length divisible by 3 (three values a face) and each value below V". A length fault comes before an element fault,
--- and of elements the first bad one is told; both lie at the property, so neither can be seen yet.
+-- and of elements the first bad one is told; both lie at the property, so no answer shows which it is.
 abbrev pub byValues : Values → Fault
 byValues Below = Right
 byValues (Past k) = Element k

@@ -14,7 +14,7 @@ use Rattle.rules.specs.Table.{letters, float, v4, N}
 use Rattle.rules.specs.Rules.{ruleIn, isText}
 use Rattle.judge.specs.declared.Beside.{Beside}
 
--- the line of the property at a place, among some
+-- the line of the property at a place, among some lines
 abbrev pub ruleAt : List Line → (s : List ℕ) (at : ℕ) → Line
 ruleAt ls s at = ruleIn ls (nameAt s at)
 

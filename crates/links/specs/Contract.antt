@@ -1,4 +1,4 @@
--- What private functions promise to those that call them: links by how often the hashes of each kind have a hash.
+-- What private functions promise to those that call them: links by how often a hash is among those of each kind.
 use Prim.Native.Nat.{ℕ, zero, suc, _+_, min}
 use mathlib.Core.Bool.{cond}
 use mathlib.Core.List.{List, [], _∷_}

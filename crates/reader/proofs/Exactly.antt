@@ -3,7 +3,7 @@ use Prim.Native.Nat.{ℕ, zero, suc, _+_, _≤_}
 use native.Mathlib.Omega.{arith}
 use mathlib.Core.Path.{_≡_, refl, ap, sym, _∙_, subst}
 use mathlib.Core.Logic.{_↔_, inr}
-use mathlib.Core.Bool.{true}
+use mathlib.Core.Bool.{Bool, true, false, false≢true}
 use mathlib.Core.List.{List, [], _++_, append-nil}
 use lib.Dec.{ltb}
 use lib.ListN.{length}
@@ -195,6 +195,14 @@ exactly s t bytes room = (
 )
 
 -- ---- what is answered
+abbrev accepts : Reading → Bool
+accepts (Accepted a) = true
+accepts (Refused n p) = false
+
+has-room : (s t : List ℕ) {a : Account} → readingOf s t ≡ Accepted a → hasRoom t ≡ true
+unfolding readingOf
+has-room s t r = by-test (hasRoom t) (λ h. h) (λ h. absurd (false≢true (ap accepts (rw h at r))))
+
 abbrev account-of : Reading → Account → Account
 account-of (Accepted a) d = a
 account-of (Refused n p) d = d
@@ -224,7 +232,8 @@ valid-answer s flags f v e a r =
 
 pub answersTheRules : AnswersTheRules
 unfolding tableAfter
-answersTheRules s t flags f a v e room r =
+answersTheRules s t flags f a v e r =
+    let room = has-room s t r in
     let is = valid-verdict s flags f v e in
     let r′ = sym (in-room s t room) ∙ r in
     (ap (λ x. account-of x a .flags) (sym r′ ∙ is) ∙ valid-flags s flags f v e, valid-answer s flags f v e a r′, rw (room, is, valid-rows s flags f v e))

@@ -62,9 +62,9 @@ pub record AnswerOf (s : List ℕ) (rows : List Row) (a : Account) : Type 0 wher
   pub sum : 16 + (a .known .0 + a .unknown .0) ≡ length s
 
 -- "its rows, links, faces and charges are those the rules give", for every way to see the file: any flags and valid
--- nodes that encode to it, and any table with room
+-- nodes that encode to it, and any table
 abbrev pub AnswersTheRules : Type 0
-AnswersTheRules = (s t : List ℕ) (flags : ℕ) (f : Forest) (a : Account) → Valid flags f → s ≡ fileOf flags f → hasRoom t ≡ true → readingOf s t ≡ Accepted a
+AnswersTheRules = (s t : List ℕ) (flags : ℕ) (f : Forest) (a : Account) → Valid flags f → s ≡ fileOf flags f → readingOf s t ≡ Accepted a
     → (a .flags ≡ flags) × AnswerOf s (rowsOf f) a × (tableAfter s t ≡ filled (rowsOf f) t)
 
 -- and there is but one way to see it

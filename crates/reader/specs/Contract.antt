@@ -1,4 +1,4 @@
--- What private functions ask of a table, and promise of it.
+-- What functions ask of a table, and promise of it and of an account.
 use Prim.Native.Nat.{ℕ, _≤_, _<_, _^_}
 use mathlib.Core.Path.{_≡_}
 use mathlib.Core.List.{List}

@@ -10,7 +10,7 @@ use Rattle.table.specs.declared.Row.{Row}
 use Rattle.table.specs.Table.{hasRoom, cleared, filled}
 use Rattle.format.specs.Rows.{bodyOf, ownBytes}
 use Rattle.judge.specs.declared.Judged.{Judged}
-use Rattle.judge.specs.Judge.{judged}
+use Rattle.judge.specs.Judge.{refusedWith, judged}
 use Rattle.links.specs.declared.Linked.{Linked}
 use Rattle.links.specs.Links.{linked}
 use Rattle.walk.specs.Walk.{limited, flagsOf}
@@ -28,7 +28,7 @@ bonesUnder (r ∷ rs) parent = cond (eqb (r .kind) bone && eqb (r .parent) paren
 
 -- an unknown node has no rules
 abbrev pub unjudged : Judged
-unjudged = record { number = 0; at = 0; faces = record { 0 = 0 }; degenerate = 0; links = 0 }
+unjudged = refusedWith 0 0
 
 -- a row judged by its node's body and the number of Bones beside it; and among all rows of a file
 unfoldable pub judgedWith : (s : List ℕ) → Row → (bones : ℕ) → Judged
@@ -37,8 +37,8 @@ judgedWith s r bones = cond (isKnown (r .kind)) (judged (r .kind) (r .properties
 abbrev pub judgedRow : (s : List ℕ) (all : List Row) → Row → Judged
 judgedRow s all r = judgedWith s r (bonesUnder all (r .parent))
 
--- what some rows give: a refusal's number, 0 for none, and its place; and what was counted before it. (The links are counted
--- here only so that a file without any is done; the answer's number is that of the list of links.)
+-- what some rows give: a refusal's number, 0 for none, and its place; and what was counted before it. (The code resolves
+-- no links where this count is 0; the answer's links are those of `linked`.)
 abbrev pub counted : Judged → Ruled → Ruled
 counted j next = record {
   number = next .number;

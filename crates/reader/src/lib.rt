@@ -1,9 +1,8 @@
 // The reader: refusals 1 to 17 in order, the rows in the lent table, and the charges.
 ghost use mathlib.Core.Path.{_≡_};
 ghost use Prim.Native.Nat.{ℕ, _≤_, _<_};
-ghost use mathlib.Core.Bool.{true};
 ghost use lib.ListN.{length, getD};
-ghost use Rattle.table.specs.Table.{hasRoom, cleared, rowsAt};
+ghost use Rattle.table.specs.Table.{cleared, rowsAt};
 ghost use Rattle.judge.specs.Contract.{Bounded};
 ghost use Rattle.format.specs.Rows.{bodyOf};
 ghost use Rattle.links.specs.Links.{linksOf, linked};

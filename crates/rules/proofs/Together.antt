@@ -12,7 +12,8 @@ use Rattle.le.proofs.Tests.{by-test}
 use Rattle.rules.specs.declared.Line.{Line}
 use Rattle.rules.specs.declared.Span.{Span}
 use Rattle.rules.specs.Table.{lines, free, rowOf}
-use Rattle.rules.specs.Rules.{ofKind, linesOf, before, run, spanOf, fitting}
+use Rattle.rules.specs.Rules.{ofKind, linesOf, fitting}
+use Rattle.rules.specs.Contract.{before, run, spanOf}
 use Rattle.rules.proofs.Laws.{getD-inside}
 
 pub many : length lines ≡ 81

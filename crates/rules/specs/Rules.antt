@@ -1,15 +1,14 @@
 -- The line of a kind and name, what it says of a type and a length, and the strings of a set.
-use Prim.Native.Nat.{ℕ, suc, _+_}
+use Prim.Native.Nat.{ℕ, suc}
 use mathlib.Core.Bool.{Bool, true, false, cond, not, _&&_, _||_}
 use mathlib.Core.List.{List, [], _∷_}
 use lib.Dec.{eqb, leb}
-use lib.ListN.{length, take, drop, getD}
+use lib.ListN.{length, take, getD}
 use Rattle.names.specs.Names.{same}
 use Rattle.names.specs.Names.{numbered as numberIn}
 use Rattle.names.specs.declared.Numeral.{Numeral}
 use Rattle.names.specs.declared.Numeral.the-variants.{Is, Not}
 use Rattle.rules.specs.declared.Line.{Line}
-use Rattle.rules.specs.declared.Span.{Span}
 use Rattle.rules.specs.declared.Text.{Text}
 use Rattle.rules.specs.Table.{byte, short, int, float, v4, N, keyType, anyType, numbered, single, lines, free, nameOf, texts, stringOf}
 
@@ -36,7 +35,7 @@ isNumber Not = false
 unfoldable pub lists : Line → List ℕ → Bool
 lists l name = cond (eqb (l .numbered) numbered) (isNumber (numberIn name (nameOf l))) (same name (nameOf l))
 
--- ---- the first of some lines that has a name
+-- ---- the first of some lines that has a name; `free` where none has
 unfoldable pub ruleIn : List Line → (name : List ℕ) → Line
 ruleIn [] name = free
 ruleIn (l ∷ ls) name = cond (lists l name) l (ruleIn ls name)
@@ -57,21 +56,6 @@ linesOf kind = ofKind lines kind
 -- the line of a kind and name
 abbrev pub ruleOf : (kind : ℕ) (name : List ℕ) → Line
 ruleOf kind name = ruleIn (linesOf kind) name
-
--- ---- the same by places: a kind's lines stand together
-
--- how many lines come before the first of a kind
-unfoldable pub before : List Line → ℕ → ℕ
-before [] kind = 0
-before (l ∷ ls) kind = cond (eqb (l .kind) kind) 0 (suc (before ls kind))
-
--- how many lines of a kind come first
-unfoldable pub run : List Line → ℕ → ℕ
-run [] kind = 0
-run (l ∷ ls) kind = cond (eqb (l .kind) kind) (suc (run ls kind)) 0
-
-unfoldable pub spanOf : ℕ → Span
-spanOf kind = record { from = before lines kind; to = before lines kind + run (drop (before lines kind) lines) kind }
 
 -- some lines where all have room; else none
 abbrev pub fitting : List Line → (room : ℕ) → List Line

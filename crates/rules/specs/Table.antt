@@ -323,10 +323,7 @@ texts =
     text axes "z" ∷
     []
 
--- a string as the row of its numbers, and back
-abbrev pub textRow : Text → List ℕ
-textRow t = t .set ∷ t .size ∷ t .first ∷ t .second ∷ t .third ∷ []
-
+-- a string from the row of its numbers
 abbrev pub textFrom : List ℕ → Text
 textFrom r = record { set = getD r 0 0; size = getD r 1 0; first = getD r 2 0; second = getD r 3 0; third = getD r 4 0 }
 

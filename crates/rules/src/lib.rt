@@ -8,7 +8,8 @@ ghost use Rattle.le.specs.Le.{numberAt};
 ghost use Rattle.names.specs.Names.{same};
 ghost use Rattle.names.specs.Names.{numbered as numberIn};
 ghost use Rattle.rules.specs.Table.{lineFrom, linesFrom, rowOf, free, lettersOf, nameOf, textFrom, stringOf};
-ghost use Rattle.rules.specs.Rules.{takes, misfits, isNumber, lists, findIn, spanOf, linesOf, fitting, isText, isOneOf};
+ghost use Rattle.rules.specs.Rules.{takes, misfits, isNumber, lists, findIn, linesOf, fitting, isText, isOneOf};
+ghost use Rattle.rules.specs.Contract.{spanOf};
 
 mod lines;
 
@@ -204,8 +205,8 @@ fn span_of(kind: u32) -> Span
     Span { from: 81, to: 81 }
 }
 
-// Puts the lines of a kind into some rows, where all have room, and answers how many were put. Nothing else reads the table,
-// which is written out where it is read: a node's lines are taken from it once, and lent to what goes by them.
+// Puts the lines of a kind into some rows, where all have room, and answers how many were put. Nothing else reads the table:
+// each read copies it to the stack, so a node's lines are taken out once a stage and lent.
 pub fn put_lines(kind: u32, rows: &mut [Columns]) -> usize
     ensures { λ r. ⌜ (r ≡ length (fitting (linesOf kind) (length (now (rows .entry))))) × (now (rows .exit) ≡ sets (now (rows .entry)) 0 (map rowOf (fitting (linesOf kind) (length (now (rows .entry)))))) × (length (linesOf kind) ≤ 14) ⌝ }
 {

@@ -20,7 +20,7 @@ abbrev pub Some : {A : Type 0} → (A → Type 0) → List A → Type 0
 Some P [] = ⊥
 Some P (x ∷ xs) = P x ⊎ Some P xs
 
--- ---- what is asked of the properties of a node: its kind, its properties, and the Bones beside it
+-- ---- what is asked of a node's properties together
 
 -- a property has the name
 abbrev pub Has : (name : List ℕ) → List Property → Type 0
@@ -45,7 +45,7 @@ Partnered ps = Has (letters "wb") ps ⊎ Has (letters "wv") ps → Has (letters 
 
 -- ---- what a property is held to
 
--- the value at a place of its elements, "read unsigned"
+-- the value of its element k, "read unsigned"
 abbrev pub value : Property → ℕ → ℕ
 value p k = numberAt (widthOf (p .code)) (p .content) (k * widthOf (p .code))
 

@@ -56,7 +56,7 @@ NodeLinked file beside kind count body = (good : GoodBody count body) → Each (
 pub record Valid (flags : ℕ) (f : Forest) : Type 0 where
   -- the layout
   pub wellFormed : WellFormedFile flags f
-  -- each kind stands where it may, and there are at most 1,024 nodes
+  -- each kind stands where it may, so that none lies deeper than 5; and there are at most 1,024 nodes
   pub placed : Placed None f
   pub few : Few f
   -- not "file over 16,777,216 bytes"

@@ -3,7 +3,7 @@
 use Prim.Native.Nat.{ℕ}
 use mathlib.Core.Path.{_≡_, refl}
 use mathlib.Core.List.{List, [], _∷_, _++_, map}
-use lib.ListN.{length, take, replicate}
+use lib.ListN.{length, take, drop, replicate}
 use Rattle.le.specs.Le.{val, numberAt, le}
 use Rattle.names.specs.Names.{bytesOk, same, decimal, number, numbered}
 use Rattle.kinds.specs.Kinds.{root, model, mesh, lineIn, lineOf, isKnown, standsAtTop, standsUnder, mayStand}
@@ -100,10 +100,10 @@ table =
     (cast 1 (head root 25 0 0 ++ (0 ∷ [])), refused 12 40) ∷
     (cast 1 (head root 23 0 0), refused 5 16) ∷
     (cast 1 (head mesh 24 0 0), refused 6 16) ∷
-    (0x63 ∷ 0x61 ∷ 0x73 ∷ 0x74 ∷ 2 ∷ replicate 11 0, refused 4 4) ∷
+    (take 4 bare ++ (2 ∷ drop 5 bare), refused 4 4) ∷
     -- E10: a root with one unknown child
     (
-      cast 1 (head root 51 0 1 ++ (head 0x6E676177 27 0 0 ++ (1 ∷ 2 ∷ 3 ∷ []))),
+      cast 1 (head root 51 0 1 ++ (head 0x6E676177 27 0 0 ++ (0x61 ∷ 0x62 ∷ 0x63 ∷ []))),
       accepted 24 27 0 0 0 (row root noParent 40 40 0 1 ∷ row 0x6E676177 0 64 67 0 0 ∷ []),
     ) ∷
     -- E11: one face; and one that is degenerate. E12: a value that is no vertex

@@ -1,18 +1,22 @@
 -- `rules::one_of`: what the strings from i on say is what all say. The table is the definition's strings, each as the row of its
 -- numbers.
-use Prim.Native.Nat.{_-_}
+use Prim.Native.Nat.{ℕ, _-_}
 use native.Mathlib.Omega.{arith}
 use mathlib.Core.Logic.{⊎-elim}
 use mathlib.Core.Path.{_≡_, refl, sym, _∙_}
-use mathlib.Core.List.{[], map}
+use mathlib.Core.List.{List, [], _∷_, map}
 use lib.ListN.{drop, getD, List·getD-map}
 use borrow.Author.Needs.{needs}
 use Rattle.le.specs.Le.{val, numberAt}
-use Rattle.rules.specs.Table.{letters, texts, textRow, textFrom}
+use Rattle.rules.specs.declared.Text.{Text}
+use Rattle.rules.specs.Table.{letters, texts, textFrom}
 use Rattle.rules.specs.Rules.{inSet, isOneOf}
 use Rattle.rules.proofs.Laws.{set-passed, text-passed, text-hit, text-ended}
 use Rattle.rules.proofs.one_of.Statement.{statement}
 use Rattle.rules.proofs.one_of.Tie as tie
+
+abbrev textRow : Text → List ℕ
+textRow t = t .set ∷ t .size ∷ t .first ∷ t .second ∷ t .third ∷ []
 
 abbrev Inv-loop : tie.InvT-loop
 Inv-loop set bytes strings i₀ i = inSet (drop i texts) set bytes ≡ isOneOf set bytes
