@@ -29,11 +29,11 @@ rest t n i = rowsAt t i (n - i)
 pub rest-all : (t : List ℕ) (n : ℕ) → rest t n 0 ≡ rowsAt t 0 n
 rest-all t n = rw (sub-zero n)
 
-rest-more : (t : List ℕ) (n i : ℕ) → i < n → rest t n i ≡ rowAt t i ∷ rest t n (i + 1)
+pub rest-more : (t : List ℕ) (n i : ℕ) → i < n → rest t n i ≡ rowAt t i ∷ rest t n (i + 1)
 unfolding rowsAt
 rest-more t n i h = let one : n - i ≡ suc (n - (i + 1)) = omega arith in rw (one, add-one i)
 
-rest-none : (t : List ℕ) (n i : ℕ) → n ≤ i → rest t n i ≡ []
+pub rest-none : (t : List ℕ) (n i : ℕ) → n ≤ i → rest t n i ≡ []
 unfolding rowsAt
 rest-none t n i h = let none : n - i ≡ 0 = omega arith in rw none
 

@@ -4,6 +4,7 @@ mod buffers;
 mod files;
 mod frame;
 mod leaves;
+mod listings;
 mod parts;
 mod print;
 mod reads;
@@ -69,5 +70,9 @@ fn dispatch(f: Frame, first: &[u8], second: &[u8]) {
     }
     if f.function < 32 {
         files::one(f, first);
+        return;
+    }
+    if f.function < 34 {
+        listings::one(f, first, second);
     }
 }

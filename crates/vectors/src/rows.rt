@@ -58,7 +58,7 @@ fn query(bytes: &[u8], second: &[u8], n: usize, row: usize) {
     lookup(&mut space[..n], bytes, row, &second[..end], &second[end..]);
 }
 
-fn parsed(fields: &[u8]) -> table::Row {
+pub fn parsed(fields: &[u8]) -> table::Row {
     table::Row {
         kind: le::u32_at(fields, 0),
         low: le::u32_at(fields, 4),

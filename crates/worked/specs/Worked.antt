@@ -1,11 +1,13 @@
--- Document 01, "Small files, worked": E1 to E12 in one table, each with the whole answer and the rows, computed from the
--- definitions. "Hashes and flags are 0."
+-- Document 01, "Small files, worked": E1 to E12 in one table, each with the whole answer, the rows and the listing, computed
+-- from the definitions. "Hashes and flags are 0."
 use Prim.Native.Nat.{ℕ}
 use mathlib.Core.Path.{_≡_, refl}
-use mathlib.Core.List.{List, [], _∷_, _++_, map}
+use Prim.Native.String.{String}
+use mathlib.Core.List.{List, [], _∷_, _++_, map, flatMap}
 use lib.ListN.{length, take, drop, replicate}
 use Rattle.le.specs.Le.{val, numberAt, le}
 use Rattle.names.specs.Names.{bytesOk, same, decimal, number, numbered}
+use Rattle.text.specs.Text.{glyph, digits, sizeIn}
 use Rattle.kinds.specs.Kinds.{root, model, mesh, lineIn, lineOf, isKnown, standsAtTop, standsUnder, mayStand}
 use Rattle.kinds.specs.Kinds.{lines as kindLines}
 use Rattle.table.specs.declared.Row.{Row}
@@ -23,19 +25,21 @@ use Rattle.walk.specs.Walk.{headerAt, nodeRefusal, andThen, children, knownNode
 use Rattle.reader.specs.declared.Reading.{Reading}
 use Rattle.reader.specs.declared.Reading.the-variants.{Accepted, Refused}
 use Rattle.reader.specs.Reading.{Numbers, numbersOf, bonesUnder, judgedWith, ruled, ownKnown, ownUnknown, checked, verdict}
+use Rattle.listing.specs.Listing.{parentText, wordsOf, textOf, nodeLines, fileLines, printed, listingOf}
 
--- a reading's numbers, and its rows where the file is accepted
+-- a reading's numbers, its rows where the file is accepted, and what is printed
 pub record Answer : Type 0 where
   pub numbers : Numbers
   pub rows : List Row
+  pub text : List ℕ
 
 abbrev pub rowsBy : Reading → List Row → List Row
 rowsBy (Accepted a) rows = rows
 rowsBy (Refused n place) rows = []
 
 unfoldable pub read : List ℕ → Answer
-unfolding val numberAt bytesOk same decimal number numbered kindLines lineIn lineOf isKnown standsAtTop standsUnder mayStand headerRefusal dataRefusal toZero dataOf nameAt stepAt pass properties firstNamed widthOf facesIn below degenerate letters lines unpacked texts lists ruleIn ofKind linesOf isText inSet isOneOf le lengthOf valueOf typesOf besideOf typed misses lacks faultOf valued nodeFaces nodeLinks verdictAt judgedAt judged reached linksAt linksFrom resolved linked headerAt nodeRefusal andThen children knownNode nodeBy node nodeAt childrenAt walkOf limited bonesUnder judgedWith ruled ownKnown ownUnknown checked verdict
-read s = record { numbers = numbersOf (verdict s); rows = rowsBy (verdict s) (limited s .rows) }
+unfolding val numberAt bytesOk same decimal number numbered kindLines lineIn lineOf isKnown standsAtTop standsUnder mayStand headerRefusal dataRefusal toZero dataOf nameAt stepAt pass properties firstNamed widthOf facesIn below degenerate letters lines unpacked texts lists ruleIn ofKind linesOf isText inSet isOneOf le lengthOf valueOf typesOf besideOf typed misses lacks faultOf valued nodeFaces nodeLinks verdictAt judgedAt judged reached linksAt linksFrom resolved linked headerAt nodeRefusal andThen children knownNode nodeBy node nodeAt childrenAt walkOf limited bonesUnder judgedWith ruled ownKnown ownUnknown checked verdict glyph digits sizeIn parentText wordsOf textOf nodeLines fileLines flatMap printed listingOf
+read s = record { numbers = numbersOf (verdict s); rows = rowsBy (verdict s) (limited s .rows); text = listingOf s }
 
 -- a file of so many roots, and a node's header alone
 unfoldable pub cast : ℕ → List ℕ → List ℕ
@@ -59,14 +63,20 @@ abbrev pub row : (kind parent start end properties children : ℕ) → Row
 row kind parent start stop properties children =
     record { kind = kind; low = 0; high = 0; parent = parent; start = start; end = stop; properties = properties; children = children }
 
-abbrev pub refused : (number place : ℕ) → Answer
-refused n place = record {
+-- lines, each with the byte 10 behind it
+abbrev pub lined : List String → List ℕ
+lined [] = []
+lined (l ∷ ls) = letters l ++ ((10 ∷ []) ++ lined ls)
+
+abbrev pub refused : (number place : ℕ) → String → Answer
+refused n place line = record {
   numbers = record { number = n; place = place; nodes = 0; flags = 0; ownKnown = 0; ownUnknown = 0; faces = 0; degenerate = 0; links = 0 };
   rows = [];
+  text = lined (line ∷ []);
 }
 
-abbrev pub accepted : (ownKnown ownUnknown faces degenerate links : ℕ) → List Row → Answer
-accepted known unknown faces degenerate links rows = record {
+abbrev pub accepted : (ownKnown ownUnknown faces degenerate links : ℕ) → List Row → List String → Answer
+accepted known unknown faces degenerate links rows lines = record {
   numbers = record {
     number = 0;
     place = 0;
@@ -79,7 +89,29 @@ accepted known unknown faces degenerate links rows = record {
     links = links;
   };
   rows = rows;
+  text = lined lines;
 }
+
+-- "Listing of E10, whole"
+abbrev pub tenLines : List String
+tenLines =
+    "cast 1 flags 0 nodes 2 bytes 67" ∷
+    "row 0 kind 746F6F72 parent - own 24" ∷
+    "row 1 kind 6E676177 parent 0 own 27" ∷
+    "header 16" ∷
+    "faces 0 degenerate 0" ∷
+    "total 67" ∷ []
+
+-- of E11, with the line of its face
+abbrev pub meshLines : String → List String
+meshLines faces =
+    "cast 1 flags 0 nodes 3 bytes 146" ∷
+    "row 0 kind 746F6F72 parent - own 24" ∷
+    "row 1 kind 6C646F6D parent 0 own 24" ∷
+    "row 2 kind 6873656D parent 1 own 82" ∷
+    "header 16" ∷
+    faces ∷
+    "total 146" ∷ []
 
 abbrev pub meshRows : List Row
 meshRows = row root noParent 40 40 0 1 ∷ row model 0 64 64 0 1 ∷ row mesh 1 88 146 2 0 ∷ []
@@ -91,26 +123,40 @@ Line = List ℕ × Answer
 abbrev pub table : List Line
 table =
     -- E1: no roots. E2: no bytes
-    (cast 0 [], accepted 0 0 0 0 0 []) ∷
-    ([], refused 3 0) ∷
+    (cast 0 [], accepted 0 0 0 0 0 [] ("cast 1 flags 0 nodes 0 bytes 16" ∷ "header 16" ∷ "faces 0 degenerate 0" ∷ "total 16" ∷ [])) ∷
+    ([], refused 3 0 "refused 3 at 0") ∷
     -- E3: one bare root. E4: cut to 39. E5: one more byte. E6: root size 25. E7: 23. E8: Mesh at the top. E9: version 2
-    (bare, accepted 24 0 0 0 0 (row root noParent 40 40 0 0 ∷ [])) ∷
-    (take 39 bare, refused 5 16) ∷
-    (bare ++ (0 ∷ []), refused 12 40) ∷
-    (cast 1 (head root 25 0 0 ++ (0 ∷ [])), refused 12 40) ∷
-    (cast 1 (head root 23 0 0), refused 5 16) ∷
-    (cast 1 (head mesh 24 0 0), refused 6 16) ∷
-    (take 4 bare ++ (2 ∷ drop 5 bare), refused 4 4) ∷
+    (
+      bare,
+      accepted 24 0 0 0 0 (row root noParent 40 40 0 0 ∷ [])
+          ("cast 1 flags 0 nodes 1 bytes 40" ∷ "row 0 kind 746F6F72 parent - own 24" ∷ "header 16" ∷ "faces 0 degenerate 0" ∷ "total 40" ∷ []),
+    ) ∷
+    (take 39 bare, refused 5 16 "refused 5 at 16") ∷
+    (bare ++ (0 ∷ []), refused 12 40 "refused 12 at 40") ∷
+    (cast 1 (head root 25 0 0 ++ (0 ∷ [])), refused 12 40 "refused 12 at 40") ∷
+    (cast 1 (head root 23 0 0), refused 5 16 "refused 5 at 16") ∷
+    (cast 1 (head mesh 24 0 0), refused 6 16 "refused 6 at 16") ∷
+    (take 4 bare ++ (2 ∷ drop 5 bare), refused 4 4 "refused 4 at 4") ∷
     -- E10: a root with one unknown child
     (
       cast 1 (head root 51 0 1 ++ (head 0x6E676177 27 0 0 ++ (0x61 ∷ 0x62 ∷ 0x63 ∷ []))),
-      accepted 24 27 0 0 0 (row root noParent 40 40 0 1 ∷ row 0x6E676177 0 64 67 0 0 ∷ []),
+      accepted 24 27 0 0 0 (row root noParent 40 40 0 1 ∷ row 0x6E676177 0 64 67 0 0 ∷ []) tenLines,
     ) ∷
     -- E11: one face; and one that is degenerate. E12: a value that is no vertex
-    (meshed (0 ∷ 1 ∷ 2 ∷ []), accepted 130 0 1 0 0 meshRows) ∷
-    (meshed (0 ∷ 1 ∷ 1 ∷ []), accepted 130 0 1 1 0 meshRows) ∷
-    (meshed (0 ∷ 1 ∷ 3 ∷ []), refused 15 134) ∷ []
+    (
+      meshed (0 ∷ 1 ∷ 2 ∷ []),
+      accepted 130 0 1 0 0 meshRows (meshLines "faces 1 degenerate 0"),
+    ) ∷ (
+      meshed (0 ∷ 1 ∷ 1 ∷ []),
+      accepted 130 0 1 1 0 meshRows (meshLines "faces 1 degenerate 1"),
+    ) ∷
+    (meshed (0 ∷ 1 ∷ 3 ∷ []), refused 15 134 "refused 15 at 134") ∷ []
 
 pub worked : map (λ l. read (l .0)) table ≡ map (λ l. l .1) table
 unfolding read cast head
 worked = refl
+
+-- "input over 32,768 bytes prints `too long`"
+pub long : (read (replicate 32769 0) .text ≡ lined ("too long" ∷ [])) × (read (replicate 32768 0) .text ≡ lined ("refused 3 at 0" ∷ []))
+unfolding read
+long = (refl, refl)

@@ -1,1 +1,1 @@
-// Document 01's small files, worked: specs/Worked.antt has their answers and rows as one proved table.
+// Document 01's small files, worked: specs/Worked.antt has their answers, rows and listings as one proved table.

@@ -3,25 +3,12 @@
 use std::hint::black_box;
 use std::time::{Duration, Instant};
 
-use corpus::format::{B, MESH, MODEL, ROOT, V3};
-use corpus::tree::{File, Node, Property};
-use corpus::{large, Rng};
+use corpus::{large, worked, Rng};
 
 /// Rounds of which the medians are taken; the readers take turns in each.
 const ROUNDS: usize = 31;
 /// A round reads the file as often as takes about so long.
 const ROUND: Duration = Duration::from_millis(4);
-
-/// E11: one face of three vertices.
-fn tiny(_: &mut Rng) -> File {
-    let properties = vec![
-        Property::array(V3, "vp", vec![0; 36]),
-        Property::array(B, "f", vec![0, 1, 2]),
-    ];
-    let mesh = Node::with(MESH, properties, Vec::new());
-    let model = Node::with(MODEL, Vec::new(), vec![mesh]);
-    File::new(0, vec![Node::with(ROOT, Vec::new(), vec![model])])
-}
 
 /// Answers the number and some of the sums, in which both readers must agree.
 type Reader = fn(&[u8], &mut [u32]) -> (u32, [u32; 4]);
@@ -110,7 +97,7 @@ fn main() {
         ("16 MiB of f in i", large::many_wide_faces),
         ("1,024 nodes without properties", large::most_bare_nodes),
         ("1,021 bones", large::most_bones),
-        ("tiny: one face (E11)", tiny),
+        ("tiny: one face (E11)", |_| worked::e11()),
     ];
     for (title, make) in files {
         measure(title, &make(&mut Rng::new(60)).bytes());

@@ -3,10 +3,8 @@
 use std::collections::BTreeMap;
 
 use cast::{read, Reading, TABLE_NUMBERS};
-use corpus::format::{B, MESH, MODEL, ROOT, V3};
-use corpus::tree::{File, Node, Property};
 use corpus::valid::{file, mixed, Profile};
-use corpus::{large, mutate, Rng};
+use corpus::{large, mutate, worked, Rng};
 
 const FILES: usize = 200_000;
 /// Every answer that a short file may lead to comes at least this often.
@@ -127,13 +125,7 @@ fn long() {
 /// Each byte of a small file with each value, and each cut of it, read into what the reading before left.
 #[test]
 fn changed() {
-    let properties = vec![
-        Property::array(V3, "vp", vec![0; 36]),
-        Property::array(B, "f", vec![0, 1, 2]),
-    ];
-    let mesh = Node::with(MESH, properties, Vec::new());
-    let model = Node::with(MODEL, Vec::new(), vec![mesh]);
-    let whole = File::new(0, vec![Node::with(ROOT, Vec::new(), vec![model])]).bytes();
+    let whole = worked::e11().bytes();
     let mut rng = Rng::new(53);
     let mut tables = Tables::new(&mut rng, TABLE_NUMBERS);
     let mut census = Census::new();

@@ -38,6 +38,8 @@ pub const KINDS: [(u32, &str); 16] = [
 ];
 
 pub const MAX_FILE: usize = 16_777_216;
+/// The longest input of the listing program.
+pub const MAX_INPUT: usize = 32_768;
 pub const MAX_NODES: usize = 1_024;
 pub const MAX_PROPERTIES: usize = 64;
 pub const MAX_NAME: usize = 32;

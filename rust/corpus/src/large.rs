@@ -248,6 +248,24 @@ pub fn most_unknown_nodes(rng: &mut Rng) -> File {
     File::new(0, vec![Node::with(ROOT, Vec::new(), children)])
 }
 
+/// Exactly this long, from 160 bytes to some 40,000, with a node in every few bytes: roots, each with an unknown child.
+pub fn many_notes(rng: &mut Rng, length: usize) -> File {
+    let mut roots = Vec::new();
+    let mut left = length - 16;
+    while left > 0 {
+        // What is left has room for another pair.
+        let size = match left {
+            0..200 => left,
+            _ => rng.range(60, 100),
+        };
+        let mut note = Node::new(unknown::kind(rng));
+        note.rest = rng.bytes(size - 2 * 24);
+        roots.push(Node::with(ROOT, Vec::new(), vec![note]));
+        left -= size;
+    }
+    File::new(rng.next_u32(), roots)
+}
+
 /// Exactly 16,777,216 bytes.
 pub fn largest_file(rng: &mut Rng) -> File {
     let mut note = Node::new(unknown::kind(rng));

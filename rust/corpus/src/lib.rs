@@ -1,6 +1,8 @@
 //! Seeded generators of Cast files and of the inputs built on them.
 //!
 //! * [`valid`] makes files that every rule accepts, [`large`] makes big ones.
+//! * [`worked`] has the worked files of the rules, [`samples`] the files of
+//!   `samples/`.
 //! * [`mutate`] damages a valid file and, where one fault decides, says which
 //!   refusal must follow.
 //! * [`plans`], [`trims`] and [`lookups`] make inputs of the writer, the
@@ -37,8 +39,10 @@ pub mod mutate;
 pub mod plans;
 pub mod rng;
 pub mod rows;
+pub mod samples;
 pub mod tree;
 pub mod trims;
 pub mod valid;
+pub mod worked;
 
 pub use rng::Rng;

@@ -3,10 +3,10 @@
 mod common;
 
 use common::{accepted, accepted_as, read};
-use corpus::format::{B, MAX_FILE, MAX_NODES, MESH, MODEL, ROOT, V3};
+use corpus::format::{B, MAX_FILE, MAX_NODES, ROOT};
 use corpus::rng::Rng;
-use corpus::tree::{File, Node, Property};
 use corpus::valid::{file, Profile};
+use corpus::worked::{self, mesh, triangle};
 use corpus::{large, mutate};
 
 fn all_accepted(seed: u64, count: usize, profile: &Profile) -> usize {
@@ -86,31 +86,17 @@ fn answer(bytes: &[u8]) -> (u32, u32, u32) {
 
 #[test]
 fn worked_examples() {
-    let bare = File::new(0, vec![Node::new(ROOT)]);
-    assert_eq!(answer(&File::default().bytes()), (0, 0, 0), "E1");
+    assert_eq!(answer(&worked::e1().bytes()), (0, 0, 0), "E1");
     assert_eq!(answer(&[]), (3, 0, 0), "E2");
-    let (bytes, rows) = accepted_as(&bare);
+    let (bare, rows) = accepted_as(&worked::e3());
     assert_eq!(rows, [ROOT, 0, 0, u32::MAX, 40, 40, 0, 0], "E3");
-    assert_eq!(answer(&bytes[..39]), (5, 16, 0), "E4");
-    let mut longer = bare.clone();
-    longer.rest = vec![0];
-    assert_eq!(answer(&longer.bytes()), (12, 40, 0), "E5");
-    let mut wider = bare.clone();
-    wider.roots[0].rest = vec![0];
-    assert_eq!(answer(&wider.bytes()), (12, 40, 0), "E6");
-    let mut narrow = bare.clone();
-    narrow.roots[0].claimed.size = Some(23);
-    assert_eq!(answer(&narrow.bytes()), (5, 16, 0), "E7");
-    let mesh = File::new(0, vec![Node::new(MESH)]);
-    assert_eq!(answer(&mesh.bytes()), (6, 16, 0), "E8");
-    let mut version = bare.clone();
-    version.version = 2;
-    assert_eq!(answer(&version.bytes()), (4, 4, 0), "E9");
-    let mut noted = bare.clone();
-    let mut note = Node::new(u32::from_le_bytes(*b"\x77\x61\x67\x6E"));
-    note.rest = vec![1, 2, 3];
-    noted.roots[0].children.push(note);
-    let (bytes, _) = accepted_as(&noted);
+    assert_eq!(answer(&worked::e4()), (5, 16, 0), "E4");
+    assert_eq!(answer(&worked::e5().bytes()), (12, 40, 0), "E5");
+    assert_eq!(answer(&worked::e6().bytes()), (12, 40, 0), "E6");
+    assert_eq!(answer(&worked::e7().bytes()), (5, 16, 0), "E7");
+    assert_eq!(answer(&worked::e8().bytes()), (6, 16, 0), "E8");
+    assert_eq!(answer(&worked::e9().bytes()), (4, 4, 0), "E9");
+    let (bytes, _) = accepted_as(&worked::e10());
     assert_eq!(bytes.len(), 67, "E10");
     let listing = "cast 1 flags 0 nodes 2 bytes 67\n\
         row 0 kind 746F6F72 parent - own 24\n\
@@ -120,29 +106,18 @@ fn worked_examples() {
     let mut trimmed = vec![0; 40];
     let written = reference::trim(&bytes, 1, &mut common::table(), &mut trimmed);
     assert_eq!((written.number, written.length), (0, 40), "E10");
-    assert_eq!(trimmed, bare.bytes(), "E10");
-}
-
-/// Root, Model and a mesh of `vertices` with these face indices.
-fn mesh(vertices: usize, faces: &[u8]) -> File {
-    let properties = vec![
-        Property::array(V3, "vp", vec![0; 12 * vertices]),
-        Property::array(B, "f", faces.to_vec()),
-    ];
-    let mesh = Node::with(MESH, properties, Vec::new());
-    let model = Node::with(MODEL, Vec::new(), vec![mesh]);
-    File::new(0, vec![Node::with(ROOT, Vec::new(), vec![model])])
+    assert_eq!(trimmed, bare, "E10");
 }
 
 #[test]
 fn worked_faces() {
-    let (bytes, _) = accepted_as(&mesh(3, &[0, 1, 2]));
+    let (bytes, _) = accepted_as(&worked::e11());
     assert_eq!(bytes.len(), 146, "E11");
     let (reading, _) = accepted(&bytes);
     assert_eq!((reading.faces, reading.degenerate), (1, 0), "E11");
-    let (reading, _) = accepted(&mesh(3, &[0, 1, 1]).bytes());
+    let (reading, _) = accepted(&triangle([0, 1, 1]).bytes());
     assert_eq!((reading.faces, reading.degenerate), (1, 1), "E11");
-    assert_eq!(answer(&mesh(3, &[0, 1, 3]).bytes()), (15, 134, 0), "E12");
-    accepted_as(&mesh(0, &[]));
-    assert_eq!(answer(&mesh(3, &[0, 1]).bytes()).0, 15);
+    assert_eq!(answer(&triangle([0, 1, 3]).bytes()), (15, 134, 0), "E12");
+    accepted_as(&mesh(B, 0, &[]));
+    assert_eq!(answer(&mesh(B, 3, &[0, 1]).bytes()).0, 15);
 }

@@ -3,16 +3,20 @@
 //! A case is a frame on the program's standard input (the layout is in `crates/vectors/src/frame.rt`), and a line on its
 //! standard output: the function's number, then the answer and a checksum of each lent buffer. The inputs come from
 //! `corpus`, the answers from `reference`. The functions' numbers are listed in [`function`].
+//!
+//! [`samples`] makes the files of `samples/` likewise.
 
 #![forbid(unsafe_code)]
 
 mod frame;
 mod kinds;
+mod listings;
 mod lookups;
 mod names;
 mod numbers;
 mod properties;
 mod reads;
+pub mod samples;
 mod table;
 mod types;
 mod walks;
@@ -43,6 +47,8 @@ pub mod function {
 
     pub const WALK: u32 = 30;
     pub const READ: u32 = 31;
+    pub const LIST: u32 = 32;
+    pub const LINE: u32 = 33;
 }
 
 /// The whole of standard input, the whole of standard output, and the number of cases.
@@ -64,5 +70,6 @@ pub fn make() -> Vectors {
     lookups::add(&mut cases);
     walks::add(&mut cases);
     reads::add(&mut cases);
+    listings::add(&mut cases);
     cases.finish()
 }

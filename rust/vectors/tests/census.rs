@@ -1,7 +1,7 @@
 //! How often each function and each answer of it is among the cases.
 
 use std::collections::BTreeMap;
-use vectors::function::{EXACT, INDEX, LOOKUP, READ, STEP, WALK};
+use vectors::function::{EXACT, INDEX, LINE, LIST, LOOKUP, READ, STEP, WALK};
 
 #[test]
 fn every_answer_is_among_the_cases() {
@@ -46,5 +46,18 @@ fn every_answer_is_among_the_cases() {
                 "{function} answers {answer} only {count} times"
             );
         }
+    }
+    // Where there is room, the answer is the text's length.
+    for (function, least) in [(LIST, 200), (LINE, 350)] {
+        let answers = &census[&function];
+        let total: usize = answers.values().sum();
+        let left = answers.get(&0).copied().unwrap_or(0);
+        println!("{function:3}: {} put, {left} without room", total - left);
+        assert!(left >= least, "{function} finds no room only {left} times");
+        assert!(
+            total - left >= least,
+            "{function} puts only {} times",
+            total - left
+        );
     }
 }

@@ -3,10 +3,9 @@
 use corpus::expect::links;
 use corpus::format::{children, element_size, rules, Holds, Rule, F, KINDS, MESH, NONE, S, V4};
 use corpus::tree::{File, Node, Property};
+use corpus::worked::WAGON;
 use corpus::Rng;
 
-/// An unknown kind.
-pub const WAGON: u32 = u32::from_le_bytes(*b"wagn");
 /// Elements of a right array, but of f.
 pub const LENGTH: usize = 2;
 

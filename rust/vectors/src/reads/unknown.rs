@@ -1,11 +1,12 @@
 //! Unknown nodes: nothing in them is judged or counted but their bytes.
 
-use super::placed::{elements, file, full, minimal, numbers, placed, wagon, WAGON};
+use super::placed::{elements, file, full, minimal, numbers, placed, wagon};
 use super::Reads;
 use corpus::format::{B, BONE, KINDS, MATERIAL, MESH, MODEL, ROOT};
 use corpus::tree::{Node, Property};
 use corpus::valid::properties::Targets;
 use corpus::valid::{unknown, Profile};
+use corpus::worked::WAGON;
 
 pub fn add(reads: &mut Reads) {
     add_sizes(reads);

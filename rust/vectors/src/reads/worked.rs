@@ -1,9 +1,10 @@
 //! The worked files of the rules, file headers, and tables that are too short for any file.
 
-use super::placed::{elements, minimal, numbers, placed, put, wagon};
+use super::placed::{elements, minimal, placed, put};
 use super::{Reads, LONGEST};
-use corpus::format::{B, H, I, MESH, METADATA, MODEL, ROOT, TABLE, V3};
-use corpus::tree::{File, Node};
+use corpus::format::{B, H, I, METADATA, TABLE};
+use corpus::tree::File;
+use corpus::worked::{changed, e1, e10, e11, e3, e4, e5, e6, e7, e8, e9, mesh, triangle};
 use reference::Reading;
 
 /// Lengths of tables without room for 1,024 rows.
@@ -16,67 +17,40 @@ pub fn add(reads: &mut Reads) {
     add_tables(reads);
 }
 
-fn bare() -> File {
-    File::new(0, vec![Node::new(ROOT)])
-}
-
-/// A change of E3.
-fn changed(change: impl FnOnce(&mut File)) -> File {
-    let mut file = bare();
-    change(&mut file);
-    file
-}
-
-/// E10: a root with one unknown child.
-fn with_wagon() -> File {
-    changed(|file| file.roots[0].children.push(wagon(b"abc")))
-}
-
 fn add_small(reads: &mut Reads) {
-    let e3 = bare().bytes();
-    reads.accepted(&File::default());
+    reads.accepted(&e1());
     reads.refused(&[], 3, 0);
-    reads.accepted(&bare());
-    reads.refused(&e3[..39], 5, 16);
-    reads.refused(&changed(|file| file.rest.push(0)).bytes(), 12, 40);
-    reads.refused(&changed(|file| file.roots[0].rest.push(0)).bytes(), 12, 40);
-    let size = |file: &mut File| file.roots[0].claimed.size = Some(23);
-    reads.refused(&changed(size).bytes(), 5, 16);
-    reads.refused(&changed(|file| file.roots[0].kind = MESH).bytes(), 6, 16);
-    reads.refused(&changed(|file| file.version = 2).bytes(), 4, 4);
-    let sums = reads.accepted(&with_wagon());
+    reads.accepted(&e3());
+    reads.refused(&e4(), 5, 16);
+    reads.refused(&e5().bytes(), 12, 40);
+    reads.refused(&e6().bytes(), 12, 40);
+    reads.refused(&e7().bytes(), 5, 16);
+    reads.refused(&e8().bytes(), 6, 16);
+    reads.refused(&e9().bytes(), 4, 4);
+    let sums = reads.accepted(&e10());
     assert_eq!((sums.own_known, sums.own_unknown), (24, 27));
-}
-
-/// E11 with this f.
-fn triangle(code: u16, vertices: usize, indices: &[u32]) -> File {
-    let properties = vec![elements(V3, "vp", vertices), numbers(code, "f", indices)];
-    let mesh = Node::with(MESH, properties, Vec::new());
-    let model = Node::with(MODEL, Vec::new(), vec![mesh]);
-    File::new(0, vec![Node::with(ROOT, Vec::new(), vec![model])])
 }
 
 /// E11, E12, and their like in wider numbers.
 fn add_meshes(reads: &mut Reads) {
-    let e11 = triangle(B, 3, &[0, 1, 2]);
-    assert_eq!(e11.bytes().len(), 146);
+    assert_eq!(e11().bytes().len(), 146);
     let told = Reading {
         nodes: 3,
         own_known: 130,
         faces: 1,
         ..Reading::default()
     };
-    assert_eq!(reads.accepted(&e11), told);
+    assert_eq!(reads.accepted(&e11()), told);
     for code in [B, H, I] {
-        let sums = reads.accepted(&triangle(code, 3, &[0, 1, 2]));
+        let sums = reads.accepted(&mesh(code, 3, &[0, 1, 2]));
         assert_eq!((sums.faces, sums.degenerate), (1, 0));
-        let sums = reads.accepted(&triangle(code, 3, &[0, 1, 1]));
+        let sums = reads.accepted(&mesh(code, 3, &[0, 1, 1]));
         assert_eq!((sums.faces, sums.degenerate), (1, 1));
-        reads.refused(&triangle(code, 3, &[0, 1, 3]).bytes(), 15, 134);
-        reads.accepted(&triangle(code, 0, &[]));
-        reads.refused(&triangle(code, 0, &[0, 0]).bytes(), 15, 98);
-        reads.refused(&triangle(code, 3, &[0, 1]).bytes(), 15, 134);
-        reads.refused(&triangle(code, 0, &[0, 0, 0]).bytes(), 15, 98);
+        reads.refused(&mesh(code, 3, &[0, 1, 3]).bytes(), 15, 134);
+        reads.accepted(&mesh(code, 0, &[]));
+        reads.refused(&mesh(code, 0, &[0, 0]).bytes(), 15, 98);
+        reads.refused(&mesh(code, 3, &[0, 1]).bytes(), 15, 134);
+        reads.refused(&mesh(code, 0, &[0, 0, 0]).bytes(), 15, 98);
     }
 }
 
@@ -93,7 +67,7 @@ fn add_headers(reads: &mut Reads) {
         reads.accepted(&changed(|file| file.flags = flags));
         reads.accepted(&File::new(flags, Vec::new()));
     }
-    let whole = triangle(B, 3, &[0, 1, 2]).bytes();
+    let whole = e11().bytes();
     for end in 0..whole.len() {
         let (number, place) = if end < 16 { (3, 0) } else { (5, 16) };
         reads.refused(&whole[..end], number, place);
@@ -107,14 +81,14 @@ fn add_tables(reads: &mut Reads) {
     let double_name = double.properties[0].clone();
     double.properties.push(double_name);
     let files = [
-        bare().bytes(),
-        with_wagon().bytes(),
+        e3().bytes(),
+        e10().bytes(),
         Vec::new(),
         b"cost\x02".repeat(4),
-        triangle(B, 3, &[0, 1, 2]).bytes(),
-        triangle(B, 3, &[0, 1, 3]).bytes(),
+        e11().bytes(),
+        triangle([0, 1, 3]).bytes(),
         placed(double).file.bytes(),
-        triangle(B, 3, &[0, 1, 2]).bytes()[..100].to_vec(),
+        e11().bytes()[..100].to_vec(),
     ];
     for file in &files {
         for length in SHORT {

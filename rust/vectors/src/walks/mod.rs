@@ -15,13 +15,12 @@ use crate::frame::{numbers_checksum, Case, Cases};
 use crate::function::WALK;
 use corpus::format::{NONE, ROOT, TABLE};
 use corpus::tree::{File, Node};
+use corpus::worked::WAGON;
 use corpus::Rng;
 use reference::{number_at, walk};
 
 /// The longest table that the program lends.
 const LONGEST: usize = 8_300;
-/// An unknown kind.
-const WAGON: u32 = u32::from_le_bytes(*b"wagn");
 /// Where the first root starts, and its first child where it has no properties.
 const FIRST: usize = 16;
 const SECOND: usize = 40;

@@ -1,45 +1,25 @@
 //! The worked files of the rules, and tables that are too short for any file.
 
-use super::{Walks, FIRST, LONGEST, SECOND, WAGON};
-use corpus::format::{MESH, ROOT, TABLE};
-use corpus::tree::{File, Node};
+use super::{Walks, FIRST, LONGEST, SECOND};
+use corpus::format::TABLE;
+use corpus::tree::File;
+use corpus::worked::{changed, e1, e10, e3, e4, e5, e6, e7, e8, e9};
 
 /// Lengths of tables without room for 1,024 rows.
 const SHORT: [usize; 9] = [0, 1, 7, 8, 16, 4_096, 8_184, 8_190, 8_191];
 
-fn bare() -> File {
-    File::new(0, vec![Node::new(ROOT)])
-}
-
-/// A change of E3.
-fn changed(change: impl FnOnce(&mut File)) -> Vec<u8> {
-    let mut file = bare();
-    change(&mut file);
-    file.bytes()
-}
-
-/// E10: a root with one unknown child.
-fn with_wagon() -> Vec<u8> {
-    let mut child = Node::new(WAGON);
-    child.rest = b"abc".to_vec();
-    changed(|file| file.roots[0].children.push(child))
-}
-
 pub fn add(walks: &mut Walks) {
-    let e1 = File::default().bytes();
-    let e3 = bare().bytes();
-    walks.accepted(&e1, 0);
+    walks.accepted(&e1().bytes(), 0);
     walks.refused(&[], 3, 0);
-    walks.accepted(&e3, 1);
-    walks.refused(&e3[..39], 5, FIRST);
-    walks.refused(&changed(|file| file.rest.push(0)), 12, 40);
-    walks.refused(&changed(|file| file.roots[0].rest.push(0)), 12, 40);
-    let size = |file: &mut File| file.roots[0].claimed.size = Some(23);
-    walks.refused(&changed(size), 5, FIRST);
-    walks.refused(&changed(|file| file.roots[0].kind = MESH), 6, FIRST);
-    walks.refused(&changed(|file| file.version = 2), 4, 4);
-    assert_eq!(with_wagon().len(), 67);
-    walks.accepted(&with_wagon(), 2);
+    walks.accepted(&e3().bytes(), 1);
+    walks.refused(&e4(), 5, FIRST);
+    walks.refused(&e5().bytes(), 12, 40);
+    walks.refused(&e6().bytes(), 12, 40);
+    walks.refused(&e7().bytes(), 5, FIRST);
+    walks.refused(&e8().bytes(), 6, FIRST);
+    walks.refused(&e9().bytes(), 4, 4);
+    assert_eq!(e10().bytes().len(), 67);
+    walks.accepted(&e10().bytes(), 2);
     add_headers(walks);
     add_tables(walks);
 }
@@ -48,17 +28,17 @@ pub fn add(walks: &mut Walks) {
 fn add_headers(walks: &mut Walks) {
     for bit in 0..32 {
         let magic = |file: &mut File| file.magic[bit / 8] ^= 1 << (bit % 8);
-        walks.refused(&changed(magic), 3, 0);
+        walks.refused(&changed(magic).bytes(), 3, 0);
     }
     for version in [0, 2, 0x101, 0x1_0000, 0x1_0001, 0x0100_0000, u32::MAX] {
-        walks.refused(&changed(|file| file.version = version), 4, 4);
+        walks.refused(&changed(|file| file.version = version).bytes(), 4, 4);
     }
     for flags in [0, 1, 0x0102_0304, 0x8000_0000, u32::MAX] {
-        walks.accepted(&changed(|file| file.flags = flags), 1);
+        walks.accepted(&changed(|file| file.flags = flags).bytes(), 1);
         walks.accepted(&File::new(flags, Vec::new()).bytes(), 0);
     }
     // Fewer than 16 bytes, and more where no root is counted.
-    let whole = File::default().bytes();
+    let whole = e1().bytes();
     for end in 0..whole.len() {
         walks.refused(&whole[..end], 3, 0);
     }
@@ -67,14 +47,14 @@ fn add_headers(walks: &mut Walks) {
         walks.refused(&bytes, 12, FIRST);
     }
     let uncounted = changed(|file| file.root_count = Some(0));
-    walks.refused(&uncounted, 12, FIRST);
+    walks.refused(&uncounted.bytes(), 12, FIRST);
 }
 
 /// Refusal 1 comes before all others, and leaves the table; numbers past 8,192 stay.
 fn add_tables(walks: &mut Walks) {
     let files = [
-        bare().bytes(),
-        with_wagon(),
+        e3().bytes(),
+        e10().bytes(),
         Vec::new(),
         b"cost\x02".repeat(4),
     ];
@@ -87,7 +67,7 @@ fn add_tables(walks: &mut Walks) {
             walks.add_with(file, length);
         }
     }
-    let cut = &with_wagon()[..SECOND + 24];
+    let cut = &e10().bytes()[..SECOND + 24];
     for length in [TABLE - 1, TABLE, TABLE + 8] {
         walks.add_with(cut, length);
     }

@@ -1,0 +1,4 @@
+pub mod Listing
+pub mod Contract
+pub mod Statements
+pub mod Examples
