@@ -15,7 +15,7 @@ fn main() {
     }
 }
 
-// Whether standard input is at its end. Where reading failed before, it fails again.
+// Whether standard input is at its end. After a read that failed, the next one fails too or finds more.
 fn ended() -> bool {
     let mut more = [0u8; 1];
     libc::read(0, &mut more) == 0

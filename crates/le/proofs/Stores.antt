@@ -6,7 +6,7 @@ use native.Mathlib.Numerals.{add-one}
 use mathlib.Core.Path.{_≡_, refl, ap, sym, _∙_}
 use mathlib.Core.List.{List, [], _∷_, _++_, append-nil, map, map-append}
 use lib.ListN.{length, getD, take, drop, set, take-append-drop, length-drop, length-map, length-set, drop-of-length-le}
-use lib.Seq.{sets, set-out, take-suc, length-take-le, take-set-le, drop-set-add, drop-set-lt, getD-set-same, getD-set-other}
+use lib.Seq.{sets, set-out, take-suc, length-take-le, take-set-le, drop-set-add, drop-set-lt, getD-set-same, getD-set-other, set-comm}
 use borrow.Rule.Slice.PartMut.{putMid}
 use Rattle.le.specs.Le.{le}
 use Rattle.le.proofs.Laws.{rest, rest-drop, le-halves, length-le}
@@ -19,6 +19,16 @@ module _ {A : Type 0} where
   pub sets-append : (l : List A) (i : ℕ) (us vs : List A) → sets l i (us ++ vs) ≡ sets (sets l i us) (i + length us) vs
   sets-append l i [] vs = ap (λ k. sets l k vs) (omega arith)
   sets-append l i (u ∷ us) vs = sets-append (set l i u) (suc i) us vs ∙ ap (λ k. sets (sets (set l i u) (suc i) us) k vs) (omega arith)
+
+  -- one more is stored, behind those that were
+  pub sets-next : (old : List A) (at : ℕ) (so : List A) {i : ℕ} (v : A) {new : List A} → length so ≡ i → new ≡ sets old at so → set new (at + i) v ≡ sets old at (so ++ (v ∷ []))
+  sets-next old at so {i} v here e =
+      ap (λ m. set m (at + i) v) e ∙ ap (λ k. set (sets old at so) (at + k) v) (sym here) ∙ sym (sets-append old at so (v ∷ []))
+
+  -- a store before others
+  pub set-sets : (l : List A) (i : ℕ) (a : A) (j : ℕ) (vs : List A) → i < j → set (sets l j vs) i a ≡ sets (set l i a) j vs
+  set-sets l i a j [] h = refl
+  set-sets l i a j (v ∷ vs) h = set-sets (set l j v) i a (suc j) vs (omega arith) ∙ ap (λ z. sets z (suc j) vs) (set-comm l j i v a (λ e. omega arith))
 
   -- stores into the part from `a` on
   pub sets-rest : (a : ℕ) (vs l : List A) (j : ℕ) → take a l ++ sets (drop a l) j vs ≡ sets l (a + j) vs
@@ -50,14 +60,15 @@ module _ {A : Type 0} where
   drop-sets n l i [] h = refl
   drop-sets n l i (v ∷ vs) h = drop-sets n (set l i v) (suc i) vs (omega arith) ∙ drop-set-lt n l i v (omega arith)
 
--- one more of a list is stored, behind what was stored of it before
+-- one more of a list is stored from the start on, behind what was stored of it before
 pub sets-more : {A B : Type 0} (f : A → B) (l : List A) (i : ℕ) (d : A) → i < length l → {v : B} → v ≡ f (getD l i d) →
     (old : List B) {new : List B} → new ≡ sets old 0 (map f (take i l)) → set new i v ≡ sets old 0 (map f (take (i + 1) l))
-sets-more f l i d h {v} e old n =
+sets-more f l i d h {v} e old {new} n =
     let so = map f (take i l) in
-    let here : 0 + length so ≡ i = omega (arith, length-map (take i l) f, length-take-le i l (omega arith)) in
+    let here : length so ≡ i = length-map (take i l) f ∙ length-take-le i l (omega arith) in
+    let first : i ≡ 0 + i = omega arith in
     let all : map f (take (i + 1) l) ≡ so ++ (v ∷ []) = rw (add-one i, take-suc l i d h, e) (map-append f (take i l) (getD l i d ∷ [])) in
-    ap (λ m. set m i v) n ∙ ap (λ k. set (sets old 0 so) k v) (sym here) ∙ sym (ap (sets old 0) all ∙ sets-append old 0 so (v ∷ []))
+    ap (λ k. set new k v) first ∙ sets-next old 0 so v here n ∙ ap (sets old 0) (sym all)
 
 -- nothing is stored past the end
 pub put-past : (w : ℕ) (l : List ℕ) (at x : ℕ) → length l ≤ at → l ≡ sets l at (le w x)

@@ -1,4 +1,4 @@
--- Laws of texts that are put one behind the other, and of the lines' lengths.
+-- Laws of texts that are put one behind the other, and of a row's parent.
 use Prim.Native.Nat.{ℕ, _+_, _≤_}
 use native.Mathlib.Omega.{arith}
 use mathlib.Core.Path.{_≡_, refl, ap, sym, _∙_, subst}

@@ -3,7 +3,7 @@ use Prim.Native.Nat.{ℕ, _+_, _≤_, _<_}
 use native.Mathlib.Omega.{arith}
 use mathlib.Core.Path.{_≡_, ap, sym, _∙_}
 use mathlib.Core.Bool.{true}
-use mathlib.Core.List.{List, _++_, append-nil}
+use mathlib.Core.List.{List}
 use lib.ListN.{length}
 use borrow.Author.Tests.{le-leb, lt-leb}
 use Rattle.le.specs.Le.{AreBytes}
@@ -13,16 +13,15 @@ use Rattle.format.specs.Rows.{rowsOf, allOwnBytes}
 use Rattle.format.proofs.Rows.{length-rows}
 use Rattle.walk.specs.Walk.{limited}
 use Rattle.reader.specs.declared.Account.{Account}
-use Rattle.reader.specs.declared.Reading.{Reading}
 use Rattle.reader.specs.declared.Reading.the-variants.{Accepted, Refused}
-use Rattle.reader.specs.Reading.{verdict, readingOf, tableAfter}
+use Rattle.reader.specs.Reading.{verdict, tableAfter}
 use Rattle.reader.specs.Acceptance.{IsValid, AnswerOf}
 use Rattle.reader.proofs.Charges.{own-split}
 use Rattle.reader.proofs.Exactly.{verdict-valid, valid-rows, valid-answer}
 use Rattle.reader.proofs.Whole.{put-rows}
 use Rattle.listing.specs.declared.Line.the-variants.{Refusal, TooLong}
 use Rattle.listing.specs.Listing.{textOf, totalOf, fileLines, printed, listingOf}
-use Rattle.listing.proofs.Whole.{printed-none, printed-more}
+use Rattle.listing.proofs.Whole.{printed-one}
 
 -- ---- an accepted file's rows
 module _ (s : List ℕ) (bytes : AreBytes s) {a : Account} (e : verdict s ≡ Accepted a) where
@@ -59,20 +58,13 @@ module _ (s : List ℕ) (bytes : AreBytes s) {a : Account} (e : verdict s ≡ Ac
 -- ---- the listing by its case
 pub listing-long : (s : List ℕ) → 32768 < length s → listingOf s ≡ textOf TooLong
 unfolding listingOf
-listing-long s h = rw (lt-leb (length s) 32768 h) (printed-more TooLong _ ∙ ap (λ z. textOf TooLong ++ z) printed-none ∙ append-nil (textOf TooLong))
+listing-long s h = rw (lt-leb (length s) 32768 h) (printed-one TooLong)
 
 module _ (s : List ℕ) (h : length s ≤ 32768) where
   pub listing-refused : (n place : ℕ) → verdict s ≡ Refused n place → listingOf s ≡ textOf (Refusal n place)
   unfolding listingOf fileLines
-  listing-refused n place e =
-      rw (le-leb (length s) 32768 h, e)
-      (printed-more (Refusal n place) _ ∙ ap (λ z. textOf (Refusal n place) ++ z) printed-none ∙ append-nil (textOf (Refusal n place)))
+  listing-refused n place e = rw (le-leb (length s) 32768 h, e) (printed-one (Refusal n place))
 
   pub listing-accepted : (a : Account) → verdict s ≡ Accepted a → listingOf s ≡ printed (fileLines (length s) (Accepted a) (limited s .rows))
   unfolding listingOf
   listing-accepted a e = rw (le-leb (length s) 32768 h, e)
-
--- the reading with a table that has room
-pub read-verdict : (s t : List ℕ) → hasRoom t ≡ true → {r : Reading} → r ≡ readingOf s t → verdict s ≡ r
-unfolding readingOf
-read-verdict s t h e = sym (e ∙ rw h)

@@ -3,7 +3,7 @@ use Prim.Native.Nat.{ℕ, suc, _+_, _-_, _≤_, _<_}
 use native.Mathlib.Numerals.{add-one}
 use native.Mathlib.Omega.{arith}
 use mathlib.Core.Path.{_≡_, refl, ap, sym, _∙_}
-use mathlib.Core.List.{List, [], _∷_, _++_, append-assoc, flatMap}
+use mathlib.Core.List.{List, [], _∷_, _++_, append-assoc, append-nil, flatMap}
 use lib.ListN.{length, length-append}
 use Rattle.table.specs.declared.Row.{Row}
 use Rattle.table.specs.Table.{rowAt, rowsAt}
@@ -22,6 +22,9 @@ printed-none = refl
 pub printed-more : (l : Line) (ls : List Line) → printed (l ∷ ls) ≡ textOf l ++ printed ls
 unfolding printed flatMap
 printed-more l ls = refl
+
+pub printed-one : (l : Line) → printed (l ∷ []) ≡ textOf l
+printed-one l = printed-more l [] ∙ ap (λ z. textOf l ++ z) printed-none ∙ append-nil (textOf l)
 
 printed-append : (ks ls : List Line) → printed (ks ++ ls) ≡ printed ks ++ printed ls
 unfolding printed flatMap

@@ -184,7 +184,7 @@ verdict-valid s bytes h =
       bytes = walk .holds .bytes;
     }
 
-in-room : (s t : List ℕ) → hasRoom t ≡ true → readingOf s t ≡ verdict s
+pub in-room : (s t : List ℕ) → hasRoom t ≡ true → readingOf s t ≡ verdict s
 unfolding readingOf
 in-room s t h = rw h
 

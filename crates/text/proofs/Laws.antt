@@ -7,10 +7,10 @@ use mathlib.Core.Path.{_≡_, refl, ap, sym, _∙_}
 use mathlib.Core.List.{List, [], _∷_, _++_}
 use lib.Dec.{ltb, leb}
 use lib.ListN.{length, getD, take, drop, set, length-append, drop-of-length-le}
-use lib.Seq.{sets, length-sets, length-take-le, take-all, take-suc, drop-cons, set-comm, take-at, getD-at}
+use lib.Seq.{sets, length-sets, length-take-le, take-all, take-suc, drop-cons, take-at, getD-at}
 use borrow.Author.Tests.{lt-ltb, le-ltb, le-leb, lt-leb, leb-true, leb-false}
 use Rattle.le.proofs.Tests.{by-test}
-use Rattle.le.proofs.Stores.{sets-append}
+use Rattle.le.proofs.Stores.{sets-append, sets-next, set-sets}
 use Rattle.text.specs.Text.{fitted, written, behind, glyph, digits, sizeIn, decimalSize}
 
 -- ---- room
@@ -33,13 +33,13 @@ module _ (out : List ℕ) (at : ℕ) (t : List ℕ) where
   unfolding behind written
   nothing e = (rw e (sym (add-zero at)), rw e)
 
-  pub put-past : length out < at → (at ≡ behind out at t) × (out ≡ written out at t)
-  put-past h = let e : length out - at ≡ 0 = omega arith in nothing (rw e (no-room t))
+  pub put-outside : length out < at → (at ≡ behind out at t) × (out ≡ written out at t)
+  put-outside h = let e : length out - at ≡ 0 = omega arith in nothing (rw e (no-room t))
 
   pub put-short : length out < at + length t → (at ≡ behind out at t) × (out ≡ written out at t)
   put-short h = by-test (leb at (length out))
       (λ e. nothing (unfit t (length out - at) (omega (arith, leb-true at (length out) e))))
-      (λ e. put-past (leb-false at (length out) e))
+      (λ e. put-outside (leb-false at (length out) e))
 
   -- the place behind lies in the buffer
   pub behind-within : at ≤ length out → {r : ℕ} {last : List ℕ} → (r ≡ behind out at t) × (last ≡ written out at t) → r ≤ length last
@@ -107,11 +107,6 @@ module _ (x y : List ℕ) (l a b : ℕ) (hx : length x ≡ l) (hy : length y ≡
   lasts : a ≡ b
   lasts = sym (getD-at x a [] 0 l hx) ∙ ap (λ z. getD z l 0) e ∙ getD-at y b [] 0 l hy
 
--- a store before others
-set-sets : (d : List ℕ) (i a j : ℕ) (vs : List ℕ) → i < j → set (sets d j vs) i a ≡ sets (set d i a) j vs
-set-sets d i a j [] h = refl
-set-sets d i a j (v ∷ vs) h = set-sets (set d j v) i a (suc j) vs (omega arith) ∙ ap (λ z. sets z (suc j) vs) (set-comm d j i v a (λ e. omega arith))
-
 -- the digits of a number, of which those from `left` on are stored, and the rest is what is left of it
 pub record Stored (d : List ℕ) (at base : ℕ) (all : List ℕ) (out : List ℕ) (left rest : ℕ) : Type 0 where
   pub within : left ≤ length all
@@ -160,16 +155,13 @@ pub text-next : (d : List ℕ) (at : ℕ) (text : List ℕ) (i : ℕ) → i < le
 text-next d at text i h out e =
     let here : length (take i text) ≡ i = length-take-le i text (omega arith) in
     let more : take (i + 1) text ≡ take i text ++ (getD text i 0 ∷ []) = rw (add-one i) (take-suc text i 0 h) in
-    ap (λ z. set z (at + i) (getD text i 0)) e
-    ∙ ap (λ k. set (sets d at (take i text)) (at + k) (getD text i 0)) (sym here)
-    ∙ sym (sets-append d at (take i text) (getD text i 0 ∷ []))
-    ∙ ap (sets d at) (sym more)
+    sets-next d at (take i text) (getD text i 0) here e ∙ ap (sets d at) (sym more)
 
 -- ---- a label, and then digits
-pub labelled : (out : List ℕ) (at : ℕ) (label number : List ℕ) (k : ℕ) {first both : List ℕ} → length number ≡ k → (at + length label) + k ≤ length out
+pub label-digits : (out : List ℕ) (at : ℕ) (label number : List ℕ) (k : ℕ) {first both : List ℕ} → length number ≡ k → (at + length label) + k ≤ length out
     → first ≡ sets out at label → both ≡ sets first (at + length label) number
     → ((at + length label) + k ≡ behind out at (label ++ number)) × (both ≡ written out at (label ++ number))
-labelled out at label number k {first} {both} e h p q =
+label-digits out at label number k {first} {both} e h p q =
     let long : length (label ++ number) ≡ length label + k = length-append label number ∙ ap (λ n. length label + n) e in
     let room : at + length (label ++ number) ≤ length out = omega arith in (
       omega (arith, behind-put out at (label ++ number) room),

@@ -1,6 +1,6 @@
 -- `listing::list`: an input that is too long, a file that is refused, or an accepted one.
 use native.Mathlib.Omega.{arith}
-use mathlib.Core.Path.{_≡_, ap, _∙_, subst}
+use mathlib.Core.Path.{_≡_, ap, sym, _∙_, subst}
 use mathlib.Core.Bool.{true}
 use mathlib.Core.List.{List}
 use Prim.Native.Nat.{ℕ, _≤_}
@@ -11,7 +11,8 @@ use Rattle.table.specs.Table.{rowsAt, hasRoom}
 use Rattle.reader.specs.declared.Reading.{Reading}
 use Rattle.reader.specs.Reading.{verdict}
 use Rattle.reader.specs.Contract.{Small}
-use Rattle.listing.proofs.Listed.{table-rows, listing-long, listing-refused, listing-accepted, read-verdict}
+use Rattle.reader.proofs.Exactly.{in-room}
+use Rattle.listing.proofs.Listed.{table-rows, listing-long, listing-refused, listing-accepted}
 use borrow.Author.Needs.{needs}
 use Rattle.listing.proofs.list.Statement.{statement}
 use Rattle.listing.proofs.list.Tie as tie
@@ -61,7 +62,7 @@ module _ (c : tie.After-read) where
   short = c .before .before .if1 .left
 
   told : {r : Reading} → c .read .result ≡ r → verdict input ≡ r
-  told e = read-verdict input table room (c .read .ensures .0) ∙ e
+  told e = sym (in-room input table room) ∙ sym (c .read .ensures .0) ∙ e
 
 accepted-requires : tie.Need-accepted-requires
 accepted-requires c κs = subst Small (c .before .before .before .reading .given .1) (c .before .before .before .before .before .before .read .ensures .2)

@@ -5,14 +5,14 @@ use mathlib.Core.List.{_++_}
 use lib.ListN.{length-append}
 use borrow.Author.Needs.{needs}
 use Rattle.text.specs.Text.{digits}
-use Rattle.text.proofs.Laws.{put-past, put-short, length-digits, labelled}
+use Rattle.text.proofs.Laws.{put-outside, put-short, length-digits, label-digits}
 use Rattle.text.proofs.put_number.Statement.{statement}
 use Rattle.text.proofs.put_number.Tie as tie
 
 returns : tie.Need-returns
 returns c =
     let a = c .before .before .before .args in
-    put-past (a .out .now) (a .at) (a .label .now ++ digits (a .base) (a .k) (a .n)) (c .if1 .taken)
+    put-outside (a .out .now) (a .at) (a .label .now ++ digits (a .base) (a .k) (a .n)) (c .if1 .taken)
 
 sub-room : tie.Need-sub-room
 sub-room c = omega arith
@@ -48,7 +48,7 @@ returns-4 : tie.Need-returns-4
 returns-4 c =
     let a = c .before .before .before .before .before .before .before .before .before .before .before .before .before .args in
     let d = digits (a .base) (a .k) (a .n) in
-    labelled (a .out .now) (a .at) (a .label .now) d (a .k) (length-digits (a .base) (a .k) (a .n)) (omega arith)
+    label-digits (a .out .now) (a .at) (a .label .now) d (a .k) (length-digits (a .base) (a .k) (a .n)) (omega arith)
     (c .before .before .before .before .before .before .write-text .ensures) (c .before .before .write-digits .ensures)
 
 pub put-number-spec : {M : Type 1} → statement M
