@@ -1,5 +1,5 @@
 /*
- * Reader of Cast model files.
+ * Reader and writer of Cast model files.
  *
  * Every function answers for any contents of its buffers and any numbers. Of a buffer it takes for granted what C does of
  * an array: that its bytes can be read, are fewer than 2^63, and lie aligned for their type. A pointer with length 0 must
@@ -81,6 +81,39 @@ struct cast_found {
  */
 struct cast_found cast_lookup(const uint8_t *bytes, size_t len, const uint32_t *table, size_t table_len,
                               size_t row, const uint8_t *name, size_t name_len);
+
+/*
+ * What a writing answers. The number is 0 where a file is written; else it is the first that holds of
+ *
+ *   20  the plan's length is not a multiple of 8, or the plan has over 1,024 rows
+ *   21  a row's parent is wrong
+ *   22  a row's body ends before its start or past the source
+ *   23  a known row's body is not exactly its count of properties, or they are over 64
+ *   24  a known row's child count is not the number of rows that name it as their parent
+ *   25  the file is over 16,777,216 bytes
+ *   26  the output is shorter than the file
+ *
+ * where 21 to 24 are judged for one row before the next. The place is the row for 21 to 24, else 0. The length is that of
+ * the file, and 0 on refusal.
+ */
+struct cast_written {
+    uint32_t number, place, length;
+};
+
+/*
+ * Writes the rows of a plan, with their bodies out of the source, as a file at the output's start. The lengths count
+ * numbers, bytes and bytes. The plan's length is the number of its rows times 8: of a table that a file was read into, the
+ * rows of its nodes are a plan, without the zeros after them.
+ *
+ * A row has the eight numbers that a lookup takes. The parent is 4,294,967,295, which is none, exactly for a Root; of any
+ * other row it is an earlier row of a known kind: the previous row, or an ancestor of that. So the first row is a Root.
+ * Bodies lie anywhere in the source, and may overlap. Sizes and the root count are computed, never taken from the plan; an
+ * unknown row's counts are written as they are. Where a kind may stand, and what a property holds, is not judged.
+ *
+ * On success the output past the length is what it was, on refusal the whole output.
+ */
+struct cast_written cast_write(const uint32_t *plan, size_t plan_len, const uint8_t *source, size_t source_len,
+                               uint32_t flags, uint8_t *out, size_t out_len);
 
 #ifdef __cplusplus
 }

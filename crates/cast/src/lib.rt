@@ -2,9 +2,10 @@
 ghost use mathlib.Core.Path.{_≡_};
 ghost use Prim.Native.Nat.{_≤_};
 ghost use lib.ListN.{length};
-ghost use Rattle.cast.specs.Cast.{answerOf, foundOf};
+ghost use Rattle.cast.specs.Cast.{answerOf, foundOf, writtenAs};
 ghost use Rattle.lookup.specs.Lookup.{lookupOf};
 ghost use Rattle.reader.specs.Reading.{readingOf, tableAfter};
+ghost use Rattle.writer.specs.Writer.{writtenOf, outputAfter};
 
 #[repr(C)]
 pub struct CastReading {
@@ -87,5 +88,25 @@ pub extern "C" fn cast_lookup(bytes: &[u8], table: &[u32], row: usize, name: &[u
         place: 0,
         start,
         end,
+    }
+}
+
+#[repr(C)]
+pub struct CastWritten {
+    pub number: u32,
+    pub place: u32,
+    pub length: u32,
+}
+
+// Writes a plan's rows, with their bodies out of the source, as a file.
+#[no_mangle]
+pub extern "C" fn cast_write(plan: &[u32], source: &[u8], flags: u32, out: &mut [u8]) -> CastWritten
+    ensures { λ r. ⌜ (r ≡ writtenAs (writtenOf (now (plan .entry)) (now (source .entry)) flags (length (now (out .entry))))) × (now (out .exit) ≡ outputAfter (now (plan .entry)) (now (source .entry)) flags (now (out .entry))) ⌝ }
+{
+    let written = writer::write(plan, source, flags, out);
+    CastWritten {
+        number: written.number,
+        place: written.place,
+        length: written.length,
     }
 }

@@ -1,15 +1,19 @@
--- The rows of a forest: one for each node, and their own bytes add up.
-use Prim.Native.Nat.{ℕ, suc, _+_}
+-- The rows of a forest: one for each node, and their own bytes add up; and how long a row's body can be.
+use Prim.Native.Nat.{ℕ, suc, _+_, _-_, _≤_}
 use native.Mathlib.Omega.{arith}
+use native.Mathlib.Nat.{min-le-left}
 use mathlib.Core.Path.{_≡_, refl, ap, _∙_}
 use mathlib.Core.List.{List, [], _∷_, _++_}
-use lib.ListN.{length, length-append}
+use lib.ListN.{length, drop, length-append, length-take}
 use Rattle.table.specs.declared.Row.{Row}
 use Rattle.table.specs.Table.{noParent}
 use Rattle.format.specs.Forest.{Forest, end, known, unknown, count, nodes, encode, fileHeader, fileOf}
-use Rattle.format.specs.Rows.{nodeRow, rows, allOwnBytes}
+use Rattle.format.specs.Rows.{nodeRow, rows, bodyOf, allOwnBytes}
 use Rattle.format.specs.Laws.{OwnBytesAddUp}
 use Rattle.format.proofs.Headers.{length-header, length-fileHeader}
+
+pub body-length : (s : List ℕ) (r : Row) → length (bodyOf s r) ≤ r .end - r .start
+body-length s r = rw (length-take (r .end - r .start) (drop (r .start) s)) (min-le-left _ _)
 
 pub allOwnBytes-append : (xs ys : List Row) → allOwnBytes (xs ++ ys) ≡ allOwnBytes xs + allOwnBytes ys
 allOwnBytes-append [] ys = omega arith

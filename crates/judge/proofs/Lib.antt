@@ -3,3 +3,4 @@ pub mod Typing
 pub mod Presence
 pub mod Faults
 pub mod Values
+pub mod Numbers

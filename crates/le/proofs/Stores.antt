@@ -4,12 +4,13 @@ use native.Mathlib.Omega.{arith}
 use native.Mathlib.Nat.{zero-add, add-zero}
 use native.Mathlib.Numerals.{add-one}
 use mathlib.Core.Path.{_≡_, refl, ap, sym, _∙_}
+use mathlib.Core.Logic.{_⊎_, inl, inr}
 use mathlib.Core.List.{List, [], _∷_, _++_, append-nil, map, map-append}
 use lib.ListN.{length, getD, take, drop, set, take-append-drop, length-drop, length-map, length-set, drop-of-length-le}
-use lib.Seq.{sets, set-out, take-suc, length-take-le, take-set-le, drop-set-add, drop-set-lt, getD-set-same, getD-set-other, set-comm}
+use lib.Seq.{sets, set-out, take-nil, take-length, take-suc, length-take-le, take-set-le, drop-set-add, drop-set-lt, getD-set-same, getD-set-other, set-comm}
 use borrow.Rule.Slice.PartMut.{putMid}
 use Rattle.le.specs.Le.{le}
-use Rattle.le.proofs.Laws.{rest, rest-drop, le-halves, length-le}
+use Rattle.le.proofs.Laws.{rest, rest-drop, length-rest, le-halves, length-le}
 
 module _ {A : Type 0} where
   pub sets-past : (l : List A) (i : ℕ) (vs : List A) → length l ≤ i → sets l i vs ≡ l
@@ -24,6 +25,20 @@ module _ {A : Type 0} where
   pub sets-next : (old : List A) (at : ℕ) (so : List A) {i : ℕ} (v : A) {new : List A} → length so ≡ i → new ≡ sets old at so → set new (at + i) v ≡ sets old at (so ++ (v ∷ []))
   sets-next old at so {i} v here e =
       ap (λ m. set m (at + i) v) e ∙ ap (λ k. set (sets old at so) (at + k) v) (sym here) ∙ sym (sets-append old at so (v ∷ []))
+
+  -- one more of a list is stored behind those that were
+  pub copy-next : (old : List A) (at : ℕ) (bytes : List A) (i : ℕ) (d : A) → i < length bytes → {new : List A} → new ≡ sets old at (take i bytes)
+      → set new (at + i) (getD bytes i d) ≡ sets old at (take (i + 1) bytes)
+  copy-next old at bytes i d h e =
+      let here : length (take i bytes) ≡ i = length-take-le i bytes (omega arith) in
+      let more : take (i + 1) bytes ≡ take i bytes ++ (getD bytes i d ∷ []) = rw (add-one i) (take-suc bytes i d h) in
+      sets-next old at (take i bytes) (getD bytes i d) here e ∙ ap (sets old at) (sym more)
+
+  -- stores past the end may be left out
+  pub sets-cut : (l : List A) (i n : ℕ) (vs : List A) → length l ≤ i + n → sets l i (take n vs) ≡ sets l i vs
+  sets-cut l i n [] h = ap (sets l i) (take-nil n)
+  sets-cut l i zero (v ∷ vs) h = sym (sets-past l i (v ∷ vs) (omega (arith, h)))
+  sets-cut l i (suc n) (v ∷ vs) h = sets-cut (set l i v) (suc i) n vs (rw length-set (omega (arith, h)))
 
   -- a store before others
   pub set-sets : (l : List A) (i : ℕ) (a : A) (j : ℕ) (vs : List A) → i < j → set (sets l j vs) i a ≡ sets (set l i a) j vs
@@ -82,3 +97,15 @@ put-halves w l at x {first} {both} e f =
     = rw (f, e, rest-drop l at, le-halves w x, sets-append (drop at l) 0 (le w (x % 256 ^ w)) (le w (x / 256 ^ w)), length-le w (x % 256 ^ w), zero-add w) in
     let none : drop (length l - at) (drop at l) ≡ [] = drop-of-length-le (drop at l) {i = length l - at} (simp length-drop (omega arith)) in
     rw (stored, none, append-nil) (sets-rest at (le (w + w) x) l 0 ∙ ap (λ k. sets l k (le (w + w) x)) (add-zero at))
+
+-- so many bytes stored into the part from a place on, all of them or as many as have room
+pub put-part : (l : List ℕ) (at : ℕ) (bytes : List ℕ) (n : ℕ) → (n ≡ length bytes) ⊎ (n ≡ length (rest l at)) → {both : List ℕ} → both ≡ sets (rest l at) 0 (take n bytes)
+    → putMid at (length l - at) l both ≡ sets l at bytes
+put-part l at bytes n h {both} e =
+    let stored : both ≡ sets (drop at l) 0 bytes = e ∙ ap (λ d. sets d 0 (take n bytes)) (rest-drop l at) ∙ all h in
+    let none : drop (length l - at) (drop at l) ≡ [] = drop-of-length-le (drop at l) {i = length l - at} (simp length-drop (omega arith)) in
+    rw (stored, none, append-nil) (sets-rest at bytes l 0 ∙ ap (λ k. sets l k bytes) (add-zero at))
+  where
+    all : (n ≡ length bytes) ⊎ (n ≡ length (rest l at)) → sets (drop at l) 0 (take n bytes) ≡ sets (drop at l) 0 bytes
+    all (inl f) = ap (λ k. sets (drop at l) 0 (take k bytes)) f ∙ ap (sets (drop at l) 0) (take-length bytes)
+    all (inr f) = sets-cut (drop at l) 0 n bytes (omega (arith, f, length-rest l at, length-drop at l))

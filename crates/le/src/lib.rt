@@ -1,9 +1,9 @@
-// Little-endian numbers at any place of any bytes. A byte past the end reads as zero, and is not written.
+// Little-endian numbers, and bytes, at any place of any bytes. A byte past the end reads as zero, and is not written.
 ghost use mathlib.Core.Path.{_≡_};
 ghost use Prim.Native.Nat.{_≤_, _<_, min};
 ghost use lib.Seq.{sets};
 ghost use Rattle.le.specs.Le.{numberAt, le};
-ghost use lib.ListN.{length};
+ghost use lib.ListN.{length, take};
 
 // A byte, or zero past the end.
 fn byte(bytes: &[u8], at: usize) -> u8
@@ -111,6 +111,33 @@ fn put_byte(out: &mut [u8], at: usize, b: u8)
     if at < out.len() {
         out[at] = b;
     }
+}
+
+fn copy(out: &mut [u8], bytes: &[u8], n: usize)
+    requires { ⌜ (n ≤ length (now bytes)) × (n ≤ length (now out)) ⌝ }
+    ensures { λ _. ⌜ now (out .exit) ≡ sets (now (out .entry)) 0 (take n (now (bytes .entry))) ⌝ }
+{
+    let mut i: usize = 0;
+    while i < n {
+        out[i] = bytes[i];
+        i += 1;
+    }
+}
+
+// Writes bytes at a place.
+pub fn put_bytes(out: &mut [u8], at: usize, bytes: &[u8])
+    ensures { λ _. ⌜ now (out .exit) ≡ sets (now (out .entry)) at (now (bytes .entry)) ⌝ }
+{
+    if out.len() <= at {
+        return;
+    }
+    let rest = &mut out[at..];
+    let n = if bytes.len() < rest.len() {
+        bytes.len()
+    } else {
+        rest.len()
+    };
+    copy(rest, bytes, n);
 }
 
 // Writes a number as 2 bytes at a place.

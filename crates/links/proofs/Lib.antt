@@ -4,3 +4,4 @@ pub mod Collecting
 pub mod Targets
 pub mod Resolving
 pub mod Turns
+pub mod Numbers

@@ -10,7 +10,7 @@ use Rattle.table.specs.Table.{rowAt, rowsAt}
 use Rattle.faces.specs.declared.Faces.{Faces as FaceCount}
 use Rattle.reader.specs.declared.Account.{Account}
 use Rattle.reader.specs.declared.Reading.the-variants.{Accepted}
-use Rattle.reader.proofs.Loops.{rest, rest-all, rest-more, rest-none}
+use Rattle.table.proofs.Rests.{rest, rest-all, rest-more, rest-none}
 use Rattle.listing.specs.declared.Line.{Line}
 use Rattle.listing.specs.declared.Line.the-variants.{Summary, Node, FileHeader, Faces, Total}
 use Rattle.listing.specs.Listing.{textOf, nodeLines, footLines, totalOf, fileLines, printed}

@@ -1,10 +1,9 @@
 -- Numbers of a file's reading are bounded by its length: the places of its links, and its faces.
 use Prim.Native.Nat.{ℕ, zero, suc, _+_, _-_, _≤_}
 use native.Mathlib.Omega.{arith}
-use native.Mathlib.Nat.{min-le-left}
 use mathlib.Core.List.{List, [], _∷_}
 use lib.Dec.{eqb}
-use lib.ListN.{length, getD, drop, length-take}
+use lib.ListN.{length, getD}
 use Rattle.le.proofs.Tests.{by-test}
 use Rattle.kinds.specs.Kinds.{isKnown}
 use Rattle.table.specs.declared.Row.{Row}
@@ -17,6 +16,7 @@ use Rattle.judge.specs.Properties.{ruleAt}
 use Rattle.format.specs.Rows.{bodyOf}
 use Rattle.format.specs.Layout.{Each}
 use Rattle.format.proofs.Each.{each-append}
+use Rattle.format.proofs.Rows.{body-length}
 use Rattle.links.specs.declared.Linked.{Linked}
 use Rattle.links.specs.Links.{Link, linksAt, linksFrom, refusalOf, unless, resolved}
 use Rattle.reader.specs.Contract.{RowOk}
@@ -36,9 +36,6 @@ at-lie all ls row start size s [] fits h = tt
 at-lie all ls row start size s (at ∷ more) fits h =
     let ih = at-lie all ls row start size s more fits (h .1) in
     by-test (eqb (ruleAt ls s at .held) (linkTo 0 .held)) (λ t. rw t (omega (arith, h .0), ih)) (λ t. rw t ih)
-
-pub body-length : (s : List ℕ) (r : Row) → length (bodyOf s r) ≤ r .end - r .start
-body-length s r = rw (length-take (r .end - r .start) (drop (r .start) s)) (min-le-left _ _)
 
 pub links-lie : (s : List ℕ) (all : List Row) (size n i : ℕ) (rs : List Row) → Each (RowOk size n) rs → Each (Lies size) (linksFrom s all i rs)
 unfolding linksFrom

@@ -199,7 +199,7 @@ abbrev accepts : Reading → Bool
 accepts (Accepted a) = true
 accepts (Refused n p) = false
 
-has-room : (s t : List ℕ) {a : Account} → readingOf s t ≡ Accepted a → hasRoom t ≡ true
+pub has-room : (s t : List ℕ) {a : Account} → readingOf s t ≡ Accepted a → hasRoom t ≡ true
 unfolding readingOf
 has-room s t r = by-test (hasRoom t) (λ h. h) (λ h. absurd (false≢true (ap accepts (rw h at r))))
 

@@ -8,3 +8,4 @@ pub mod Exactly
 pub mod Bounds
 pub mod Sizes
 pub mod Whole
+pub mod Numbers

@@ -1,11 +1,10 @@
 -- Loops over a table's rows: what the row in turn adds, the rest being the rows from it on.
 use Prim.Native.Nat.{ℕ, zero, suc, _+_, _-_, _≤_, _<_}
-use native.Mathlib.Numerals.{add-one}
-use native.Mathlib.Nat.{zero-add, add-zero, add-assoc, sub-zero}
+use native.Mathlib.Nat.{zero-add, add-zero, add-assoc}
 use native.Mathlib.Omega.{arith}
 use mathlib.Core.Path.{_≡_, refl, sym, _∙_}
 use mathlib.Core.Bool.{true, false, _&&_}
-use mathlib.Core.List.{List, [], _∷_}
+use mathlib.Core.List.{List}
 use lib.Dec.{eqb}
 use lib.ListN.{length, getD, set}
 use lib.Seq.{getD-set-same, getD-set-other}
@@ -14,28 +13,14 @@ use Rattle.le.proofs.Tests.{by-test}
 use Rattle.kinds.specs.Kinds.{bone, isKnown}
 use Rattle.table.specs.declared.Row.{Row}
 use Rattle.table.specs.Table.{rowAt, rowsAt}
+use Rattle.table.proofs.Rests.{rest, rest-all, rest-more, rest-none}
 use Rattle.judge.specs.declared.Judged.{Judged}
 use Rattle.judge.specs.Contract.{Bounded}
 use Rattle.format.specs.Rows.{ownBytes, bodyOf}
+use Rattle.format.proofs.Rows.{body-length}
 use Rattle.reader.specs.declared.Ruled.{Ruled}
 use Rattle.reader.specs.Reading.{bonesUnder, judgedWith, ruledBy, ruled, ownKnown, ownUnknown}
 use Rattle.reader.specs.Contract.{RowOk, RowsOk}
-use Rattle.reader.proofs.Bounds.{body-length}
-
--- of n rows, those from row i on
-abbrev pub rest : (t : List ℕ) (n i : ℕ) → List Row
-rest t n i = rowsAt t i (n - i)
-
-pub rest-all : (t : List ℕ) (n : ℕ) → rest t n 0 ≡ rowsAt t 0 n
-rest-all t n = rw (sub-zero n)
-
-pub rest-more : (t : List ℕ) (n i : ℕ) → i < n → rest t n i ≡ rowAt t i ∷ rest t n (i + 1)
-unfolding rowsAt
-rest-more t n i h = let one : n - i ≡ suc (n - (i + 1)) = omega arith in rw (one, add-one i)
-
-pub rest-none : (t : List ℕ) (n i : ℕ) → n ≤ i → rest t n i ≡ []
-unfolding rowsAt
-rest-none t n i h = let none : n - i ≡ 0 = omega arith in rw none
 
 -- ---- Bones
 pub bones-few : (t : List ℕ) (k n p : ℕ) → bonesUnder (rowsAt t k n) p ≤ n

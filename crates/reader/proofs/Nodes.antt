@@ -19,7 +19,7 @@ use Rattle.valid.specs.Valid.{bones, EachKnown}
 use Rattle.reader.specs.Reading.{bonesUnder}
 use Rattle.reader.proofs.Counts.{Outside, Inside, bones-below, inside-below, inside-beside, outside-beside, inside-next, outside-next}
 
-part : (s a b c : List ℕ) (at : ℕ) → s ≡ a ++ (b ++ c) → at ≡ length a → take (at + length b - at) (drop at s) ≡ b
+pub part : (s a b c : List ℕ) (at : ℕ) → s ≡ a ++ (b ++ c) → at ≡ length a → take (at + length b - at) (drop at s) ≡ b
 part s a b c at e h =
     let n : at + length b - at ≡ length b = omega arith in
     rw (e, n, h) (rw (drop-append-seam a (b ++ c)) (take-append-seam b c))

@@ -17,7 +17,7 @@ use Rattle.format.specs.Rows.{rowsOf, ownBytes, allOwnBytes}
 use Rattle.format.specs.Layout.{Each}
 use Rattle.format.proofs.Headers.{length-fileHeader}
 use Rattle.format.proofs.Each.{each-map}
-use Rattle.format.proofs.Rows.{ownBytesAddUp}
+use Rattle.format.proofs.Rows.{body-length, ownBytesAddUp}
 use Rattle.valid.specs.Valid.{bones, NodeRuled, Valid}
 use Rattle.valid.proofs.Rules.{obeyed, accepted}
 use Rattle.valid.proofs.Sizes.{faces-most}
@@ -29,7 +29,6 @@ use Rattle.reader.specs.Acceptance.{rowFaces, facesOf}
 use Rattle.reader.proofs.Counts.{own-under}
 use Rattle.reader.proofs.Nodes.{KnownRow, UnknownRow, each-known}
 use Rattle.reader.proofs.Judging.{judged-known, judged-unknown}
-use Rattle.reader.proofs.Bounds.{body-length}
 use Rattle.reader.proofs.Exactly.{verdict-valid, valid-answer}
 
 -- ---- faces, row by row

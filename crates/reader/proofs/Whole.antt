@@ -13,6 +13,7 @@ use Rattle.kinds.specs.declared.Parent.the-variants.{None}
 use Rattle.table.specs.declared.Row.{Row}
 use Rattle.table.specs.Table.{blank, noParent, rowAt, rowsAt, putRows, hasRoom, cleared}
 use Rattle.table.proofs.Clearing.{cleared-again, filled-putRows, rowAt-filled}
+use Rattle.table.proofs.Plans.{rows-filled}
 use Rattle.format.specs.declared.OwnBytes.{OwnBytes}
 use Rattle.format.specs.Forest.{Forest, nodes, encode, count, fileHeader, fileOf}
 use Rattle.format.specs.Rows.{rows, rowsOf}
@@ -39,7 +40,7 @@ each-get P [] d h i b = absurd (omega arith)
 each-get P (r ∷ rs) d h zero b = h .0
 each-get P (r ∷ rs) d h (suc i) b = each-get P rs d (h .1) i (omega arith)
 
-each-rows : (P : Row → Type 0) (t : List ℕ) (k n : ℕ) → ((i : ℕ) → i < n → P (rowAt t (k + i))) → Each P (rowsAt t k n)
+pub each-rows : (P : Row → Type 0) (t : List ℕ) (k n : ℕ) → ((i : ℕ) → i < n → P (rowAt t (k + i))) → Each P (rowsAt t k n)
 unfolding rowsAt
 each-rows P t k zero h = tt
 each-rows P t k (suc n) h =
@@ -48,21 +49,13 @@ each-rows P t k (suc n) h =
       each-rows P t (suc k) n (λ i b. let next : k + suc i ≡ suc k + i = omega arith in subst (λ j. P (rowAt t j)) next (h (suc i) (omega arith))),
     )
 
-rows-are : (t : List ℕ) (k : ℕ) (rs : List Row) → ((j : ℕ) → j < length rs → rowAt t (k + j) ≡ getD rs j blank) → rowsAt t k (length rs) ≡ rs
-unfolding rowsAt
-rows-are t k [] h = refl
-rows-are t k (r ∷ rs) h =
-    let first : rowAt t k ≡ r = (let z : k ≡ k + 0 = omega arith in ap (rowAt t) z) ∙ h 0 (omega arith) in
-    let rest = rows-are t (suc k) rs (λ j b. (let z : suc k + j ≡ k + suc j = omega arith in ap (rowAt t) z) ∙ h (suc j) (omega arith)) in
-    rw (first, rest)
-
 -- rows that were put into a cleared table with room
 module _ (t : List ℕ) (rs : List Row) (room : hasRoom t ≡ true) (few : length rs ≤ 1024) where
   put-rowAt : (j : ℕ) → j < length rs → rowAt (putRows (cleared t) 0 rs) j ≡ getD rs j blank
   put-rowAt j b = ap (λ u. rowAt u j) (filled-putRows t rs room few) ∙ rowAt-filled t rs room few j (omega arith)
 
   pub put-rows : rowsAt (putRows (cleared t) 0 rs) 0 (length rs) ≡ rs
-  put-rows = rows-are (putRows (cleared t) 0 rs) 0 rs (λ j b. (let z : 0 + j ≡ j = omega arith in ap (rowAt (putRows (cleared t) 0 rs)) z) ∙ put-rowAt j b)
+  put-rows = ap (λ u. rowsAt u 0 (length rs)) (filled-putRows t rs room few) ∙ rows-filled t rs room few
 
   pub put-ok : (size : ℕ) → Each (RowOk size (length rs)) rs → RowsOk size (putRows (cleared t) 0 rs) (length rs)
   put-ok size h i b = subst (RowOk size (length rs)) (sym (put-rowAt i b)) (each-get (RowOk size (length rs)) rs blank h i b)

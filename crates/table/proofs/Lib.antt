@@ -1,2 +1,4 @@
 pub mod Rows
 pub mod Clearing
+pub mod Plans
+pub mod Rests

@@ -1,10 +1,10 @@
 -- Document 01's table: "One row of eight u32 per node, in the file order of their headers: kind, hash low, hash high,
 -- parent row (0xFFFFFFFF for none), body start, body end, property count, child count." The layout is known here alone.
-use Prim.Native.Nat.{ℕ, zero, suc, _+_, _-_, _*_}
-use mathlib.Core.Bool.{Bool, cond}
+use Prim.Native.Nat.{ℕ, zero, suc, _+_, _-_, _*_, _/_, _%_}
+use mathlib.Core.Bool.{Bool, cond, _&&_}
 use mathlib.Core.List.{List, [], _∷_, _++_}
-use lib.Dec.{leb}
-use lib.ListN.{length, getD, drop, replicate}
+use lib.Dec.{eqb, leb}
+use lib.ListN.{length, getD, take, drop, replicate}
 use lib.Seq.{sets}
 use Rattle.table.specs.declared.Row.{Row}
 
@@ -77,3 +77,17 @@ flat (r ∷ rs) = fields r ++ flat rs
 -- rest as it was
 unfoldable pub filled : List Row → List ℕ → List ℕ
 filled rs t = flat rs ++ replicate (8192 - length rs * 8) 0 ++ drop 8192 t
+
+-- ---- a plan: document 01's "plan rows", lent as their numbers
+
+-- how many rows lie wholly in some numbers
+abbrev pub rowCount : List ℕ → ℕ
+rowCount t = length t / 8
+
+-- not 20: "plan length not a multiple of 8 or over 1,024 rows"
+abbrev pub isPlan : List ℕ → Bool
+isPlan t = eqb (length t % 8) 0 && leb (rowCount t) 1024
+
+-- the numbers of a table's first n rows: a plan if n is at most 1,024 and all of them lie in the table
+abbrev pub firstRows : List ℕ → (n : ℕ) → List ℕ
+firstRows t n = take (n * 8) t

@@ -3,7 +3,7 @@ ghost use mathlib.Core.Path.{_≡_};
 ghost use Prim.Native.Nat.{_+_, _*_, _≤_};
 ghost use lib.ListN.{length};
 ghost use lib.Seq.{sets};
-ghost use Rattle.table.specs.Table.{hasRow, rowFrom, rowAt, fields, withRow, hasRoom, zeroed, cleared};
+ghost use Rattle.table.specs.Table.{hasRow, rowFrom, rowAt, fields, withRow, hasRoom, zeroed, cleared, rowCount, isPlan};
 
 // A node: its kind, the halves of its hash, its parent's row (0xFFFFFFFF for none), where its body starts and ends, its
 // property count and its child count.
@@ -119,4 +119,18 @@ pub fn clear(table: &mut [u32])
     if has_room(table) {
         zero(table);
     }
+}
+
+// How many rows lie wholly in some numbers.
+pub fn row_count(numbers: &[u32]) -> usize
+    ensures { λ r. ⌜ r ≡ rowCount (now (numbers .entry)) ⌝ }
+{
+    numbers.len() / 8
+}
+
+// Whether some numbers are a plan: whole rows, at most 1,024.
+pub fn is_plan(numbers: &[u32]) -> bool
+    ensures { λ r. ⌜ r ≡ isPlan (now (numbers .entry)) ⌝ }
+{
+    (numbers.len() % 8 == 0) & (numbers.len() / 8 <= 1024)
 }

@@ -1,7 +1,6 @@
 -- Laws of texts: what has room, the digits of a number, and their stores from the last to the first.
 use Prim.Native.Nat.{ℕ, zero, suc, _+_, _-_, _/_, _%_, _^_, _≤_, _<_}
 use native.Mathlib.Nat.{add-zero, pow-suc, div-lt-iff-lt-mul}
-use native.Mathlib.Numerals.{add-one}
 use native.Mathlib.Omega.{arith}
 use mathlib.Core.Path.{_≡_, refl, ap, sym, _∙_}
 use mathlib.Core.List.{List, [], _∷_, _++_}
@@ -10,7 +9,7 @@ use lib.ListN.{length, getD, take, drop, set, length-append, drop-of-length-le}
 use lib.Seq.{sets, length-sets, length-take-le, take-all, take-suc, drop-cons, take-at, getD-at}
 use borrow.Author.Tests.{lt-ltb, le-ltb, le-leb, lt-leb, leb-true, leb-false}
 use Rattle.le.proofs.Tests.{by-test}
-use Rattle.le.proofs.Stores.{sets-append, sets-next, set-sets}
+use Rattle.le.proofs.Stores.{sets-append, set-sets}
 use Rattle.text.specs.Text.{fitted, written, behind, glyph, digits, sizeIn, decimalSize}
 
 -- ---- room
@@ -148,14 +147,6 @@ stored-one d at base all out (suc l) rest h s =
 pub stored-all : (d : List ℕ) (at base : ℕ) (all out : List ℕ) (left rest : ℕ) → left ≤ 0 → Stored d at base all out left rest → out ≡ sets d at all
 stored-all d at base all out zero rest h s = s .stored ∙ ap (λ k. sets d k all) (add-zero at)
 stored-all d at base all out (suc l) rest h s = absurd (omega arith)
-
--- ---- a text that grows by its next byte
-pub text-next : (d : List ℕ) (at : ℕ) (text : List ℕ) (i : ℕ) → i < length text → (out : List ℕ) → out ≡ sets d at (take i text)
-    → set out (at + i) (getD text i 0) ≡ sets d at (take (i + 1) text)
-text-next d at text i h out e =
-    let here : length (take i text) ≡ i = length-take-le i text (omega arith) in
-    let more : take (i + 1) text ≡ take i text ++ (getD text i 0 ∷ []) = rw (add-one i) (take-suc text i 0 h) in
-    sets-next d at (take i text) (getD text i 0) here e ∙ ap (sets d at) (sym more)
 
 -- ---- a label, and then digits
 pub label-digits : (out : List ℕ) (at : ℕ) (label number : List ℕ) (k : ℕ) {first both : List ℕ} → length number ≡ k → (at + length label) + k ≤ length out

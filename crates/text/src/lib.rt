@@ -27,17 +27,6 @@ pub fn decimal_size(n: u64) -> usize
     k
 }
 
-fn write_text(out: &mut [u8], at: usize, text: &[u8])
-    requires { ⌜ at + length (now text) ≤ length (now out) ⌝ }
-    ensures { λ _. ⌜ now (out .exit) ≡ sets (now (out .entry)) at (now (text .entry)) ⌝ }
-{
-    let mut i: usize = 0;
-    while i < text.len() {
-        out[at + i] = text[i];
-        i += 1;
-    }
-}
-
 // Writes the k lowest digits of a number in a base, from the last to the first.
 fn write_digits(out: &mut [u8], at: usize, n: u64, base: u64, k: usize)
     requires { ⌜ (at + k ≤ length (now out)) × (2 ≤ base) × (base ≤ 16) ⌝ }
@@ -68,7 +57,7 @@ fn put_number(out: &mut [u8], at: usize, label: &[u8], n: u64, base: u64, k: usi
         return at;
     }
     let next = at + label.len();
-    write_text(out, at, label);
+    le::put_bytes(out, at, label);
     write_digits(out, next, n, base, k);
     next + k
 }

@@ -10,6 +10,7 @@ mod print;
 mod reads;
 mod rows;
 mod walks;
+mod writes;
 
 use crate::frame::Frame;
 
@@ -74,5 +75,9 @@ fn dispatch(f: Frame, first: &[u8], second: &[u8]) {
     }
     if f.function < 34 {
         listings::one(f, first, second);
+        return;
+    }
+    if f.function < 36 {
+        writes::one(f, first, second);
     }
 }

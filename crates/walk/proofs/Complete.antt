@@ -15,8 +15,8 @@ use Rattle.kinds.specs.Kinds.{isKnown, mayStand}
 use Rattle.table.specs.declared.Row.{Row}
 use Rattle.table.specs.Table.{noParent}
 use Rattle.format.specs.Forest.{Forest, end, known, unknown, count, nodes, encode, header, fileHeader, fileOf}
-use Rattle.format.specs.Rows.{nodeRow, rows}
-use Rattle.format.specs.Layout.{WellFormed, WellFormedFile, Placed}
+use Rattle.format.specs.Rows.{nodeRow, rows, rowsOf}
+use Rattle.format.specs.Layout.{WellFormed, WellFormedFile, Placed, Few}
 use Rattle.format.proofs.Headers.{length-header, header-drop, length-fileHeader, fileHeader-drop, fileHeader-first, fileHeader-version, fileHeader-roots, fileHeader-flags}
 use Rattle.format.proofs.Rows.{length-rows, rows-unknown, rows-known}
 use Rattle.format.proofs.Bodies.{body-good}
@@ -25,7 +25,7 @@ use Rattle.walk.specs.Walk.{Walked, behind, unknownNode, knownNode, insi
 use Rattle.walk.specs.Statements.{Complete, Others}
 use Rattle.walk.proofs.Laws.{node-unknown, node-known, body-passed}
 use Rattle.walk.proofs.Lists.{list-done}
-use Rattle.walk.proofs.Outcomes.{headed, header-at, verdict, Shallow, shallow-most, shallow-below, Whole, Barred, Outcome, list-barred, Begins, list-on, judged}
+use Rattle.walk.proofs.Outcomes.{headed, header-at, verdict, Shallow, shallow-most, shallow-below, Whole, Bars, bars-more, told, Barred, Outcome, list-barred, Begins, list-on, judged}
 
 -- ---- an unknown node, and those next to it
 module _ (parent : Parent) (above depth at row : ℕ) (k h p c : ℕ) (rest : List ℕ) (next : Forest) (wf : WellFormed (unknown k h p c rest next))
@@ -157,7 +157,7 @@ module _ (parent : Parent) (above depth at row : ℕ) (k h p : ℕ) (body : List
           (others (omega (arith, o .few, known-listed)))
       by m e (inr o) =
           list-barred parent above depth at row knownBytes (known k h p body kids next) (count next)
-          (subst (λ n. (n ≡ 6) ⊎ (n ≡ 7)) (sym (ap (λ v. v .number) e)) (o .number))
+          (subst (Bars (row + nodes (known k h p body kids next))) (sym (ap (λ v. v .number) e)) (bars-more _ _ (below .number) (omega arith) (o .number)))
           (λ q n. o .barred (q .1) (omega (arith, n)))
 
 -- ---- any nodes
@@ -215,4 +215,16 @@ unfolding fileOf
 others flags f wf n =
     by-outcome f (walkOf (file flags f wf)) (file-outcome flags f wf)
     (λ o. absurd (n (o .placed, omega (arith, o .few))))
-    (λ o. o .number)
+    (λ o. by (walkOf (file flags f wf) .number) (o .number))
+  where
+    by : (m : ℕ) → Bars (0 + nodes f) m → (m ≡ 6) ⊎ ((m ≡ 7) × (Few f → ⊥))
+    by m (inl e) = inl e
+    by m (inr e) = inr (e .0, λ few. omega (arith, e .1, few))
+
+-- where the walk accepts the bytes of a well-formed forest, it came to that forest's rows
+pub walked-back : (flags : ℕ) (f : Forest) → WellFormedFile flags f → walkOf (fileOf flags f) .number ≡ 0 → walkOf (fileOf flags f) .rows ≡ rowsOf f
+unfolding fileOf
+walked-back flags f wf e =
+    by-outcome f (walkOf (file flags f wf)) (file-outcome flags f wf)
+    (λ o. ap (λ w. w .rows) (o .is))
+    (λ o. absurd (told (0 + nodes f) (walkOf (file flags f wf) .number) (o .number) e))

@@ -70,24 +70,32 @@ pub record Whole (parent : Parent) (above at row : ℕ) (f : Forest) (w : Walked
   pub placed : Placed parent f
   pub few : row + nodes f ≤ 1024
 
+-- a refusal for a kind, or for so many nodes
+abbrev pub Bars : (many number : ℕ) → Type 0
+Bars many n = (n ≡ 6) ⊎ ((n ≡ 7) × (1024 < many))
+
+pub bars-more : (many more n : ℕ) → many ≤ more → Bars many n → Bars more n
+bars-more many more n h (inl e) = inl e
+bars-more many more n h (inr e) = inr (e .0, omega (arith, e .1))
+
 pub record Barred (parent : Parent) (row : ℕ) (f : Forest) (w : Walked) : Type 0 where
-  pub number : (w .number ≡ 6) ⊎ (w .number ≡ 7)
+  pub number : Bars (row + nodes f) (w .number)
   pub barred : Placed parent f → row + nodes f ≤ 1024 → ⊥
 
 abbrev pub Outcome : Parent → ℕ → ℕ → ℕ → Forest → Walked → Type 0
 Outcome parent above at row f w = Whole parent above at row f w ⊎ Barred parent row f w
 
--- a number that is 6 or 7 is a refusal
-told : (n : ℕ) → (n ≡ 6) ⊎ (n ≡ 7) → n ≡ 0 → ⊥
-told n (inl e) z = omega (arith, e, z)
-told n (inr e) z = omega (arith, e, z)
+-- which is a refusal
+pub told : (many n : ℕ) → Bars many n → n ≡ 0 → ⊥
+told many n (inl e) z = omega (arith, e, z)
+told many n (inr e) z = omega (arith, e .0, z)
 
 -- the first node of a list is refused, and with it the list
 module _ (parent : Parent) (above depth at row : ℕ) (bs : List ℕ) (f : Forest) (c : ℕ) where
-  pub list-barred : (nodeAt parent above depth at row bs .number ≡ 6) ⊎ (nodeAt parent above depth at row bs .number ≡ 7)
+  pub list-barred : Bars (row + nodes f) (nodeAt parent above depth at row bs .number)
       → (Placed parent f → row + nodes f ≤ 1024 → ⊥) → Outcome parent above at row f (childrenAt parent above depth (suc c) at row bs)
   list-barred n b =
-      rw (list-refused parent above depth at row bs c (told (nodeAt parent above depth at row bs .number) n))
+      rw (list-refused parent above depth at row bs c (told (row + nodes f) (nodeAt parent above depth at row bs .number) n))
       (inr (record { number = n; barred = b }))
 
 -- the first node is done, and the outcome is that of the others
@@ -115,7 +123,7 @@ module _ (parent : Parent) (above depth at row : ℕ) (bs : List ℕ) (f next : 
       by w (inl o) =
           let far : at + size + length (encode next) ≡ at + length (encode f) = omega (arith, b .long) in
           inl (record { is = ap (behind rs) (o .is) ∙ rw (far, b .listed); placed = b .placed (o .placed); few = omega (arith, o .few, b .numbered) })
-      by w (inr o) = inr (record { number = o .number; barred = λ p q. o .barred (b .others p) (omega (arith, q, b .numbered)) })
+      by w (inr o) = inr (record { number = bars-more _ (row + nodes f) (w .number) (omega (arith, b .numbered)) (o .number); barred = λ p q. o .barred (b .others p) (omega (arith, q, b .numbered)) })
 
 -- the first node by its kind and its row
 pub judged : (parent : Parent) (above depth at row : ℕ) (bs : List ℕ) (f : Forest) (c k : ℕ)
@@ -127,7 +135,7 @@ pub judged : (parent : Parent) (above depth at row : ℕ) (bs : List ℕ) (f : F
 judged parent above depth at row bs f c k v stands some on =
     by-test (mayStand parent k)
     (λ m. by-test (leb 1024 row)
-    (λ q. list-barred parent above depth at row bs f c (inr (number 7 (v ∙ rw (m, q)) (λ z. omega (arith, z))))
+    (λ q. list-barred parent above depth at row bs f c (inr (number 7 (v ∙ rw (m, q)) (λ z. omega (arith, z)), omega (arith, some, leb-true 1024 row q)))
     (λ p n. omega (arith, n, some, leb-true 1024 row q)))
     (λ q. on m (v ∙ rw (m, q)) (leb-false 1024 row q)))
     (λ m. list-barred parent above depth at row bs f c (inl (number 6 (v ∙ rw m) (λ z. omega (arith, z)))) (λ p n. true≢false (sym (stands p) ∙ m)))

@@ -34,10 +34,11 @@ Sound = (s : List ℕ) → AreBytes s → walkOf s .number ≡ 0 → Accepted s
 abbrev pub Complete : Type 0
 Complete = (s : List ℕ) (flags : ℕ) (f : Forest) → Holds s flags f → (walkOf s .number ≡ 0) × (walkOf s .rows ≡ rowsOf f) × (flagsOf s ≡ flags)
 
--- of any other well-formed forest to a refusal that only kinds (6) or number (7) can give. Depth (8) gives none of them.
+-- of any other well-formed forest to a refusal that only kinds (6) or, where there are too many, number (7) can give. Depth
+-- (8) gives none of them.
 abbrev pub Others : Type 0
 Others = (flags : ℕ) (f : Forest) → WellFormedFile flags f → (Placed None f × Few f → ⊥)
-    → (walkOf (fileOf flags f) .number ≡ 6) ⊎ (walkOf (fileOf flags f) .number ≡ 7)
+    → (walkOf (fileOf flags f) .number ≡ 6) ⊎ ((walkOf (fileOf flags f) .number ≡ 7) × (Few f → ⊥))
 
 -- The bound that the definition of a node's walk recurses on never speaks: a node is walked with `childrenAt` below it.
 abbrev pub Unbounded : Type 0

@@ -34,8 +34,20 @@ pub struct Found {
     pub end: usize,
 }
 
+/// What a writing answers.
+#[repr(C)]
+#[derive(Clone, Copy, Debug, Default, PartialEq, Eq)]
+pub struct Written {
+    /// 0 where a file is written, else 20 to 26.
+    pub number: u32,
+    /// The row on 21 to 24, else 0.
+    pub place: u32,
+    /// Of the file; 0 on refusal.
+    pub length: u32,
+}
+
 mod raw {
-    use super::{Found, Reading};
+    use super::{Found, Reading, Written};
 
     extern "C" {
         pub fn cast_read(
@@ -54,6 +66,16 @@ mod raw {
             name: *const u8,
             name_len: usize,
         ) -> Found;
+
+        pub fn cast_write(
+            plan: *const u32,
+            plan_len: usize,
+            source: *const u8,
+            source_len: usize,
+            flags: u32,
+            out: *mut u8,
+            out_len: usize,
+        ) -> Written;
     }
 }
 
@@ -98,5 +120,24 @@ pub fn data<'a>(
     match found.number {
         0 => Ok(&bytes[found.start..found.end]),
         _ => Err(found),
+    }
+}
+
+/// Writes the plan's rows, with their bodies out of the source, as a file at the output's start. What
+/// lies past the file stays as it is, and on refusal the whole output.
+pub fn write(plan: &[u32], source: &[u8], flags: u32, out: &mut [u8]) -> Written {
+    // SAFETY: each pointer and length are those of a live slice: aligned, not null even where it is
+    // empty, and of at most isize::MAX bytes; being lent for writing, the output overlaps no other.
+    // The function reads and writes inside them and keeps no pointer.
+    unsafe {
+        raw::cast_write(
+            plan.as_ptr(),
+            plan.len(),
+            source.as_ptr(),
+            source.len(),
+            flags,
+            out.as_mut_ptr(),
+            out.len(),
+        )
     }
 }

@@ -1,4 +1,4 @@
-/* Reads files and looks names up through the header, and prints each answer on a line. */
+/* Reads and writes files and looks names up through the header, and prints each answer on a line. */
 
 #include "cast.h"
 
@@ -20,6 +20,11 @@ _Static_assert(sizeof(struct cast_reading) == 36, "nothing follows links");
 _Static_assert(offsetof(struct cast_found, place) == 4, "place follows number");
 _Static_assert(offsetof(struct cast_found, start) == 8, "start follows place");
 _Static_assert(sizeof(struct cast_found) == 8 + 2 * sizeof(size_t), "nothing follows end");
+
+_Static_assert(offsetof(struct cast_written, number) == 0, "number is first");
+_Static_assert(offsetof(struct cast_written, place) == 4, "place follows number");
+_Static_assert(offsetof(struct cast_written, length) == 8, "length follows place");
+_Static_assert(sizeof(struct cast_written) == 12, "nothing follows length");
 
 /* A root with a Model and an unknown node. The Model has a Mesh of three vertices and two faces, one of them degenerate,
    with a link to the Material after it. */
@@ -65,6 +70,23 @@ static void print_row(size_t row)
         printf(i < 7 ? "%" PRIu32 " " : "%" PRIu32 "\n", rows[8 * row + i]);
 }
 
+static uint8_t out[sizeof file + 8];
+
+/* Writes numbers of the table that was read last. Prints the answer, then how many bytes at the output's start are the
+   file's, and how many at its end are as they were. */
+static void write_file(size_t plan_len, size_t source_len, size_t out_len)
+{
+    for (size_t i = 0; i < sizeof out; i++)
+        out[i] = 0xA5;
+    struct cast_written w = cast_write(rows, plan_len, file, source_len, 0x01020304, out, out_len);
+    size_t same = 0, kept = 0;
+    while (same < sizeof file && out[same] == file[same])
+        same++;
+    while (kept < sizeof out && out[sizeof out - 1 - kept] == 0xA5)
+        kept++;
+    printf("%" PRIu32 " %" PRIu32 " %" PRIu32 " output %zu %zu\n", w.number, w.place, w.length, same, kept);
+}
+
 /* Two properties named n: the string ab, then the byte 7. */
 static const uint8_t bytes[] = {0xEE, 0x73, 0, 1, 0, 1, 0, 0, 0, 'n', 'a', 'b', 0, 0x62, 0, 1, 0, 1, 0, 0, 0, 'n', 7};
 /* A row with both, and one that has them as a single property. */
@@ -84,6 +106,17 @@ int main(void)
     read_file(sizeof file, ROOM);
     for (size_t row = 0; row < 5; row++)
         print_row(row);
+
+    write_file(40, sizeof file, sizeof file);
+    write_file(40, sizeof file, sizeof out);
+    write_file(40, sizeof file, sizeof file - 1);
+    write_file(40, sizeof file - 1, sizeof out);
+    write_file(39, sizeof file, sizeof out);
+    write_file(32, sizeof file, sizeof out);
+    write_file(ROOM, sizeof file, sizeof out);
+    write_file(MORE, sizeof file, sizeof out);
+    write_file(0, 0, sizeof out);
+    write_file(0, 0, 0);
 
     ask(sizeof bytes, 8, 0, "n", 1);
     ask(sizeof bytes, 7, 0, "n", 1);

@@ -20,6 +20,7 @@ pub mod samples;
 mod table;
 mod types;
 mod walks;
+mod writes;
 
 use frame::Cases;
 
@@ -49,6 +50,8 @@ pub mod function {
     pub const READ: u32 = 31;
     pub const LIST: u32 = 32;
     pub const LINE: u32 = 33;
+    pub const WRITE: u32 = 34;
+    pub const WRITE_PARTS: u32 = 35;
 }
 
 /// The whole of standard input, the whole of standard output, and the number of cases.
@@ -71,5 +74,6 @@ pub fn make() -> Vectors {
     walks::add(&mut cases);
     reads::add(&mut cases);
     listings::add(&mut cases);
+    writes::add(&mut cases);
     cases.finish()
 }

@@ -13,8 +13,8 @@ fn the_committed_cases_are_current() {
         made.stdout.len()
     );
     assert!(
-        made.stdin.len() + made.stdout.len() < 4 << 20,
-        "four megabytes are enough"
+        made.stdin.len() + made.stdout.len() < 5 << 20,
+        "five megabytes are enough"
     );
     for (name, bytes) in [("stdin", &made.stdin), ("stdout", &made.stdout)] {
         let committed = fs::read(program.join(name)).expect("the file is there");

@@ -5,7 +5,8 @@ use mathlib.Core.Path.{_≡_, sym, _∙_}
 use mathlib.Core.Logic.{⊎-elim}
 use Rattle.table.specs.Table.{rowsAt}
 use Rattle.reader.specs.Reading.{ownKnown, ownUnknown}
-use Rattle.reader.proofs.Loops.{rest, rest-all, own-known, own-unknown, own-ended}
+use Rattle.table.proofs.Rests.{rest, rest-all}
+use Rattle.reader.proofs.Loops.{own-known, own-unknown, own-ended}
 use borrow.Author.Needs.{needs}
 use Rattle.reader.proofs.own_of.Statement.{statement}
 use Rattle.reader.proofs.own_of.Tie as tie

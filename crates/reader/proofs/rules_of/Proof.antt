@@ -5,7 +5,8 @@ use mathlib.Core.Path.{_≡_, sym, _∙_}
 use lib.ListN.{length}
 use Rattle.table.specs.Table.{rowsAt}
 use Rattle.reader.specs.Reading.{bonesUnder, ruled}
-use Rattle.reader.proofs.Loops.{rest, onTop, row-place, rules-begun, rules-refused, rules-passed, rules-ended}
+use Rattle.table.proofs.Rests.{rest}
+use Rattle.reader.proofs.Loops.{onTop, row-place, rules-begun, rules-refused, rules-passed, rules-ended}
 use borrow.Author.Needs.{needs}
 use Rattle.reader.proofs.rules_of.Statement.{statement}
 use Rattle.reader.proofs.rules_of.Tie as tie

@@ -32,8 +32,8 @@ returns-3 c =
 add-next : tie.Need-add-next
 add-next c = omega arith
 
-write-text-requires : tie.Need-write-text-requires
-write-text-requires c κs = omega arith
+put-bytes-requires : tie.Need-put-bytes-requires
+put-bytes-requires c κs = search needs
 
 write-digits-requires : tie.Need-write-digits-requires
 write-digits-requires c κs = search needs
@@ -49,7 +49,7 @@ returns-4 c =
     let a = c .before .before .before .before .before .before .before .before .before .before .before .before .before .args in
     let d = digits (a .base) (a .k) (a .n) in
     label-digits (a .out .now) (a .at) (a .label .now) d (a .k) (length-digits (a .base) (a .k) (a .n)) (omega arith)
-    (c .before .before .before .before .before .before .write-text .ensures) (c .before .before .write-digits .ensures)
+    (c .before .before .before .before .before .before .put-bytes .ensures) (c .before .before .write-digits .ensures)
 
 pub put-number-spec : {M : Type 1} → statement M
 put-number-spec =
@@ -60,7 +60,7 @@ put-number-spec =
     returns-2
     returns-3
     add-next
-    write-text-requires
+    put-bytes-requires
     write-digits-requires
     add-result
     same-length

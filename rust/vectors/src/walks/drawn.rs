@@ -9,16 +9,17 @@ use corpus::valid::{file, mixed, Profile};
 const MOST: usize = 700;
 
 pub fn add(walks: &mut Walks) {
-    add_valid(walks, 100);
+    add_valid(walks, 50);
     for &kind in mutate::ALL {
         // What the rules of 13 to 17 refuse, the walk accepts.
         let later = Damage::NameTwice..=Damage::DoubledTarget;
         let (count, most) = match kind {
             Damage::ManyNodes => (0, 0),
-            Damage::ManyProperties => (3, 4_000),
-            Damage::TwoFaults | Damage::ManyFaults => (30, MOST),
-            kind if later.contains(&kind) => (2, MOST),
-            _ => (15, MOST),
+            Damage::ManyProperties => (2, 4_000),
+            Damage::TwoFaults | Damage::ManyFaults => (15, MOST),
+            kind if later.contains(&kind) => (1, MOST),
+            Damage::Version => (15, MOST),
+            _ => (8, MOST),
         };
         add_damaged(walks, kind, count, most);
     }

@@ -1,0 +1,5 @@
+pub mod Headers
+pub mod Sizes
+pub mod Measuring
+pub mod Nodes
+pub mod Whole

@@ -1,0 +1,23 @@
+-- What private functions ask and promise.
+use Prim.Native.Nat.{ℕ, _+_, _-_, _≤_, _<_}
+use mathlib.Core.Path.{_≡_}
+use mathlib.Core.Bool.{Bool, true, false}
+use mathlib.Core.List.{List}
+use lib.ListN.{length, getD}
+use Rattle.table.specs.Table.{rowAt, rowsAt}
+use Rattle.emit.specs.declared.Measured.{Measured}
+use Rattle.emit.specs.Emission.{sizeOf, nodesBytes, roots}
+
+-- at place i, the size of row i, of n rows
+abbrev pub Sized : (sizes s t : List ℕ) (n : ℕ) → Type 0
+Sized zs s t n = (i : ℕ) → i < n → getD zs i 0 ≡ sizeOf s i (rowAt t i) (rowsAt t (i + 1) (n - (i + 1)))
+
+-- what was measured of n rows: their file is over 16,777,216 bytes; or it is not, and this is its length, and its roots, and
+-- its sizes
+abbrev pub MeasuredBy : Bool → Measured → (s t : List ℕ) (n : ℕ) (sizes : List ℕ) → Type 0
+MeasuredBy true m s t n zs = 16777216 < 16 + length (nodesBytes s 0 (rowsAt t 0 n))
+MeasuredBy false m s t n zs =
+    (m .length ≡ 16 + length (nodesBytes s 0 (rowsAt t 0 n))) × (m .length ≤ 16777216) × (m .roots ≡ roots (rowsAt t 0 n)) × Sized zs s t n
+
+abbrev pub Measures : Measured → (s t : List ℕ) (n : ℕ) (sizes : List ℕ) → Type 0
+Measures m s t n zs = MeasuredBy (m .over) m s t n zs

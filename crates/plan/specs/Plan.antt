@@ -1,0 +1,71 @@
+-- Document 01's writer, 21 to 24: "then by row: 21 parent wrong (none exactly for Root; else an earlier known row that is the
+-- previous row or an ancestor of it), 22 body end before its start or past the source, 23 a known row's body is not exactly its
+-- count (at most 64) of properties by the rules of 9 to 11, 24 a known row's child count is not the rows naming it". "All of 21
+-- to 24 are judged for one row before the next. The place is the row for these."
+use Prim.Native.Nat.{ℕ, zero, suc}
+use mathlib.Core.Bool.{Bool, false, cond, not, _||_}
+use mathlib.Core.List.{List, [], _∷_}
+use lib.Dec.{eqb, ltb}
+use lib.ListN.{length}
+use Rattle.kinds.specs.Kinds.{root, isKnown}
+use Rattle.table.specs.declared.Row.{Row}
+use Rattle.table.specs.Table.{noParent}
+use Rattle.body.specs.Body.{exactly}
+use Rattle.format.specs.Rows.{bodyOf}
+use Rattle.plan.specs.declared.Judged.{Judged}
+
+-- ---- 21
+
+-- A row's path: its own number, if it is known, and those of its ancestors, nearest first.
+
+-- the part of a path from a row on; empty where the row is not on it
+unfoldable pub upFrom : (row : ℕ) (path : List ℕ) → List ℕ
+upFrom row [] = []
+upFrom row (q ∷ qs) = cond (eqb q row) (q ∷ qs) (upFrom row qs)
+
+-- the path of row k, given the previous row's
+unfoldable pub pathOf : (k : ℕ) → Row → (previous : List ℕ) → List ℕ
+pathOf k r previous = let above = upFrom (r .parent) previous in cond (isKnown (r .kind)) (k ∷ above) above
+
+-- whether a row is on a path
+unfoldable pub isOn : (row : ℕ) (path : List ℕ) → Bool
+isOn row [] = false
+isOn row (q ∷ qs) = eqb q row || isOn row qs
+
+-- "none exactly for Root; else an earlier known row that is the previous row or an ancestor of it"
+unfoldable pub rightParent : Row → (previous : List ℕ) → Bool
+rightParent r previous = cond (eqb (r .kind) root) (eqb (r .parent) noParent) (isOn (r .parent) previous)
+
+-- ---- 22: "body end before its start or past the source"
+abbrev pub outside : (size : ℕ) → Row → Bool
+outside size r = ltb (r .end) (r .start) || ltb size (r .end)
+
+-- ---- 24: how many are "the rows naming it", among all rows of the plan, be they wrong themselves
+unfoldable pub naming : List Row → (row : ℕ) → ℕ
+naming [] row = 0
+naming (r ∷ rs) row = cond (eqb (r .parent) row) (suc (naming rs row)) (naming rs row)
+
+-- ---- one row, and all
+
+-- a row's refusal, 0 for none, by the source, the previous row's path and the number of rows naming this one
+unfoldable pub rowRefusal : (s : List ℕ) (previous : List ℕ) (named : ℕ) → Row → ℕ
+rowRefusal s previous named r =
+    cond (not (rightParent r previous)) 21
+    (cond (outside (length s) r) 22
+    (cond (not (isKnown (r .kind))) 0
+    (cond (not (exactly (bodyOf s r) (r .properties))) 23
+    (cond (not (eqb (r .children) named)) 24 0))))
+
+-- a refusal by its number, or what comes where there is none
+abbrev pub byNumber : ℕ → (k : ℕ) → Judged → Judged
+byNumber zero k next = next
+byNumber (suc n) k next = record { number = suc n; row = k }
+
+-- the first refusal of the rows from row k on; `all` are the plan's rows
+unfoldable pub judgedFrom : (s : List ℕ) (all : List Row) (k : ℕ) (previous : List ℕ) → List Row → Judged
+judgedFrom s all k previous [] = record { number = 0; row = 0 }
+judgedFrom s all k previous (r ∷ rs) =
+    byNumber (rowRefusal s previous (naming all k) r) k (judgedFrom s all (suc k) (pathOf k r previous) rs)
+
+unfoldable pub judged : (s : List ℕ) → List Row → Judged
+judged s rows = judgedFrom s rows 0 [] rows

@@ -1,0 +1,139 @@
+// Judging a plan: refusals 21 to 24 of its rows over the source's bytes.
+ghost use mathlib.Core.Path.{_≡_};
+ghost use Prim.Native.Nat.{ℕ, _≤_, _<_, min};
+ghost use lib.ListN.{length, getD};
+ghost use Rattle.kinds.specs.Kinds.{isKnown};
+ghost use Rattle.table.specs.Table.{noParent, rowsAt};
+ghost use Rattle.plan.specs.Plan.{rightParent, isOn, rowRefusal, judged};
+ghost use Rattle.plan.specs.Plan.{outside as Plan·outside};
+ghost use Rattle.plan.specs.Contract.{pathAt, Climbs, Counted};
+
+const ROOT: u32 = 0x746F6F72;
+
+const NONE: u32 = 0xFFFFFFFF;
+
+// Number 0, or a refusal's number and the row that it is found at.
+pub struct Judged {
+    pub number: u32,
+    pub row: u32,
+}
+
+// Counts the rows that name each row as their parent, in one pass.
+fn count_children(plan: &[u32], rows: usize, counts: &mut [u32])
+    requires { ⌜ (rows ≤ 1024) × (length (now counts) ≡ 1024) × ((p : ℕ) → getD (now counts) p 0 ≡ 0) ⌝ }
+    ensures { λ _. ⌜ Counted (now (counts .exit)) (rowsAt (now (plan .entry)) 0 rows) ⌝ }
+{
+    let mut i: usize = 0;
+    while i < rows {
+        let row = table::row_at(plan, i);
+        let parent = row.parent as usize;
+        if parent < 1024 {
+            counts[parent] = counts[parent] + 1;
+        }
+        i += 1;
+    }
+}
+
+// Whether a row is on the path of the row before row `index`; the climb starts at `from`, the first of that path. Over a
+// whole plan each row is passed at most once: a row that was passed is on no later path.
+fn is_above(plan: &[u32], index: usize, from: u32, row: u32) -> bool
+    requires { ⌜ Climbs (now plan) noParent from (pathAt (now plan) index) ⌝ }
+    ensures { λ r. ⌜ r ≡ isOn row (pathAt (now (plan .entry)) index) ⌝ }
+{
+    let mut at = from;
+    while at != NONE {
+        if at == row {
+            return true;
+        }
+        let r = table::row_at(plan, at as usize);
+        at = r.parent;
+    }
+    false
+}
+
+fn right_parent(plan: &[u32], index: usize, row: table::Row, from: u32) -> bool
+    requires { ⌜ Climbs (now plan) noParent from (pathAt (now plan) index) ⌝ }
+    ensures { λ r. ⌜ r ≡ rightParent row (pathAt (now (plan .entry)) index) ⌝ }
+{
+    let parent = row.parent;
+    if row.kind == ROOT {
+        return parent == NONE;
+    }
+    is_above(plan, index, from, parent)
+}
+
+fn outside(size: usize, row: table::Row) -> bool
+    ensures { λ r. ⌜ r ≡ Plan·outside size row ⌝ }
+{
+    let start = row.start as usize;
+    let end = row.end as usize;
+    (end < start) | (size < end)
+}
+
+// A row's refusal, or 0. Whether its kind is known is looked up by the caller, who needs it too.
+fn refusal(
+    plan: &[u32],
+    index: usize,
+    row: table::Row,
+    known: bool,
+    from: u32,
+    source: &[u8],
+    named: u32,
+) -> u32
+    requires { ⌜ Climbs (now plan) noParent from (pathAt (now plan) index) × (known ≡ isKnown (row .kind)) ⌝ }
+    ensures { λ r. ⌜ r ≡ rowRefusal (now (source .entry)) (pathAt (now (plan .entry)) index) named row ⌝ }
+{
+    if !right_parent(plan, index, row, from) {
+        return 21;
+    }
+    if outside(source.len(), row) {
+        return 22;
+    }
+    if !known {
+        return 0;
+    }
+    let body = format::body_of(source, row);
+    if !body::exact(body, row.properties) {
+        return 23;
+    }
+    if row.children != named {
+        return 24;
+    }
+    0
+}
+
+// The rows in turn.
+fn judge_rows(plan: &[u32], rows: usize, source: &[u8], counts: &[u32]) -> Judged
+    requires { ⌜ (rows ≤ 1024) × (length (now counts) ≡ 1024) × Counted (now counts) (rowsAt (now plan) 0 rows) ⌝ }
+    ensures { λ r. ⌜ r ≡ judged (now (source .entry)) (rowsAt (now (plan .entry)) 0 rows) ⌝ }
+{
+    // The first row on the path of the previous row.
+    let mut from: u32 = NONE;
+    let mut i: usize = 0;
+    while i < rows {
+        let row = table::row_at(plan, i);
+        let known = kinds::known(row.kind);
+        let number = refusal(plan, i, row, known, from, source, counts[i]);
+        if number != 0 {
+            let place = i as u32;
+            return Judged { number, row: place };
+        }
+        if known {
+            from = i as u32;
+        } else {
+            from = row.parent;
+        }
+        i += 1;
+    }
+    Judged { number: 0, row: 0 }
+}
+
+// Judges the first rows of a table, at most 1,024, as a plan over the source.
+pub fn judge(plan: &[u32], rows: usize, source: &[u8]) -> Judged
+    ensures { λ r. ⌜ r ≡ judged (now (source .entry)) (rowsAt (now (plan .entry)) 0 (min rows 1024)) ⌝ }
+{
+    let n = if rows < 1024 { rows } else { 1024 };
+    let mut counts = [0u32; 1024];
+    count_children(plan, n, &mut counts);
+    judge_rows(plan, n, source, &counts)
+}

@@ -1,0 +1,30 @@
+-- Of so many rows of a table, those from a row on: what is left to a loop over them.
+use Prim.Native.Nat.{ℕ, suc, _+_, _-_, _≤_, _<_}
+use native.Mathlib.Numerals.{add-one}
+use native.Mathlib.Nat.{sub-zero}
+use native.Mathlib.Omega.{arith}
+use mathlib.Core.Path.{_≡_}
+use mathlib.Core.List.{List, [], _∷_}
+use Rattle.table.specs.declared.Row.{Row}
+use Rattle.table.specs.Table.{rowAt, rowsAt}
+
+-- of n rows, those from row i on
+abbrev pub rest : (t : List ℕ) (n i : ℕ) → List Row
+rest t n i = rowsAt t i (n - i)
+
+pub rest-all : (t : List ℕ) (n : ℕ) → rest t n 0 ≡ rowsAt t 0 n
+rest-all t n = rw (sub-zero n)
+
+pub rest-first : (t : List ℕ) (n i : ℕ) → i ≤ 0 → rest t n i ≡ rowsAt t 0 n
+rest-first t n i h = let first : i ≡ 0 = omega arith in rw first (rest-all t n)
+
+pub rest-next : (t : List ℕ) (n i : ℕ) → i < n → rest t n i ≡ rowAt t i ∷ rest t n (suc i)
+unfolding rowsAt
+rest-next t n i h = let one : n - i ≡ suc (n - suc i) = omega arith in rw one
+
+pub rest-more : (t : List ℕ) (n i : ℕ) → i < n → rest t n i ≡ rowAt t i ∷ rest t n (i + 1)
+rest-more t n i h = rw (add-one i) (rest-next t n i h)
+
+pub rest-none : (t : List ℕ) (n i : ℕ) → n ≤ i → rest t n i ≡ []
+unfolding rowsAt
+rest-none t n i h = let none : n - i ≡ 0 = omega arith in rw none

@@ -1,0 +1,11 @@
+pub mod Under
+pub mod Paths
+pub mod Order
+pub mod Judged
+pub mod Rebuilt
+pub mod Placed
+pub mod Plans
+pub mod Writing
+pub mod Written
+pub mod Writable
+pub mod RoundTrip

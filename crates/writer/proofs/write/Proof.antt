@@ -1,0 +1,67 @@
+-- `writer::write`: 20, then what judging says, then what emitting says.
+use mathlib.Core.Path.{sym, _∙_}
+use Rattle.writer.proofs.Writing.{no-plan, bad-row, emitted}
+use borrow.Author.Needs.{needs}
+use borrow.Author.Tests.{not-true, not-false}
+use Rattle.writer.proofs.write.Statement.{statement}
+use Rattle.writer.proofs.write.Tie as tie
+
+is-plan-requires : tie.Need-is-plan-requires
+is-plan-requires c κs = search needs
+
+refused-requires : tie.Need-refused-requires
+refused-requires c κs = search needs
+
+returns : tie.Need-returns
+returns c =
+    let p = c .before .before in
+    let a = p .before .before .before .before .args in
+    no-plan (a .plan .now) (a .source .now) (a .flags) (a .out .now) (sym (p .is-plan .ensures) ∙ not-true _ (c .before .if1 .taken)) (c .refused .ensures)
+
+row-count-requires : tie.Need-row-count-requires
+row-count-requires c κs = search needs
+
+judge-requires : tie.Need-judge-requires
+judge-requires c κs = search needs
+
+refused-requires-2 : tie.Need-refused-requires-2
+refused-requires-2 c κs = search needs
+
+returns-2 : tie.Need-returns-2
+returns-2 c =
+    let j = c .before .before .before in
+    let n = j .before in
+    let p = n .before .before in
+    let a = p .before .before .before .before .args in
+    bad-row (a .plan .now) (a .source .now) (a .flags) (a .out .now) (sym (p .is-plan .ensures) ∙ not-false _ (n .before .if1 .left)) (n .row-count .ensures) (j .judge .ensures) (c .before .if2 .taken) (c .refused2 .ensures)
+
+emit-requires : tie.Need-emit-requires
+emit-requires c κs = search needs
+
+same-length : tie.Need-same-length
+same-length c = search needs
+
+returns-3 : tie.Need-returns-3
+returns-3 c =
+    let e = c .before .before in
+    let d = e .before .before in
+    let j = d .before .before in
+    let n = j .before in
+    let p = n .before .before in
+    let a = p .before .before .before .before .args in
+    emitted (a .plan .now) (a .source .now) (a .flags) (a .out .now) (sym (p .is-plan .ensures) ∙ not-false _ (n .before .if1 .left)) (n .row-count .ensures) (j .judge .ensures) (d .if2 .left) (e .emit .ensures .0) (e .emit .ensures .1)
+
+pub write-spec : {M : Type 1} → statement M
+write-spec =
+    tie.close
+    (tie.spec
+    is-plan-requires
+    refused-requires
+    returns
+    row-count-requires
+    judge-requires
+    refused-requires-2
+    returns-2
+    emit-requires
+    same-length
+    returns-3)

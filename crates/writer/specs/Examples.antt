@@ -1,0 +1,56 @@
+-- Small plans, written by the definition.
+use Prim.Native.Nat.{ℕ}
+use mathlib.Core.Path.{_≡_, refl}
+use mathlib.Core.List.{List, [], _∷_, _++_}
+use lib.ListN.{replicate}
+use Rattle.le.specs.Le.{val, numberAt, le}
+use Rattle.names.specs.Names.{bytesOk}
+use Rattle.kinds.specs.Kinds.{root, model, lines, lineIn, lineOf, isKnown}
+use Rattle.props.specs.Step.{headerRefusal, dataRefusal, toZero, dataOf, nameAt, stepAt}
+use Rattle.body.specs.Body.{pass, properties, exactly}
+use Rattle.table.specs.Table.{noParent, hasRow, rowAt, rowsAt}
+use Rattle.format.specs.Forest.{Forest, end, known, unknown, header, fileHeader}
+use Rattle.plan.specs.Plan.{upFrom, pathOf, isOn, rightParent, naming, rowRefusal, judgedFrom, judged}
+use Rattle.emit.specs.declared.Written.{Written}
+use Rattle.emit.specs.Emission.{under, sizes, nodesBytes, roots, fileBytes, refused, done, emission, leftBy}
+use Rattle.writer.specs.Writer.{planRows, writtenOf, outputAfter}
+use Rattle.writer.specs.Forest.{nodesUnder, forestOf, laidOut}
+
+unfoldable write : (plan s : List ℕ) (room : ℕ) → Written
+unfolding val numberAt le bytesOk lines lineIn lineOf isKnown headerRefusal dataRefusal toZero dataOf nameAt stepAt pass properties exactly hasRow rowAt rowsAt header fileHeader upFrom pathOf isOn rightParent naming rowRefusal judgedFrom judged under sizes nodesBytes roots fileBytes emission writtenOf
+write plan s room = writtenOf plan s 0 room
+
+-- E10's rows, and its private node's body anywhere
+abbrev rootRow : (children : ℕ) → List ℕ
+rootRow children = root ∷ 0 ∷ 0 ∷ noParent ∷ 0 ∷ 0 ∷ 0 ∷ children ∷ []
+
+abbrev noteRow : (start stop : ℕ) → List ℕ
+noteRow start stop = 0x6E676177 ∷ 0 ∷ 0 ∷ 0 ∷ start ∷ stop ∷ 0 ∷ 0 ∷ []
+
+abbrev source : List ℕ
+source = 9 ∷ 97 ∷ 98 ∷ 99 ∷ 9 ∷ []
+
+-- no rows; E3; E10; and the refusals in their order
+answers : (write [] [] 16 ≡ done 16) × (write (rootRow 0) [] 40 ≡ done 40) × (write (rootRow 1 ++ noteRow 1 4) source 67 ≡ done 67)
+    × (write (root ∷ []) [] 99 ≡ refused 20 0) × (write (rootRow 1 ++ noteRow 1 6) source 67 ≡ refused 22 1)
+    × (write (rootRow 0 ++ noteRow 1 6) source 0 ≡ refused 24 0) × (write (rootRow 1 ++ noteRow 1 4) source 66 ≡ refused 26 0)
+unfolding write
+answers = (refl, refl, refl, refl, refl, refl, refl)
+
+-- E3 into 42 bytes: two are left; and into 39, which are left
+output : (outputAfter (rootRow 0) [] 0 (replicate 42 8) ≡ 0x63 ∷ 0x61 ∷ 0x73 ∷ 0x74 ∷ 1 ∷ 0 ∷ 0 ∷ 0 ∷ 1 ∷ 0 ∷ 0 ∷ 0 ∷ 0 ∷ 0 ∷ 0 ∷ 0 ∷
+    0x72 ∷ 0x6F ∷ 0x6F ∷ 0x74 ∷ 24 ∷ 0 ∷ 0 ∷ 0 ∷ 0 ∷ 0 ∷ 0 ∷ 0 ∷ 0 ∷ 0 ∷ 0 ∷ 0 ∷ 0 ∷ 0 ∷ 0 ∷ 0 ∷ 0 ∷ 0 ∷ 0 ∷ 0 ∷ 8 ∷ 8 ∷ [])
+    × (outputAfter (rootRow 0) [] 0 (replicate 39 8) ≡ replicate 39 8)
+unfolding write leftBy outputAfter val numberAt le bytesOk lines lineIn lineOf isKnown headerRefusal dataRefusal toZero dataOf nameAt stepAt pass properties exactly hasRow rowAt rowsAt header fileHeader upFrom pathOf isOn rightParent naming rowRefusal judgedFrom judged under sizes nodesBytes roots fileBytes emission writtenOf
+output = (refl, refl)
+
+-- the forest of E10's rows; and where its bodies lie in the file
+forest : forestOf source (planRows (rootRow 1 ++ noteRow 1 4)) ≡ known root 0 0 [] (unknown 0x6E676177 0 0 0 (97 ∷ 98 ∷ 99 ∷ []) end) end
+unfolding hasRow rowAt rowsAt lines lineIn lineOf isKnown nodesUnder
+forest = refl
+
+places : laidOut 16 (planRows (rootRow 1 ++ noteRow 1 4)) ≡
+    record { kind = root; low = 0; high = 0; parent = noParent; start = 40; end = 40; properties = 0; children = 1 } ∷
+    record { kind = 0x6E676177; low = 0; high = 0; parent = 0; start = 64; end = 67; properties = 0; children = 0 } ∷ []
+unfolding hasRow rowAt rowsAt laidOut
+places = refl

@@ -1,0 +1,4 @@
+pub mod Writer
+pub mod Forest
+pub mod RoundTrip
+pub mod Examples
