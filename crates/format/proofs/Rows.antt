@@ -1,7 +1,7 @@
--- The rows of a forest: one for each node, and their own bytes add up; and how long a row's body can be.
-use Prim.Native.Nat.{ℕ, suc, _+_, _-_, _≤_}
+-- The rows of a forest: one for each node, and their own bytes add up; a row's hash, and how long its body can be.
+use Prim.Native.Nat.{ℕ, suc, _+_, _-_, _*_, _/_, _%_, _≤_}
 use native.Mathlib.Omega.{arith}
-use native.Mathlib.Nat.{min-le-left}
+use native.Mathlib.Nat.{div-add-mod', min-le-left}
 use mathlib.Core.Path.{_≡_, refl, ap, _∙_}
 use mathlib.Core.List.{List, [], _∷_, _++_}
 use lib.ListN.{length, drop, length-append, length-take}
@@ -11,6 +11,10 @@ use Rattle.format.specs.Forest.{Forest, end, known, unknown, count, node
 use Rattle.format.specs.Rows.{nodeRow, rows, bodyOf, allOwnBytes}
 use Rattle.format.specs.Laws.{OwnBytesAddUp}
 use Rattle.format.proofs.Headers.{length-header, length-fileHeader}
+
+-- a hash, from the halves that its row has
+pub hash-back : (h : ℕ) → h % 4294967296 + 4294967296 * (h / 4294967296) ≡ h
+hash-back h = omega (arith, div-add-mod' h 4294967296)
 
 pub body-length : (s : List ℕ) (r : Row) → length (bodyOf s r) ≤ r .end - r .start
 body-length s r = rw (length-take (r .end - r .start) (drop (r .start) s)) (min-le-left _ _)

@@ -9,7 +9,6 @@ use Rattle.props.specs.Step.{headerRefusal, dataRefusal, toZero, dataOf, nameAt
 use Rattle.body.specs.Body.{pass, properties, exactly}
 use Rattle.table.specs.declared.Row.{Row}
 use Rattle.table.specs.Table.{noParent}
-use Rattle.plan.specs.declared.Judged.{Judged}
 use Rattle.plan.specs.Plan.{upFrom, pathOf, isOn, rightParent, naming, rowRefusal, judgedFrom, judged}
 
 -- the number, and the row

@@ -67,5 +67,6 @@ judgedFrom s all k previous [] = record { number = 0; row = 0 }
 judgedFrom s all k previous (r ∷ rs) =
     byNumber (rowRefusal s previous (naming all k) r) k (judgedFrom s all (suc k) (pathOf k r previous) rs)
 
+-- the first refusal of a plan's rows
 unfoldable pub judged : (s : List ℕ) → List Row → Judged
 judged s rows = judgedFrom s rows 0 [] rows

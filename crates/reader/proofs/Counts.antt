@@ -1,7 +1,6 @@
 -- The Bones under a parent, and the nodes of a kind and hash: the same by rows and by nodes.
-use Prim.Native.Nat.{ℕ, suc, _+_, _*_, _/_, _%_, _≤_, _<_}
+use Prim.Native.Nat.{ℕ, suc, _+_, _≤_, _<_}
 use native.Mathlib.Omega.{arith}
-use native.Mathlib.Nat.{div-add-mod'}
 use mathlib.Core.Path.{_≡_, refl, ap, _∙_}
 use mathlib.Core.Logic.{_⊎_, inl, inr}
 use mathlib.Core.Bool.{_&&_}
@@ -14,6 +13,7 @@ use Rattle.kinds.specs.Kinds.{bone}
 use Rattle.table.specs.declared.Row.{Row}
 use Rattle.format.specs.Forest.{Forest, end, known, unknown, count, nodes, encode}
 use Rattle.format.specs.Rows.{nodeRow, hashOf, rows}
+use Rattle.format.proofs.Rows.{hash-back}
 use Rattle.links.specs.Links.{reached}
 use Rattle.reader.specs.Reading.{bonesUnder}
 use Rattle.valid.specs.Valid.{bones, reaches}
@@ -159,9 +159,6 @@ reached-append kind hash i [] ys = omega arith
 reached-append kind hash i (x ∷ xs) ys =
     let e = reached-append kind hash (suc i) xs ys ∙ ap (λ n. length (reached kind hash (suc i) xs) + n) (reached-any kind hash (suc i) i ys) in
     by-test (eqb (x .kind) kind && eqb (hashOf x) hash) (λ t. rw (t, e) (omega arith)) (λ t. rw (t, e))
-
-hash-back : (h : ℕ) → h % 4294967296 + 4294967296 * (h / 4294967296) ≡ h
-hash-back h = omega (arith, div-add-mod' h 4294967296)
 
 pub reached-nodes : (kind hash : ℕ) (f : Forest) (i parent row at : ℕ) → length (reached kind hash i (rows f parent row at)) ≡ reaches kind hash f
 unfolding reached

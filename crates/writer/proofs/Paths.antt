@@ -16,8 +16,9 @@ use Rattle.format.proofs.Each.{each-append, each-map}
 use Rattle.format.proofs.Headers.{length-header}
 use Rattle.plan.specs.Plan.{naming}
 use Rattle.emit.specs.Emission.{under, sizes}
+use Rattle.emit.proofs.Sizes.{under-own as sized-own, under-other as sized-other}
 use Rattle.writer.specs.Forest.{nodesUnder}
-use Rattle.writer.proofs.Under.{named-other, under-other, sized-first, sized-other, none-sized, size-none, under-own}
+use Rattle.writer.proofs.Under.{named-other, under-other, none-sized, size-none, under-own}
 
 -- the path behind row k, whose parent is on the path, with these above it
 abbrev pub onward : (k : ℕ) → Row → (above : List ℕ) → List ℕ
@@ -107,10 +108,10 @@ size-under s k path (r ∷ rs) w o few p =
     by-test (eqb (r .parent) p)
     (λ t.
     let tree = under-own s k r rs p (eqb-true (r .parent) p t) in
-    sized-first s k r rs p t
+    sized-own s p k r rs (eqb-true (r .parent) p t)
     ∙ by-test (isKnown (r .kind))
     (λ u. rw (tree, u) (simp (length-append, length-header) (omega (arith, ih k, ih p))))
     (λ u.
     let none = none-sized s (suc k) rs k (nothing-below k path r rs w o few u) in
     rw (tree, u) (simp (length-append, length-header) (omega (arith, none, ih p)))))
-    (λ t. sized-other s k r rs p t ∙ ih p ∙ ap (λ f. length (encode f)) (sym (under-other s k r rs p (eqb-false (r .parent) p t))))
+    (λ t. sized-other s p k r rs (eqb-false (r .parent) p t) ∙ ih p ∙ ap (λ f. length (encode f)) (sym (under-other s k r rs p (eqb-false (r .parent) p t))))

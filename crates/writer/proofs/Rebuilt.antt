@@ -1,7 +1,6 @@
 -- The rows of a forest tell that forest again, and are a right plan over the file's bytes.
-use Prim.Native.Nat.{ℕ, suc, _+_, _-_, _*_, _/_, _%_, _≤_, _<_}
+use Prim.Native.Nat.{ℕ, suc, _+_, _-_, _≤_, _<_}
 use native.Mathlib.Omega.{arith}
-use native.Mathlib.Nat.{div-add-mod'}
 use mathlib.Core.Path.{_≡_, refl, ap, sym, subst, _∙_}
 use mathlib.Core.Logic.{inl, inr}
 use mathlib.Core.Bool.{true, false, true≢false}
@@ -18,7 +17,7 @@ use Rattle.format.specs.Rows.{nodeRow, rows, bodyOf}
 use Rattle.format.specs.Layout.{Each, GoodBody, WellFormed}
 use Rattle.format.proofs.Each.{each-append, each-map}
 use Rattle.format.proofs.Headers.{length-header}
-use Rattle.format.proofs.Rows.{length-rows}
+use Rattle.format.proofs.Rows.{hash-back, length-rows}
 use Rattle.format.proofs.Bodies.{body-good}
 use Rattle.format.proofs.Within.{Under, rows-under}
 use Rattle.plan.specs.Plan.{outside, naming}
@@ -108,9 +107,6 @@ rows-names f p k at j n o = none-names j (rows f p k at) (each-map other (rows f
     other : (r : Row) → Under p k (nodes f) r → r .parent ≡ j → ⊥
     other r (inl e) h = n (sym e ∙ h)
     other r (inr e) h = omega (arith, e .0, e .1, h, o (omega (arith, e .0, h)))
-
-hash-back : (h : ℕ) → h % 4294967296 + 4294967296 * (h / 4294967296) ≡ h
-hash-back h = omega (arith, div-add-mod' h 4294967296)
 
 good-exactly : (p : ℕ) (body : List ℕ) → GoodBody p body → exactly body p ≡ true
 unfolding exactly

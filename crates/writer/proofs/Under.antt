@@ -2,7 +2,6 @@
 use Prim.Native.Nat.{ℕ, suc, _+_}
 use native.Mathlib.Omega.{arith}
 use mathlib.Core.Path.{_≡_, refl, ap, _∙_}
-use mathlib.Core.Bool.{true, false}
 use mathlib.Core.List.{List, [], _∷_, _++_}
 use lib.Dec.{eqb}
 use lib.ListN.{length}
@@ -46,17 +45,7 @@ count-none (unknown k h p c rest next) e = absurd (omega (arith, e))
 pub none-named : (s : List ℕ) (k : ℕ) (rs : List Row) (p : ℕ) → naming rs p ≡ 0 → nodesUnder s k rs p ≡ end
 none-named s k rs p e = count-none (nodesUnder s k rs p) (count-under s k rs p ∙ e)
 
--- of a row and its size, and those behind it
-pub sized-first : (s : List ℕ) (k : ℕ) (r : Row) (rs : List Row) (p : ℕ) → eqb (r .parent) p ≡ true
-    → under p (r ∷ rs) (sizes s k (r ∷ rs)) ≡ sizeOf s k r rs + under p rs (sizes s (suc k) rs)
-unfolding under sizes
-sized-first s k r rs p t = rw t
-
-pub sized-other : (s : List ℕ) (k : ℕ) (r : Row) (rs : List Row) (p : ℕ) → eqb (r .parent) p ≡ false
-    → under p (r ∷ rs) (sizes s k (r ∷ rs)) ≡ under p rs (sizes s (suc k) rs)
-unfolding under sizes
-sized-other s k r rs p t = rw t
-
+-- the sizes of what is under a parent
 pub size-none : (s : List ℕ) (k p : ℕ) → under p [] (sizes s k []) ≡ length (encode (nodesUnder s k [] p))
 unfolding under nodesUnder
 size-none s k p = refl

@@ -5,11 +5,11 @@ use mathlib.Core.List.{List, [], _∷_, _++_}
 use lib.ListN.{replicate}
 use Rattle.le.specs.Le.{val, numberAt, le}
 use Rattle.names.specs.Names.{bytesOk}
-use Rattle.kinds.specs.Kinds.{root, model, lines, lineIn, lineOf, isKnown}
+use Rattle.kinds.specs.Kinds.{root, lines, lineIn, lineOf, isKnown}
 use Rattle.props.specs.Step.{headerRefusal, dataRefusal, toZero, dataOf, nameAt, stepAt}
 use Rattle.body.specs.Body.{pass, properties, exactly}
 use Rattle.table.specs.Table.{noParent, hasRow, rowAt, rowsAt}
-use Rattle.format.specs.Forest.{Forest, end, known, unknown, header, fileHeader}
+use Rattle.format.specs.Forest.{end, known, unknown, header, fileHeader}
 use Rattle.plan.specs.Plan.{upFrom, pathOf, isOn, rightParent, naming, rowRefusal, judgedFrom, judged}
 use Rattle.emit.specs.declared.Written.{Written}
 use Rattle.emit.specs.Emission.{under, sizes, nodesBytes, roots, fileBytes, refused, done, emission, leftBy}
