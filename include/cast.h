@@ -105,10 +105,11 @@ struct cast_written {
  * numbers, bytes and bytes. The plan's length is the number of its rows times 8: of a table that a file was read into, the
  * rows of its nodes are a plan, without the zeros after them.
  *
- * A row has the eight numbers that a lookup takes. The parent is 4,294,967,295, which is none, exactly for a Root; of any
- * other row it is an earlier row of a known kind: the previous row, or an ancestor of that. So the first row is a Root.
- * Bodies lie anywhere in the source, and may overlap. Sizes and the root count are computed, never taken from the plan; an
- * unknown row's counts are written as they are. Where a kind may stand, and what a property holds, is not judged.
+ * A row has eight numbers: kind, hash low, hash high, parent row, body start, body end, property count, child count. The
+ * parent is 4,294,967,295, which is none, exactly for a Root; of any other row it is an earlier row of a known kind: the
+ * previous row, or an ancestor of that. So the first row is a Root. Bodies lie anywhere in the source, and may overlap.
+ * Sizes and the root count are computed, never taken from the plan; an unknown row's counts are written as they are. Where
+ * a kind may stand, and what a property holds, is not judged.
  *
  * On success the output past the length is what it was, on refusal the whole output.
  */

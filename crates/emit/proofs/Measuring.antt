@@ -15,7 +15,7 @@ use Rattle.table.specs.Table.{rowAt, rowsAt}
 use Rattle.emit.specs.Emission.{sizeOf, nodesBytes, roots}
 use Rattle.emit.specs.Contract.{Sized}
 use Rattle.table.proofs.Rests.{rest, rest-all, rest-next, rest-none}
-use Rattle.emit.proofs.Sizes.{own, owns, length-nodesBytes, sizesUnder, under-none, under-own, under-other, under-owns, size-owns}
+use Rattle.emit.proofs.Sizes.{own, owns, length-nodesBytes, sizesUnder, sized-none, sized-own, sized-other, under-owns, size-owns}
 
 -- an earlier row's number tells the sizes under it so far, and a passed row's its size
 abbrev pub Measuring : (zs s t : List ℕ) (n i : ℕ) → Type 0
@@ -28,7 +28,7 @@ module _ (s t : List ℕ) (n : ℕ) where
   pub measuring-begun : (zs : List ℕ) → ((p : ℕ) → getD zs p 0 ≡ 0) → Measuring zs s t n n
   measuring-begun zs h =
       let none = rest-none t n n (omega arith) in
-      (λ p b. h p ∙ rw none (sym (under-none s p n)), λ p b d. absurd (omega arith))
+      (λ p b. h p ∙ rw none (sym (sized-none s p n)), λ p b d. absurd (omega arith))
 
   pub owns-begun : owns s (rest t n n) ≡ 0
   unfolding owns
@@ -109,7 +109,7 @@ module _ {s t : List ℕ} {n : ℕ} {zs : List ℕ} {i j : ℕ} {r : Row} {o : �
 
   put-before : (p : ℕ) → p < j → (r .parent ≡ p → ⊥) → getD put p 0 ≡ sizesUnder s p j (rest t n j)
   put-before p a k =
-      getD-set-other zs j p size 0 (λ q. omega arith) ∙ measured .0 p (omega arith) ∙ rw more (sym (under-other s p j r later k))
+      getD-set-other zs j p size 0 (λ q. omega arith) ∙ measured .0 p (omega arith) ∙ rw more (sym (sized-other s p j r later k))
 
   -- no earlier row is its parent
   pub measuring-top : (r .parent < j → ⊥) → {new : List ℕ} → new ≡ put → (length new ≡ length zs) × Measuring new s t n j
@@ -124,7 +124,7 @@ module _ {s t : List ℕ} {n : ℕ} {zs : List ℕ} {i j : ℕ} {r : Row} {o : �
     sum-is = rw more
         (omega (
           arith,
-          under-own s (r .parent) j r later refl,
+          sized-own s (r .parent) j r later refl,
           measured .0 (r .parent) (omega arith),
           size-is,
           getD-set-other zs j (r .parent) size 0 (λ q. omega arith),

@@ -41,18 +41,18 @@ length-nodesBytes s k (r ∷ rs) =
 abbrev pub sizesUnder : (s : List ℕ) (parent k : ℕ) → List Row → ℕ
 sizesUnder s p k rs = under p rs (sizes s k rs)
 
-pub under-none : (s : List ℕ) (p k : ℕ) → sizesUnder s p k [] ≡ 0
+pub sized-none : (s : List ℕ) (p k : ℕ) → sizesUnder s p k [] ≡ 0
 unfolding under
-under-none s p k = refl
+sized-none s p k = refl
 
-pub under-own : (s : List ℕ) (p k : ℕ) (r : Row) (rs : List Row) → r .parent ≡ p
+pub sized-own : (s : List ℕ) (p k : ℕ) (r : Row) (rs : List Row) → r .parent ≡ p
     → sizesUnder s p k (r ∷ rs) ≡ sizeOf s k r rs + sizesUnder s p (suc k) rs
 unfolding under sizes
-under-own s p k r rs e = rw (eq-eqb (r .parent) p e)
+sized-own s p k r rs e = rw (eq-eqb (r .parent) p e)
 
-pub under-other : (s : List ℕ) (p k : ℕ) (r : Row) (rs : List Row) → (r .parent ≡ p → ⊥) → sizesUnder s p k (r ∷ rs) ≡ sizesUnder s p (suc k) rs
+pub sized-other : (s : List ℕ) (p k : ℕ) (r : Row) (rs : List Row) → (r .parent ≡ p → ⊥) → sizesUnder s p k (r ∷ rs) ≡ sizesUnder s p (suc k) rs
 unfolding under sizes
-under-other s p k r rs e = rw (ne-eqb (r .parent) p e)
+sized-other s p k r rs e = rw (ne-eqb (r .parent) p e)
 
 -- the sizes under all parents before row m together
 unfoldable below : (s : List ℕ) (m k : ℕ) → List Row → ℕ
@@ -62,17 +62,17 @@ below s m k (r ∷ rs) = let more = below s m (suc k) rs in cond (ltb (r .parent
 -- parents before row m and a parent that is not are different
 under-below : (s : List ℕ) (m p k : ℕ) (rs : List Row) → m ≤ p → sizesUnder s p k rs + below s m k rs ≤ below s (suc p) k rs
 unfolding below
-under-below s m p k [] h = omega (arith, under-none s p k)
+under-below s m p k [] h = omega (arith, sized-none s p k)
 under-below s m p k (r ∷ rs) h =
     let ih = under-below s m p (suc k) rs h in
     by-test
     (eqb (r .parent) p)
     (λ e.
     let q = eqb-true (r .parent) p e in
-    rw (le-ltb (r .parent) m (omega arith), lt-ltb (r .parent) (suc p) (omega arith)) (omega (arith, ih, under-own s p k r rs q)))
+    rw (le-ltb (r .parent) m (omega arith), lt-ltb (r .parent) (suc p) (omega arith)) (omega (arith, ih, sized-own s p k r rs q)))
     (λ e.
     let q = eqb-false (r .parent) p e in
-    let o = under-other s p k r rs q in
+    let o = sized-other s p k r rs q in
     by-test
     (ltb (r .parent) m)
     (λ l. rw (l, lt-ltb (r .parent) (suc p) (omega (arith, ltb-true (r .parent) m l))) (omega (arith, ih, o)))

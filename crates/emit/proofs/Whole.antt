@@ -4,25 +4,15 @@ use native.Mathlib.Omega.{arith}
 use native.Mathlib.Nat.{zero-add}
 use mathlib.Core.Path.{_≡_, refl, ap, sym, _∙_}
 use mathlib.Core.List.{List, _++_}
-use lib.Dec.{ltb}
-use lib.ListN.{length, getD, drop, replicate, length-append, length-replicate, getD-replicate, List·getD-eq-default}
+use lib.ListN.{length, drop, length-append}
 use lib.Seq.{sets, sets-eq}
-use borrow.Author.Tests.{lt-ltb, le-ltb, ltb-true, ltb-false}
-use Rattle.le.proofs.Tests.{by-test}
+use borrow.Author.Tests.{lt-ltb, le-ltb}
 use Rattle.le.proofs.Stores.{sets-append}
 use Rattle.format.specs.Forest.{fileHeader}
 use Rattle.format.proofs.Headers.{length-fileHeader}
 use Rattle.table.specs.declared.Row.{Row}
 use Rattle.emit.specs.declared.Written.{Written}
 use Rattle.emit.specs.Emission.{nodesBytes, roots, fileBytes, refused, done, emission, leftBy, outputOf}
-
--- a list of zeros
-pub zeros : (n p : ℕ) → getD {A = ℕ} (replicate n 0) p 0 ≡ 0
-zeros n p =
-    by-test
-    (ltb p n)
-    (λ t. getD-replicate n p 0 0 (ltb-true p n t))
-    (λ t. List·getD-eq-default (replicate n 0) 0 {n = p} (omega (arith, ltb-false p n t, length-replicate {A = ℕ} n 0)))
 
 module _ (flags : ℕ) (s : List ℕ) (rows : List Row) where
   pub length-fileBytes : length (fileBytes flags s rows) ≡ 16 + length (nodesBytes s 0 rows)

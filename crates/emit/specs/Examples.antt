@@ -12,8 +12,8 @@ use Rattle.emit.specs.Emission.{under, sizes, nodesBytes, roots, fileByt
 abbrev row : (kind parent start stop : ℕ) → Row
 row kind parent start stop = record { kind = kind; low = 1; high = 2; parent = parent; start = start; end = stop; properties = 7; children = 9 }
 
--- a Root, two rows below it, one below the second; a row whose parent is a later one counts nowhere
-chain : sizes (5 ∷ 6 ∷ 7 ∷ []) 0 (row root noParent 0 0 ∷ row model 0 0 2 ∷ row model 0 1 3 ∷ row model 2 2 3 ∷ row model 9 0 3 ∷ []) ≡ 101 ∷ 26 ∷ 51 ∷ 25 ∷ 27 ∷ []
+-- a Root, two rows below it, one below the second; rows whose parent is a later row, or no row, count nowhere
+chain : sizes (5 ∷ 6 ∷ 7 ∷ []) 0 (row root noParent 0 0 ∷ row model 0 0 2 ∷ row model 0 1 3 ∷ row model 2 2 3 ∷ row model 5 0 3 ∷ row model 9 0 3 ∷ []) ≡ 101 ∷ 26 ∷ 51 ∷ 25 ∷ 27 ∷ 27 ∷ []
 unfolding under sizes
 chain = refl
 

@@ -1,4 +1,4 @@
--- Laws of stores at a place.
+-- Laws of stores at a place, and of what is read where nothing was stored.
 use Prim.Native.Nat.{ℕ, zero, suc, _+_, _-_, _/_, _%_, _^_, _≤_, _<_}
 use native.Mathlib.Omega.{arith}
 use native.Mathlib.Nat.{zero-add, add-zero}
@@ -6,10 +6,13 @@ use native.Mathlib.Numerals.{add-one}
 use mathlib.Core.Path.{_≡_, refl, ap, sym, _∙_}
 use mathlib.Core.Logic.{_⊎_, inl, inr}
 use mathlib.Core.List.{List, [], _∷_, _++_, append-nil, map, map-append}
-use lib.ListN.{length, getD, take, drop, set, take-append-drop, length-drop, length-map, length-set, drop-of-length-le}
+use lib.Dec.{ltb}
+use lib.ListN.{length, getD, take, drop, set, take-append-drop, length-drop, length-map, length-set, drop-of-length-le, replicate, length-replicate, getD-replicate, List·getD-eq-default}
 use lib.Seq.{sets, set-out, take-nil, take-length, take-suc, length-take-le, take-set-le, drop-set-add, drop-set-lt, getD-set-same, getD-set-other, set-comm}
+use borrow.Author.Tests.{ltb-true, ltb-false}
 use borrow.Rule.Slice.PartMut.{putMid}
 use Rattle.le.specs.Le.{le}
+use Rattle.le.proofs.Tests.{by-test}
 use Rattle.le.proofs.Laws.{rest, rest-drop, length-rest, le-halves, length-le}
 
 module _ {A : Type 0} where
@@ -109,3 +112,9 @@ put-part l at bytes n h {both} e =
     all : (n ≡ length bytes) ⊎ (n ≡ length (rest l at)) → sets (drop at l) 0 (take n bytes) ≡ sets (drop at l) 0 bytes
     all (inl f) = ap (λ k. sets (drop at l) 0 (take k bytes)) f ∙ ap (sets (drop at l) 0) (take-length bytes)
     all (inr f) = sets-cut (drop at l) 0 n bytes (omega (arith, f, length-rest l at, length-drop at l))
+
+-- what is read of a list of zeros
+pub zeros : (n p : ℕ) → getD {A = ℕ} (replicate n 0) p 0 ≡ 0
+zeros n p =
+    by-test (ltb p n) (λ t. getD-replicate n p 0 0 (ltb-true p n t))
+    (λ t. List·getD-eq-default (replicate n 0) 0 {n = p} (omega (arith, ltb-false p n t, length-replicate {A = ℕ} n 0)))

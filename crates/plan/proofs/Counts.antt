@@ -4,10 +4,10 @@ use native.Mathlib.Nat.{add-zero}
 use native.Mathlib.Omega.{arith}
 use mathlib.Core.Path.{_≡_, refl, sym, _∙_}
 use mathlib.Core.List.{List}
-use lib.Dec.{eqb, ltb}
-use lib.ListN.{length, getD, set, replicate, length-replicate, getD-replicate, List·getD-eq-default}
+use lib.Dec.{eqb}
+use lib.ListN.{length, getD, set}
 use lib.Seq.{getD-set-same, getD-set-other}
-use borrow.Author.Tests.{eq-eqb, ne-eqb, eqb-true, eqb-false, ltb-true, ltb-false}
+use borrow.Author.Tests.{eq-eqb, ne-eqb, eqb-true, eqb-false}
 use Rattle.le.proofs.Tests.{by-test}
 use Rattle.table.specs.declared.Row.{Row}
 use Rattle.table.specs.Table.{rowAt, rowsAt}
@@ -21,11 +21,6 @@ naming-few t k zero p = omega arith
 naming-few t k (suc n) p =
     let ih = naming-few t (suc k) n p in
     by-test (eqb (rowAt t k .parent) p) (λ e. rw e (omega (arith, ih))) (λ e. rw e (omega (arith, ih)))
-
-pub none-yet : (n p : ℕ) → getD {A = ℕ} (replicate n 0) p 0 ≡ 0
-none-yet n p =
-    by-test (ltb p n) (λ t. getD-replicate n p 0 0 (ltb-true p n t))
-    (λ t. List·getD-eq-default (replicate n 0) 0 {n = p} (omega (arith, ltb-false p n t, length-replicate {A = ℕ} n 0)))
 
 -- numbers that, with the rest's naming, tell that of all
 abbrev pub Counting : (counts : List ℕ) (t : List ℕ) (n i : ℕ) → Type 0

@@ -4,11 +4,8 @@ use native.Mathlib.Omega.{arith}
 use mathlib.Core.Path.{_≡_, refl, ap, sym, _∙_, subst}
 use mathlib.Core.Bool.{true, false}
 use mathlib.Core.List.{List, [], _∷_, _++_}
-use lib.Dec.{ltb}
-use lib.ListN.{length, getD, replicate, length-append, length-replicate, getD-replicate, List·getD-eq-default}
-use borrow.Author.Tests.{ltb-true, ltb-false}
+use lib.ListN.{length, getD, length-append}
 use Rattle.le.specs.Le.{AreBytes}
-use Rattle.le.proofs.Tests.{by-test}
 use Rattle.kinds.specs.declared.Parent.the-variants.{None}
 use Rattle.table.specs.declared.Row.{Row}
 use Rattle.table.specs.Table.{blank, noParent, rowAt, rowsAt, putRows, hasRoom, cleared}
@@ -121,11 +118,6 @@ table-ok size t n h = each-rows (RowOk size n) t 0 n (λ i b. (let z : i ≡ 0 +
 
 pub bones-ok : (size : ℕ) (t : List ℕ) (n : ℕ) → n ≤ 1024 → RowsOk size t n → BoneParents t n
 bones-ok size t n few h i b e = omega (arith, h i b .boneParent e)
-
-pub no-bones : (n p : ℕ) → getD {A = ℕ} (replicate n 0) p 0 ≡ 0
-no-bones n p =
-    by-test (ltb p n) (λ t. getD-replicate n p 0 0 (ltb-true p n t))
-    (λ t. List·getD-eq-default (replicate n 0) 0 {n = p} (omega (arith, ltb-false p n t, length-replicate {A = ℕ} n 0)))
 
 -- ---- the reading
 module _ (s t : List ℕ) where

@@ -61,6 +61,7 @@ fn parts(f: Frame, out: &mut [u8], source: &[u8], plan: &[u32]) {
     let judged = plan::judge(plan, rows, source);
     print::pair(judged.number as u64, judged.row as u64);
     if judged.number != 0 {
+        // What is refused is not emitted; zeros stand for that answer.
         show(emit::Written {
             number: 0,
             place: 0,

@@ -16,7 +16,7 @@ use Rattle.format.proofs.Each.{each-append, each-map}
 use Rattle.format.proofs.Headers.{length-header}
 use Rattle.plan.specs.Plan.{naming}
 use Rattle.emit.specs.Emission.{under, sizes}
-use Rattle.emit.proofs.Sizes.{under-own as sized-own, under-other as sized-other}
+use Rattle.emit.proofs.Sizes.{sized-own, sized-other}
 use Rattle.writer.specs.Forest.{nodesUnder}
 use Rattle.writer.proofs.Under.{named-other, under-other, none-sized, size-none, under-own}
 

@@ -25,6 +25,7 @@ use Rattle.format.proofs.Rows.{length-rows}
 use Rattle.format.proofs.Bodies.{body-sound}
 use Rattle.plan.specs.Plan.{judged}
 use Rattle.emit.specs.Emission.{sizeOf, nodesBytes, roots, fileBytes}
+use Rattle.emit.proofs.Whole.{length-fileBytes}
 use Rattle.reader.proofs.Nodes.{part}
 use Rattle.writer.specs.Forest.{nodesUnder, forestOf, laidOut}
 use Rattle.writer.proofs.Under.{count-under, under-own, under-other, nothing-under, bytes-first}
@@ -181,10 +182,6 @@ module _ (flags : ℕ) (s : List ℕ) (rs : List Row) (few : length rs ≤ 1024)
   unfolding fileBytes
   plan-bodies = laid-bodies s (fileBytes flags s rs) (fileHeader (roots rs) flags) 0 16 rs bodies-whole refl (sym (length-fileHeader (roots rs) flags))
 
-  bytes-long : length (fileBytes flags s rs) ≡ 16 + length (nodesBytes s 0 rs)
-  unfolding fileBytes
-  bytes-long = length-append (fileHeader (roots rs) flags) (nodesBytes s 0 rs) ∙ ap (λ n. n + length (nodesBytes s 0 rs)) (length-fileHeader (roots rs) flags)
-
   pub plan-few : Each Low rs → Few (forestOf s rs)
   plan-few low =
       let long = sym (length-rows (forestOf s rs) noParent 0 16) ∙ ap length (plan-rows low) ∙ length-laid 16 rs in
@@ -195,5 +192,5 @@ module _ (flags : ℕ) (s : List ℕ) (rs : List Row) (few : length rs ≤ 1024)
     fl,
     subst (λ n. n < 256 ^ 4) root-count (omega (arith, roots-few rs, few)),
     under-wellFormed s 0 (noParent ∷ []) rs the-path distinct older all-few counts bytes wide (parts .1)
-        (omega (arith, short, bytes-long)) noParent,
+        (omega (arith, short, length-fileBytes flags s rs)) noParent,
   )

@@ -42,7 +42,7 @@ use Rattle.writer.proofs.Rebuilt.{Rebuilt, rebuilt}
 use Rattle.writer.proofs.Placed.{placed-tops, over-self, rows-parents}
 use Rattle.writer.proofs.Plans.{Wide, length-laid, plan-bytes, plan-rows, plan-bodies, plan-few, plan-wellFormed}
 use Rattle.writer.proofs.Writing.{goes-on, emission-done}
-use Rattle.writer.proofs.Written.{number, Right, written-right, rows-few, wide-rows}
+use Rattle.writer.proofs.Written.{number, Passed, written-right, rows-few, wide-rows}
 
 -- ---- a written file is the encoding of the plan's forest
 module _ (plan s : List ℕ) (flags : ℕ) (file : List ℕ) (w : Wrote plan s flags file) where
@@ -52,7 +52,7 @@ module _ (plan s : List ℕ) (flags : ℕ) (file : List ℕ) (w : Wrote plan s f
   abbrev bytes : List ℕ
   bytes = fileBytes flags s rs
 
-  right : Right plan s flags (length (w .out))
+  right : Passed plan s flags (length (w .out))
   right = written-right plan s flags (length (w .out)) (ap number (w .success))
 
   long : length bytes ≡ length file

@@ -16,8 +16,8 @@ use Rattle.emit.specs.declared.Written.{Written}
 use Rattle.emit.specs.Emission.{refused, done, fileBytes, emission, leftBy, outputOf}
 use Rattle.writer.specs.Writer.{planRows, byNumber, writtenOf, outputAfter}
 
-pub plan-few : (plan : List ℕ) → isPlan plan ≡ true → rowCount plan ≤ 1024
-plan-few plan e = leb-true (rowCount plan) 1024 (and-eq-true-iff (eqb (length plan % 8) 0) (leb (rowCount plan) 1024) .0 e .1)
+pub count-few : (plan : List ℕ) → isPlan plan ≡ true → rowCount plan ≤ 1024
+count-few plan e = leb-true (rowCount plan) 1024 (and-eq-true-iff (eqb (length plan % 8) 0) (leb (rowCount plan) 1024) .0 e .1)
 
 -- a refusal leaves the output
 left-alone : (n : ℕ) (bytes out : List ℕ) → (n ≡ 0 → ⊥) → out ≡ leftBy n bytes out
@@ -53,7 +53,7 @@ module _ (plan s : List ℕ) (flags : ℕ) (out : List ℕ) where
   -- the rows of a plan are at most 1,024
   module _ (t : isPlan plan ≡ true) where
     all-rows : {n : ℕ} → n ≡ rowCount plan → rowsAt plan 0 (min n 1024) ≡ planRows plan
-    all-rows e = ap (λ m. rowsAt plan 0 (min m 1024)) e ∙ ap (rowsAt plan 0) (min-eq-left (plan-few plan t))
+    all-rows e = ap (λ m. rowsAt plan 0 (min m 1024)) e ∙ ap (rowsAt plan 0) (min-eq-left (count-few plan t))
 
     put-by : writtenOf plan s flags (length out) ≡ emission flags s (planRows plan) (length out) → outputOf flags s (planRows plan) out ≡ outputAfter plan s flags out
     unfolding outputAfter

@@ -17,7 +17,7 @@ use Rattle.reader.proofs.Whole.{length-rowsAt, each-rows}
 use Rattle.writer.specs.Writer.{planRows, byNumber, writtenOf}
 use Rattle.writer.specs.RoundTrip.{AreNumbers}
 use Rattle.writer.proofs.Plans.{Wide}
-use Rattle.writer.proofs.Writing.{plan-few}
+use Rattle.writer.proofs.Writing.{count-few}
 
 abbrev pub number : Written → ℕ
 number w = w .number
@@ -32,14 +32,14 @@ by-length n room e =
     (λ t. absurd (omega (arith, rw t at e)))
     (λ t. by-test (ltb room n) (λ u. absurd (omega (arith, rw (t, u) at e))) (λ u. (ltb-false 16777216 n t, ltb-false room n u, rw (t, u))))
 
-pub record Right (plan s : List ℕ) (flags room : ℕ) : Type 0 where
+pub record Passed (plan s : List ℕ) (flags room : ℕ) : Type 0 where
   pub whole : isPlan plan ≡ true
   pub right : judged s (planRows plan) .number ≡ 0
   pub short : length (fileBytes flags s (planRows plan)) ≤ 16777216
   pub fits : length (fileBytes flags s (planRows plan)) ≤ room
   pub is : writtenOf plan s flags room ≡ done (length (fileBytes flags s (planRows plan)))
 
-pub written-right : (plan s : List ℕ) (flags room : ℕ) → writtenOf plan s flags room .number ≡ 0 → Right plan s flags room
+pub written-right : (plan s : List ℕ) (flags room : ℕ) → writtenOf plan s flags room .number ≡ 0 → Passed plan s flags room
 unfolding writtenOf emission
 written-right plan s flags room e =
     by-test (isPlan plan)
@@ -53,7 +53,7 @@ written-right plan s flags room e =
 
 -- ---- the rows of a plan
 pub rows-few : (plan : List ℕ) → isPlan plan ≡ true → length (planRows plan) ≤ 1024
-rows-few plan e = omega (arith, plan-few plan e, length-rowsAt plan 0 (rowCount plan))
+rows-few plan e = omega (arith, count-few plan e, length-rowsAt plan 0 (rowCount plan))
 
 pub wide-rows : (plan : List ℕ) (k n : ℕ) → AreNumbers plan → Each Wide (rowsAt plan k n)
 unfolding rowAt

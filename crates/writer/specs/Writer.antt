@@ -15,6 +15,7 @@ use Rattle.emit.specs.Emission.{refused, fileBytes, emission, leftBy}
 abbrev pub planRows : List ℕ → List Row
 planRows plan = rowsAt plan 0 (rowCount plan)
 
+-- a refusal by its number, or what comes where there is none
 abbrev pub byNumber : ℕ → (place : ℕ) → Written → Written
 byNumber zero place next = next
 byNumber (suc n) place next = refused (suc n) place

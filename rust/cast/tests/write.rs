@@ -20,7 +20,7 @@ const LEAST: usize = 10_000;
 const LEAST_LONG: usize = 400;
 /// So often at least is what was written accepted, or refused with each number that it may be.
 const LEAST_READ: usize = 100;
-/// Longer files are not written whole but where that is what is tested.
+/// Longer files are written whole only where that is what is tested.
 const MOST: u64 = 100_000;
 
 /// How often each answer came.
@@ -207,7 +207,7 @@ fn again() {
     assert_eq!(check.count(), 4 * FILES);
 }
 
-/// Files that only the rules of 13 to 17 refuse: their rows are right as a plan, and what is written is refused again.
+/// Damaged files that the walk still takes: their rows are a right plan, and give the file again but for its flags.
 #[test]
 fn refused_again() {
     let mut check = Check::new(80);

@@ -8,7 +8,7 @@ use lib.ListN.{length-replicate}
 use borrow.Author.Needs.{needs}
 use Rattle.table.specs.Table.{rowsAt}
 use Rattle.plan.specs.Plan.{judged}
-use Rattle.plan.proofs.Counts.{none-yet}
+use Rattle.le.proofs.Stores.{zeros}
 use Rattle.plan.proofs.judge.Statement.{statement}
 use Rattle.plan.proofs.judge.Tie as tie
 
@@ -20,7 +20,7 @@ many : (c : tie.Joined1) → c .if1 .n ≡ min (c .before .before .before .args 
 many c = ⊎-elim (λ w. w .1 ∙ sym (min-eq-left (omega (arith, w .0 .taken)))) (λ w. w .1 ∙ sym (min-eq-right (w .0 .left))) (c .if1 .came)
 
 count-children-requires : tie.Need-count-children-requires
-count-children-requires c κs = (omega (arith, many (c .before)), length-replicate {A = ℕ} 1024 0, none-yet 1024)
+count-children-requires c κs = (omega (arith, many (c .before)), length-replicate {A = ℕ} 1024 0, zeros 1024)
 
 slice-aggregate-judge-rows : tie.Need-slice-aggregate-judge-rows
 slice-aggregate-judge-rows c = search needs

@@ -5,6 +5,7 @@ use mathlib.Core.Path.{_≡_, refl, sym, ap, _∙_}
 use mathlib.Core.List.{List}
 use lib.ListN.{length, length-replicate}
 use borrow.Author.Needs.{needs}
+use Rattle.le.proofs.Stores.{zeros}
 use Rattle.table.specs.declared.Row.{Row}
 use Rattle.table.specs.Table.{rowsAt}
 use Rattle.links.specs.Links.{linked}
@@ -12,7 +13,7 @@ use Rattle.reader.specs.declared.Reading.the-variants.{Refused}
 use Rattle.reader.specs.Reading.{ruled}
 use Rattle.reader.specs.Contract.{leftIn}
 use Rattle.reader.proofs.Judging.{links-counted}
-use Rattle.reader.proofs.Whole.{bones-ok, no-bones, table-ok, links-place, refused-rules, refused-links, account-checked, length-rowsAt}
+use Rattle.reader.proofs.Whole.{bones-ok, table-ok, links-place, refused-rules, refused-links, account-checked, length-rowsAt}
 use Rattle.reader.proofs.checked.Statement.{statement}
 use Rattle.reader.proofs.checked.Tie as tie
 
@@ -23,7 +24,7 @@ count-bones-requires : tie.Need-count-bones-requires
 count-bones-requires c κs =
     let s = c .before .before .before .before in
     let a = s .args in
-    (s .pre .0, length-replicate {A = ℕ} 1024 0, no-bones 1024, bones-ok (length (a .file .now)) (a .table .now) (a .nodes) (s .pre .0) (s .pre .1))
+    (s .pre .0, length-replicate {A = ℕ} 1024 0, zeros 1024, bones-ok (length (a .file .now)) (a .table .now) (a .nodes) (s .pre .0) (s .pre .1))
 
 slice-aggregate-rules-of : tie.Need-slice-aggregate-rules-of
 slice-aggregate-rules-of c = search needs

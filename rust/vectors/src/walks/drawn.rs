@@ -18,6 +18,7 @@ pub fn add(walks: &mut Walks) {
             Damage::ManyProperties => (2, 4_000),
             Damage::TwoFaults | Damage::ManyFaults => (15, MOST),
             kind if later.contains(&kind) => (1, MOST),
+            // The only ones that give 4.
             Damage::Version => (15, MOST),
             _ => (8, MOST),
         };

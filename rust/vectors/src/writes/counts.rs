@@ -86,6 +86,7 @@ fn add_later(writes: &mut Writes) {
         rows[3].properties = u32::from(number == 23);
         mend_children(&mut rows);
         rows[3].children += u32::from(number == 24);
+        // Twice, as each draws its way.
         writes.refused(&rows, b"", number, 3);
         writes.refused(&rows, b"", number, 3);
         rows[parent as usize].children -= 1;

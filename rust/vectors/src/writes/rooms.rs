@@ -53,6 +53,7 @@ fn few() -> [Planned; 4] {
 fn add_sources(writes: &mut Writes) {
     for source in [&b""[..], b"\0", b"cast", &[0xFF; 40]] {
         for rows in [Vec::new(), vec![Row::new(ROOT, NONE); 2]] {
+            // Twice, as each draws its way.
             writes.right(&rows, source);
             writes.right(&rows, source);
         }
