@@ -1,10 +1,11 @@
--- The rows of a forest: one for each node, and their own bytes add up; a row's hash, and how long its body can be.
+-- The rows of a forest: one for each node, and their own bytes add up; a row's hash and its body.
 use Prim.Native.Nat.{ℕ, suc, _+_, _-_, _*_, _/_, _%_, _≤_}
 use native.Mathlib.Omega.{arith}
 use native.Mathlib.Nat.{div-add-mod', min-le-left}
 use mathlib.Core.Path.{_≡_, refl, ap, _∙_}
 use mathlib.Core.List.{List, [], _∷_, _++_}
-use lib.ListN.{length, drop, length-append, length-take}
+use lib.ListN.{length, take, drop, length-append, length-take}
+use lib.Seq.{take-append-seam, drop-append-seam}
 use Rattle.table.specs.declared.Row.{Row}
 use Rattle.table.specs.Table.{noParent}
 use Rattle.format.specs.Forest.{Forest, end, known, unknown, count, nodes, encode, fileHeader, fileOf}
@@ -15,6 +16,12 @@ use Rattle.format.proofs.Headers.{length-header, length-fileHeader}
 -- a hash, from the halves that its row has
 pub hash-back : (h : ℕ) → h % 4294967296 + 4294967296 * (h / 4294967296) ≡ h
 hash-back h = omega (arith, div-add-mod' h 4294967296)
+
+-- bytes between others, by their place: a body in a file
+pub part : (s a b c : List ℕ) (at : ℕ) → s ≡ a ++ (b ++ c) → at ≡ length a → take (at + length b - at) (drop at s) ≡ b
+part s a b c at e h =
+    let n : at + length b - at ≡ length b = omega arith in
+    rw (e, n, h) (rw (drop-append-seam a (b ++ c)) (take-append-seam b c))
 
 pub body-length : (s : List ℕ) (r : Row) → length (bodyOf s r) ≤ r .end - r .start
 body-length s r = rw (length-take (r .end - r .start) (drop (r .start) s)) (min-le-left _ _)

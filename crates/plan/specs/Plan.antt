@@ -23,7 +23,7 @@ unfoldable pub upFrom : (row : ℕ) (path : List ℕ) → List ℕ
 upFrom row [] = []
 upFrom row (q ∷ qs) = cond (eqb q row) (q ∷ qs) (upFrom row qs)
 
--- the path of row k, given the previous row's
+-- the path of row k, given the previous row's; none, a Root's parent, is on no path
 unfoldable pub pathOf : (k : ℕ) → Row → (previous : List ℕ) → List ℕ
 pathOf k r previous = let above = upFrom (r .parent) previous in cond (isKnown (r .kind)) (k ∷ above) above
 

@@ -6,8 +6,7 @@ use mathlib.Core.Path.{_≡_, _∙_}
 use mathlib.Core.Logic.{inl, _↔_}
 use mathlib.Core.Bool.{true, false}
 use mathlib.Core.List.{List, _++_, append-assoc}
-use lib.ListN.{length, take, drop, length-append}
-use lib.Seq.{take-append-seam, drop-append-seam}
+use lib.ListN.{length, length-append}
 use Rattle.kinds.specs.Kinds.{isKnown}
 use Rattle.table.specs.declared.Row.{Row}
 use Rattle.format.specs.Forest.{Forest, end, known, unknown, count, nodes, header, encode}
@@ -15,14 +14,10 @@ use Rattle.format.specs.Rows.{nodeRow, rows, bodyOf}
 use Rattle.format.specs.Layout.{Each, GoodBody, WellFormed}
 use Rattle.format.proofs.Each.{each-append}
 use Rattle.format.proofs.Headers.{length-header}
+use Rattle.format.proofs.Rows.{part}
 use Rattle.valid.specs.Valid.{bones, EachKnown}
 use Rattle.reader.specs.Reading.{bonesUnder}
 use Rattle.reader.proofs.Counts.{Outside, Inside, bones-below, inside-below, inside-beside, outside-beside, inside-next, outside-next}
-
-pub part : (s a b c : List ℕ) (at : ℕ) → s ≡ a ++ (b ++ c) → at ≡ length a → take (at + length b - at) (drop at s) ≡ b
-part s a b c at e h =
-    let n : at + length b - at ≡ length b = omega arith in
-    rw (e, n, h) (rw (drop-append-seam a (b ++ c)) (take-append-seam b c))
 
 module _ (s : List ℕ) (all : List Row) (Q : Row → Type 0) (P : (beside kind count : ℕ) (body : List ℕ) → Type 0) where
   -- what a known and an unknown node's row say

@@ -108,11 +108,6 @@ module _ (s : List ℕ) (rs : List Row) where
       let own : (x : OwnBytes) (m : ℕ) → x .0 ≡ m → x ≡ record { 0 = m } = λ x m p. ap (λ q. record { 0 = q }) p in
       rw (a, b, own known (ownKnown rs) c, own unknown (ownUnknown rs) e, g, h, i) (sym (checked-right s rs r l))
 
-pub length-rowsAt : (t : List ℕ) (k n : ℕ) → n ≡ length (rowsAt t k n)
-unfolding rowsAt
-length-rowsAt t k zero = refl
-length-rowsAt t k (suc n) = ap suc (length-rowsAt t (suc k) n)
-
 pub table-ok : (size : ℕ) (t : List ℕ) (n : ℕ) → RowsOk size t n → Each (RowOk size n) (rowsAt t 0 n)
 table-ok size t n h = each-rows (RowOk size n) t 0 n (λ i b. (let z : i ≡ 0 + i = omega arith in subst (λ j. RowOk size n (rowAt t j)) z (h i b)))
 

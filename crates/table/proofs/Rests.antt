@@ -1,12 +1,18 @@
--- Of so many rows of a table, those from a row on: what is left to a loop over them.
-use Prim.Native.Nat.{ℕ, suc, _+_, _-_, _≤_, _<_}
+-- So many rows of a table, and of these the ones from a row on: what is left to a loop over them.
+use Prim.Native.Nat.{ℕ, zero, suc, _+_, _-_, _≤_, _<_}
 use native.Mathlib.Numerals.{add-one}
 use native.Mathlib.Nat.{sub-zero}
 use native.Mathlib.Omega.{arith}
-use mathlib.Core.Path.{_≡_}
+use mathlib.Core.Path.{_≡_, refl, ap}
 use mathlib.Core.List.{List, [], _∷_}
+use lib.ListN.{length}
 use Rattle.table.specs.declared.Row.{Row}
 use Rattle.table.specs.Table.{rowAt, rowsAt}
+
+pub length-rowsAt : (t : List ℕ) (k n : ℕ) → n ≡ length (rowsAt t k n)
+unfolding rowsAt
+length-rowsAt t k zero = refl
+length-rowsAt t k (suc n) = ap suc (length-rowsAt t (suc k) n)
 
 -- of n rows, those from row i on
 abbrev pub rest : (t : List ℕ) (n i : ℕ) → List Row

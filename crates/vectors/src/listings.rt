@@ -1,32 +1,12 @@
 // The listing of an input, and single lines of it, in a lent output.
-use crate::buffers;
 use crate::frame::Frame;
 use crate::print;
 use crate::rows;
 
 // 32, the listing of the first block; 33, the line that x says, its numbers in the first block, 8 bytes each, and a row's in
-// the second. The output has y bytes.
-pub fn one(f: Frame, first: &[u8], second: &[u8]) {
-    let n = f.y as usize;
-    if 98304 < n {
-        return;
-    }
-    let mut space = [0u8; 98304];
-    lent(f, &mut space, 98304 - n, first, second);
-}
-
-// The output is what follows the bytes before it.
-fn lent(f: Frame, space: &mut [u8], before: usize, first: &[u8], second: &[u8]) {
-    if space.len() < before {
-        return;
-    }
-    run(f, &mut space[before..], first, second);
-}
-
-fn run(f: Frame, out: &mut [u8], first: &[u8], second: &[u8]) {
-    buffers::fill(out, f.seed);
+// the second.
+pub fn one(f: Frame, out: &mut [u8], first: &[u8], second: &[u8]) {
     print::next(answer(f, out, first, second) as u64);
-    print::next(buffers::checksum(out));
 }
 
 fn answer(f: Frame, out: &mut [u8], first: &[u8], second: &[u8]) -> usize {

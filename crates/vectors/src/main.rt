@@ -5,6 +5,7 @@ mod files;
 mod frame;
 mod leaves;
 mod listings;
+mod outputs;
 mod parts;
 mod print;
 mod reads;
@@ -73,11 +74,7 @@ fn dispatch(f: Frame, first: &[u8], second: &[u8]) {
         files::one(f, first);
         return;
     }
-    if f.function < 34 {
-        listings::one(f, first, second);
-        return;
-    }
     if f.function < 36 {
-        writes::one(f, first, second);
+        outputs::one(f, first, second);
     }
 }

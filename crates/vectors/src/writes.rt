@@ -4,26 +4,8 @@ use crate::frame::Frame;
 use crate::print;
 
 // 34, the writer: the source in the first block, the plan's numbers in the second; the flags are x. 35, judging and then
-// emitting: a table in the second block, of which the first x rows are the plan; the flags are the seed. The output has y
-// bytes.
-pub fn one(f: Frame, source: &[u8], numbers: &[u8]) {
-    let n = f.y as usize;
-    if 98304 < n {
-        return;
-    }
-    let mut space = [0u8; 98304];
-    lent(f, &mut space, 98304 - n, source, numbers);
-}
-
-// The output is what follows the bytes before it.
-fn lent(f: Frame, space: &mut [u8], before: usize, source: &[u8], numbers: &[u8]) {
-    if space.len() < before {
-        return;
-    }
-    planned(f, &mut space[before..], source, numbers);
-}
-
-fn planned(f: Frame, out: &mut [u8], source: &[u8], numbers: &[u8]) {
+// emitting: a table in the second block, of which the first x rows are the plan; the flags are the seed.
+pub fn one(f: Frame, out: &mut [u8], source: &[u8], numbers: &[u8]) {
     let n = numbers.len() / 4;
     if 8300 < n {
         return;
@@ -42,9 +24,7 @@ fn plan(f: Frame, out: &mut [u8], source: &[u8], space: &mut [u32], before: usiz
 
 fn run(f: Frame, out: &mut [u8], source: &[u8], plan: &mut [u32], numbers: &[u8]) {
     buffers::numbers(plan, numbers);
-    buffers::fill(out, f.seed);
     answer(f, out, source, plan);
-    print::next(buffers::checksum(out));
 }
 
 fn answer(f: Frame, out: &mut [u8], source: &[u8], plan: &[u32]) {

@@ -21,12 +21,11 @@ use Rattle.format.specs.Rows.{rowsOf, hashOf, bodyOf, ownBytes}
 use Rattle.format.specs.Layout.{Each, GoodBody, WellFormed, WellFormedFile, Few}
 use Rattle.format.proofs.Each.{each-both, each-map}
 use Rattle.format.proofs.Headers.{length-header, length-fileHeader}
-use Rattle.format.proofs.Rows.{length-rows}
+use Rattle.format.proofs.Rows.{part, length-rows}
 use Rattle.format.proofs.Bodies.{body-sound}
 use Rattle.plan.specs.Plan.{judged}
 use Rattle.emit.specs.Emission.{sizeOf, nodesBytes, roots, fileBytes}
 use Rattle.emit.proofs.Whole.{length-fileBytes}
-use Rattle.reader.proofs.Nodes.{part}
 use Rattle.writer.specs.Forest.{nodesUnder, forestOf, laidOut}
 use Rattle.writer.proofs.Under.{count-under, under-own, under-other, nothing-under, bytes-first}
 use Rattle.writer.proofs.Paths.{onward, Right, Older, Distinct, distinct-onward, older-onward}

@@ -17,11 +17,10 @@ use Rattle.format.specs.Rows.{nodeRow, rows, bodyOf}
 use Rattle.format.specs.Layout.{Each, GoodBody, WellFormed}
 use Rattle.format.proofs.Each.{each-append, each-map}
 use Rattle.format.proofs.Headers.{length-header}
-use Rattle.format.proofs.Rows.{hash-back, length-rows}
+use Rattle.format.proofs.Rows.{hash-back, part, length-rows}
 use Rattle.format.proofs.Bodies.{body-good}
 use Rattle.format.proofs.Within.{Under, rows-under}
 use Rattle.plan.specs.Plan.{outside, naming}
-use Rattle.reader.proofs.Nodes.{part}
 use Rattle.writer.specs.Forest.{nodeOf, nodesUnder}
 use Rattle.writer.proofs.Under.{count-under, under-other, under-own, none-named, nothing-under}
 use Rattle.writer.proofs.Paths.{Older}

@@ -33,7 +33,8 @@ use Rattle.reader.specs.Reading.{readingOf, tableAfter, verdict, checked}
 use Rattle.reader.specs.Reading.{byNumber as byNumberOf}
 use Rattle.reader.proofs.Exactly.{verdict-valid, in-room, has-room, accepted-parts, checked-parts, answersTheRules}
 use Rattle.reader.proofs.Numbers.{numberOf, checked-told}
-use Rattle.reader.proofs.Whole.{length-rowsAt, short-table}
+use Rattle.table.proofs.Rests.{length-rowsAt}
+use Rattle.reader.proofs.Whole.{short-table}
 use Rattle.writer.specs.Writer.{planRows, writtenOf, outputAfter}
 use Rattle.writer.specs.Forest.{forestOf, laidOut}
 use Rattle.writer.specs.RoundTrip.{WriteAfterRead, Wrote, Encodes, WrittenEncodes, ReadsBack, ReadAfterWrite, FewRefusals}

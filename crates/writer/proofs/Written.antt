@@ -13,7 +13,8 @@ use Rattle.format.specs.Layout.{Each}
 use Rattle.plan.specs.Plan.{judged}
 use Rattle.emit.specs.declared.Written.{Written}
 use Rattle.emit.specs.Emission.{done, byLength, fileBytes, emission}
-use Rattle.reader.proofs.Whole.{length-rowsAt, each-rows}
+use Rattle.table.proofs.Rests.{length-rowsAt}
+use Rattle.reader.proofs.Whole.{each-rows}
 use Rattle.writer.specs.Writer.{planRows, byNumber, writtenOf}
 use Rattle.writer.specs.RoundTrip.{AreNumbers}
 use Rattle.writer.proofs.Plans.{Wide}

@@ -163,6 +163,13 @@ module _ (c : tie.Joined2 Inv-loop μ-loop) where
   short : at-loop at-row .loop .length + at-row .own .result ≤ 16777216
   short = omega (arith, c .before .before .before .if1 .left)
 
+  -- the loop goes on, with the root count that the row gives
+  goes-on : (count : ℕ) → count ≡ roots (rest (plan at-row) (rows at-row) (j at-row)) → count ≤ at-loop at-row .loop .roots + 1
+      → Inv-loop (plan at-row) (rows at-row) (source at-row) (c .if2 .sizes) 0 0 0 (c .if2 .sizes) (at-loop at-row .loop .length + at-row .own .result) count (j at-row)
+  goes-on count e most =
+      let k = known at-row in
+      (omega (arith, k .here), passed .0, passed .1, owned at-row, short, e, omega (arith, most, at-loop at-row .loop .inv .6, k .next, k .here))
+
 add-roots : tie.Need-add-roots Inv-loop μ-loop
 add-roots c =
     let o = at-row (c .before .before) in
@@ -175,16 +182,7 @@ loop-again : tie.Need-loop-again Inv-loop μ-loop
 loop-again c =
     let p = c .before .before in
     let o = at-row p in
-    let k = known o in
-    let l = at-loop o .loop .inv in (
-      omega (arith, k .here),
-      passed p .0,
-      passed p .1,
-      owned o,
-      short p,
-      omega (arith, root-more k (c .if3 .taken), l .5),
-      omega (arith, l .6, k .next, k .here),
-    )
+    goes-on p (at-loop o .loop .roots + 1) (omega (arith, root-more (known o) (c .if3 .taken), at-loop o .loop .inv .5)) (omega arith)
 
 loop-less-2 : tie.Need-loop-less-2 Inv-loop μ-loop
 loop-less-2 c = search needs
@@ -193,16 +191,7 @@ loop-again-2 : tie.Need-loop-again-2 Inv-loop μ-loop
 loop-again-2 c =
     let p = c .before .before in
     let o = at-row p in
-    let k = known o in
-    let l = at-loop o .loop .inv in (
-      omega (arith, k .here),
-      passed p .0,
-      passed p .1,
-      owned o,
-      short p,
-      l .5 ∙ sym (root-other k (c .if3 .left)),
-      omega (arith, l .6, k .next, k .here),
-    )
+    goes-on p (at-loop o .loop .roots) (at-loop o .loop .inv .5 ∙ sym (root-other (known o) (c .if3 .left))) (omega arith)
 
 cast-whole : tie.Need-cast-whole Inv-loop μ-loop
 cast-whole c = omega (arith, c .before .loop .inv .4)

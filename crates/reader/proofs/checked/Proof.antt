@@ -6,6 +6,7 @@ use mathlib.Core.List.{List}
 use lib.ListN.{length, length-replicate}
 use borrow.Author.Needs.{needs}
 use Rattle.le.proofs.Stores.{zeros}
+use Rattle.table.proofs.Rests.{length-rowsAt}
 use Rattle.table.specs.declared.Row.{Row}
 use Rattle.table.specs.Table.{rowsAt}
 use Rattle.links.specs.Links.{linked}
@@ -13,7 +14,7 @@ use Rattle.reader.specs.declared.Reading.the-variants.{Refused}
 use Rattle.reader.specs.Reading.{ruled}
 use Rattle.reader.specs.Contract.{leftIn}
 use Rattle.reader.proofs.Judging.{links-counted}
-use Rattle.reader.proofs.Whole.{bones-ok, table-ok, links-place, refused-rules, refused-links, account-checked, length-rowsAt}
+use Rattle.reader.proofs.Whole.{bones-ok, table-ok, links-place, refused-rules, refused-links, account-checked}
 use Rattle.reader.proofs.checked.Statement.{statement}
 use Rattle.reader.proofs.checked.Tie as tie
 
