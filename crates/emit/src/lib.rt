@@ -101,7 +101,7 @@ fn put_node(out: &mut [u8], at: usize, source: &[u8], row: table::Row, size: u32
     requires { ⌜ at + (24 + length (bodyOf (now source) row)) ≤ length (now out) ⌝ }
     ensures { λ r. ⌜ (r ≡ at + (24 + length (bodyOf (now (source .entry)) row))) × (now (out .exit) ≡ sets (now (out .entry)) at (header (row .kind) size (hashOf row) (row .properties) (row .children) ++ bodyOf (now (source .entry)) row)) ⌝ }
 {
-    // Lent just its 24 bytes, the header is six plain stores.
+    // Lent just its 24 bytes, the header is stored without a test.
     put_header(&mut out[at..at + 24], row, size);
     let body = format::body_of(source, row);
     le::put_bytes(out, at + 24, body);
