@@ -1,0 +1,138 @@
+-- Of the rows that are left of a file: faces, charges, bodies and links are those that they were.
+use Prim.Native.Nat.{ℕ, zero, suc, _+_, _-_}
+use native.Mathlib.Omega.{arith}
+use mathlib.Core.Path.{_≡_, refl, ap, _∙_}
+use mathlib.Core.Bool.{Bool, true, false, _&&_}
+use mathlib.Core.List.{List, [], _∷_, map, map-append, flatMap}
+use lib.Dec.{eqb}
+use lib.ListN.{getD, drop}
+use borrow.Author.Tests.{eqb-true}
+use Rattle.le.specs.Le.{numberAt}
+use Rattle.le.proofs.Tests.{by-test}
+use Rattle.kinds.specs.Kinds.{isKnown}
+use Rattle.table.specs.declared.Row.{Row}
+use Rattle.table.specs.Table.{blank}
+use Rattle.format.specs.Rows.{bodyOf, ownBytes, hashOf}
+use Rattle.rules.specs.Table.{linkTo}
+use Rattle.rules.specs.Rules.{linesOf}
+use Rattle.judge.specs.Properties.{ruleAt, restAt}
+use Rattle.links.specs.Links.{reached, linksAt, rowLinks, linksFrom, linksOf}
+use Rattle.reader.specs.Reading.{ownKnown}
+use Rattle.reader.specs.Acceptance.{facesOf}
+use Rattle.removal.specs.RemovalSequence.{unmarked, numberOf, unmarkedRows, rowsLeft, movedLink}
+use Rattle.removal.proofs.Marked.{Left, none, gone, same}
+use Rattle.removal.proofs.Targets.{target-at, unlike}
+
+-- ---- row by row
+module _ {s s′ : List ℕ} where
+  pub faces-left : {rows : List Row} {ms : List Bool} {rows′ : List Row} → Left s s′ rows ms rows′ → facesOf s′ rows′ ≡ facesOf s rows
+  unfolding facesOf flatMap
+  faces-left none = refl
+  faces-left (gone u l) = rw u (faces-left l)
+  faces-left (same n l) = rw (n .kind, n .body, n .properties, faces-left l)
+
+  pub owns-left : {rows : List Row} {ms : List Bool} {rows′ : List Row} → Left s s′ rows ms rows′
+      → map ownBytes rows′ ≡ map ownBytes (unmarkedRows rows ms)
+  unfolding unmarkedRows
+  owns-left none = refl
+  owns-left (gone u l) = owns-left l
+  owns-left (same n l) = rw (n .own, owns-left l)
+
+  pub bodies-left : {rows : List Row} {ms : List Bool} {rows′ : List Row} → Left s s′ rows ms rows′
+      → map (bodyOf s′) rows′ ≡ map (bodyOf s) (unmarkedRows rows ms)
+  unfolding unmarkedRows
+  bodies-left none = refl
+  bodies-left (gone u l) = bodies-left l
+  bodies-left (same n l) = rw (n .body, bodies-left l)
+
+  pub known-left : {rows : List Row} {ms : List Bool} {rows′ : List Row} → Left s s′ rows ms rows′ → ownKnown rows′ ≡ ownKnown rows
+  unfolding ownKnown
+  known-left none = refl
+  known-left (gone u l) = rw u (known-left l)
+  known-left (same n l) = rw (n .kind, n .own, known-left l)
+
+-- ---- a list from place i on
+module _ {A : Type 0} where
+  pub here : (l : List A) (i : ℕ) (d : A) {x : A} {xs : List A} → drop i l ≡ x ∷ xs → getD l i d ≡ x
+  here [] zero d e = cc
+  here [] (suc i) d e = cc
+  here (y ∷ l) zero d e = cc
+  here (y ∷ l) (suc i) d e = here l i d e
+
+  pub onward : (l : List A) (i : ℕ) {x : A} {xs : List A} → drop i l ≡ x ∷ xs → drop (suc i) l ≡ xs
+  onward [] zero e = cc
+  onward [] (suc i) e = cc
+  onward (y ∷ l) zero e = cc
+  onward (y ∷ l) (suc i) e = onward l i e
+
+-- the number of the row behind a marked row, and behind one that is left
+pub number-gone : (ms : List Bool) (i : ℕ) {rest : List Bool} → drop i ms ≡ true ∷ rest → numberOf ms (suc i) ≡ numberOf ms i
+unfolding unmarked
+number-gone [] zero e = refl
+number-gone [] (suc i) e = refl
+number-gone (true ∷ ms) zero e = refl
+number-gone (false ∷ ms) zero e = cc
+number-gone (true ∷ ms) (suc i) e = number-gone ms i e
+number-gone (false ∷ ms) (suc i) e = ap suc (number-gone ms i e)
+
+pub number-same : (ms : List Bool) (i : ℕ) {rest : List Bool} → drop i ms ≡ false ∷ rest → numberOf ms (suc i) ≡ suc (numberOf ms i)
+unfolding unmarked
+number-same [] zero e = cc
+number-same [] (suc i) e = cc
+number-same (true ∷ ms) zero e = cc
+number-same (false ∷ ms) zero e = refl
+number-same (true ∷ ms) (suc i) e = number-same ms i e
+number-same (false ∷ ms) (suc i) e = ap suc (number-same ms i e)
+
+module _ (s s′ : List ℕ) (ms : List Bool) where
+  -- what a link to a known kind reaches
+  reached-from : (kind hash : ℕ) → isKnown kind ≡ true → (i : ℕ) {rs : List Row} {rest : List Bool} {rs′ : List Row}
+      → drop i ms ≡ rest → Left s s′ rs rest rs′ → reached kind hash (numberOf ms i) rs′ ≡ map (numberOf ms) (reached kind hash i rs)
+  unfolding reached
+  reached-from kind hash k i e none = refl
+  reached-from kind hash k i e (gone {r = r} u l) =
+      rw (unlike (r .kind) kind u k, ← number-gone ms i e) (reached-from kind hash k (suc i) (onward ms i e) l)
+  reached-from kind hash k i e (same {r = r} n l) =
+      let ih = rw (number-same ms i e) at (reached-from kind hash k (suc i) (onward ms i e) l) in
+      rw (n .kind, n .low, n .high, ih)
+      (by-test (eqb (r .kind) kind && eqb (hashOf r) hash) (λ t. rw t) (λ t. rw t))
+
+  module _ (rows rows′ : List Row) (whole : Left s s′ rows ms rows′) (laid : rows′ ≡ rowsLeft rows ms) where
+    -- the links of row i, whose body is the same but starts at another place
+    module _ (kind i : ℕ) (r r′ : Row) (from : getD rows i blank ≡ r) (to : getD rows′ (numberOf ms i) blank ≡ r′) (body : List ℕ) where
+      links-at : (starts : List ℕ)
+          → linksAt rows′ (linesOf kind) (numberOf ms i) (r′ .start) body starts
+          ≡ map (movedLink rows ms) (linksAt rows (linesOf kind) i (r .start) body starts)
+      unfolding linksAt unmarked
+      links-at [] = refl
+      links-at (at ∷ more) =
+          let l = ruleAt (linesOf kind) body at in
+          by-test (eqb (l .held) (linkTo 0 .held))
+          (λ t.
+          let known = target-at kind body at (eqb-true (l .held) (linkTo 0 .held) t) in
+          let targets = reached-from (l .target) (numberAt 8 (restAt body at) 0) known 0 refl whole in
+          let place : at ≡ (r .start + at) - r .start = omega arith in
+          rw (t, ← laid, to, from, ← place, links-at more, targets))
+          (λ t. rw t (links-at more))
+
+    -- the links of the rows from row i on
+    links-from : (i : ℕ) {rs : List Row} {rest : List Bool} {rs′ : List Row}
+        → drop i rows ≡ rs → drop i ms ≡ rest → drop (numberOf ms i) rows′ ≡ rs′ → Left s s′ rs rest rs′
+        → linksFrom s′ rows′ (numberOf ms i) rs′ ≡ map (movedLink rows ms) (linksFrom s rows i rs)
+    unfolding linksFrom
+    links-from i a b c none = refl
+    links-from i a b c (gone u l) =
+        let number = number-gone ms i b in
+        let more = links-from (suc i) (onward rows i a) (onward ms i b) (ap (λ j. drop j rows′) number ∙ c) l in
+        rw u (rw (← number) more)
+    links-from i {rs = r ∷ rs} {rs′ = r′ ∷ rs′} a b c (same n l) =
+        let number = number-same ms i b in
+        let more = links-from (suc i) (onward rows i a) (onward ms i b) (ap (λ j. drop j rows′) number ∙ onward rows′ (numberOf ms i) c) l in
+        let row = links-at (r .kind) i r r′ (here rows i blank a) (here rows′ (numberOf ms i) blank c) (bodyOf s r) in
+        rw (map-append (movedLink rows ms) (rowLinks s rows i r) (linksFrom s rows (suc i) rs), ← more, number, n .kind, n .body, n .properties)
+        (by-test (isKnown (r .kind)) (λ t. rw (t, row)) (λ t. rw t))
+
+pub links-left : (s s′ : List ℕ) (rows : List Row) (ms : List Bool) (rows′ : List Row) → Left s s′ rows ms rows′ → rows′ ≡ rowsLeft rows ms
+    → linksOf s′ rows′ ≡ map (movedLink rows ms) (linksOf s rows)
+unfolding unmarked
+links-left s s′ rows ms rows′ whole laid = links-from s s′ ms rows rows′ whole laid 0 refl refl refl whole

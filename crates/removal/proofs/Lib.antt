@@ -1,0 +1,5 @@
+pub mod Marked
+pub mod Marking
+pub mod Targets
+pub mod StillValid
+pub mod LeftLinks

@@ -1,0 +1,154 @@
+-- Small lists of trimmings, computed by the definitions: what is answered and left, and what the tally says.
+use Prim.Native.Nat.{ℕ}
+use mathlib.Core.Path.{_≡_, refl}
+use mathlib.Core.List.{List, [], _∷_, _++_, map}
+use lib.ListN.{length, take, drop, replicate}
+use Rattle.le.specs.Le.{val, numberAt, le}
+use Rattle.names.specs.Names.{bytesOk, same, decimal, number, numbered}
+use Rattle.kinds.specs.Kinds.{root, model, lineIn, lineOf, isKnown, standsAtTop, standsUnder, mayStand}
+use Rattle.kinds.specs.Kinds.{lines as kindLines}
+use Rattle.table.specs.declared.Row.{Row}
+use Rattle.table.specs.Table.{noParent, hasRoom, zeroed, cleared, flat, filled}
+use Rattle.props.specs.Step.{headerRefusal, dataRefusal, toZero, dataOf, nameAt, stepAt}
+use Rattle.body.specs.Body.{pass, properties, firstNamed}
+use Rattle.faces.specs.Faces.{widthOf, facesIn, below, degenerate}
+use Rattle.rules.specs.Table.{letters, lines, unpacked, texts}
+use Rattle.rules.specs.Rules.{lists, ruleIn, ofKind, linesOf, isText, inSet, isOneOf}
+use Rattle.judge.specs.Properties.{lengthOf, valueOf, typesOf, besideOf}
+use Rattle.judge.specs.Judge.{typed, misses, lacks, faultOf, valued, nodeFaces, nodeLinks, verdictAt, judgedAt, judged}
+use Rattle.format.specs.Forest.{header, fileHeader}
+use Rattle.links.specs.Links.{reached, linksAt, linksFrom, resolved, linked}
+use Rattle.walk.specs.Walk.{headerAt, nodeRefusal, andThen, children, knownNode, nodeBy, node, nodeAt, childrenAt, walkOf, limited}
+use Rattle.reader.specs.Reading.{bonesUnder, judgedWith, ruled, ownKnown, ownUnknown, checked, verdict, readingOf}
+use Rattle.reader.specs.Reading.{tableAfter as readTable}
+use Rattle.emit.specs.declared.Written.{Written}
+use Rattle.emit.specs.Emission.{under, sizes, nodesBytes, roots, fileBytes, refused, done, leftBy}
+use Rattle.removal.specs.Trimming.{withoutFrom, newFile, trimmedOf, outputAfter, tableAfter}
+use Rattle.removal.specs.Tally.{Fed, noMarks, rowNumbered, overMarked, isAround, fallen, nodesLeft, fileLeft, tell, answers, marksAfter}
+use Rattle.removal.specs.RemovalSequence.{Trimming, answersOf, fileAfter, fedBy}
+
+-- ---- the run, and the tally, of a file with these rows: the answers, and the file after the list
+pub record Ended : Type 0 where
+  pub answers : List Written
+  pub file : List ℕ
+
+unfoldable ran : List ℕ → List Trimming → Ended
+unfolding val numberAt bytesOk same decimal number numbered kindLines lineIn lineOf isKnown standsAtTop standsUnder mayStand hasRoom headerRefusal dataRefusal toZero dataOf nameAt stepAt pass properties firstNamed widthOf facesIn below degenerate letters lines unpacked texts lists ruleIn ofKind linesOf isText inSet isOneOf le lengthOf valueOf typesOf besideOf typed misses lacks faultOf valued nodeFaces nodeLinks verdictAt judgedAt judged header fileHeader reached linksAt linksFrom resolved linked headerAt nodeRefusal andThen children knownNode nodeBy node nodeAt childrenAt walkOf limited bonesUnder judgedWith ruled ownKnown ownUnknown checked verdict readingOf under sizes nodesBytes roots fileBytes leftBy withoutFrom newFile trimmedOf outputAfter answersOf fileAfter
+ran s list = record { answers = answersOf s list; file = fileAfter s list }
+
+unfoldable tallied : List ℕ → List Row → List Trimming → Ended
+unfolding val numberAt kindLines lineIn lineOf isKnown le rowNumbered overMarked isAround fallen nodesLeft fileLeft tell answers marksAfter
+tallied s rows list = record {
+  answers = answers s rows (noMarks rows) (map fedBy list);
+  file = fileLeft s rows (marksAfter s rows (noMarks rows) (map fedBy list));
+}
+
+-- what one trimming leaves, given a table of 8,193 numbers
+pub record Lent : Type 0 where
+  pub table : List ℕ
+  pub output : List ℕ
+
+unfoldable left : List ℕ → ℕ → List ℕ → Lent
+unfolding flat filled zeroed cleared readTable tableAfter val numberAt bytesOk same decimal number numbered kindLines lineIn lineOf isKnown standsAtTop standsUnder mayStand hasRoom headerRefusal dataRefusal toZero dataOf nameAt stepAt pass properties firstNamed widthOf facesIn below degenerate letters lines unpacked texts lists ruleIn ofKind linesOf isText inSet isOneOf le lengthOf valueOf typesOf besideOf typed misses lacks faultOf valued nodeFaces nodeLinks verdictAt judgedAt judged header fileHeader reached linksAt linksFrom resolved linked headerAt nodeRefusal andThen children knownNode nodeBy node nodeAt childrenAt walkOf limited bonesUnder judgedWith ruled ownKnown ownUnknown checked verdict readingOf under sizes nodesBytes roots fileBytes leftBy withoutFrom newFile trimmedOf outputAfter
+left s k out = record { table = tableAfter s k (replicate 8193 7) (length out); output = outputAfter s k (replicate 8193 7) out }
+
+-- a file of one root, and a node's header alone
+unfoldable cast : List ℕ → List ℕ
+unfolding le fileHeader
+cast bs = fileHeader 1 0 ++ bs
+
+unfoldable head : (kind size children : ℕ) → List ℕ
+unfolding le header
+head kind size children = header kind size 0 0 children
+
+abbrev row : (kind parent start end children : ℕ) → Row
+row kind parent start stop children =
+    record { kind = kind; low = 0; high = 0; parent = parent; start = start; end = stop; properties = 0; children = children }
+
+abbrev private : ℕ
+private = 0x6E676177
+
+-- a trimming with a table and an output that have room
+abbrev trim : (row : ℕ) → Trimming
+trim k = record { row = k; table = replicate 8192 7; output = replicate 200 9 }
+
+-- ---- E10 trimmed at row 1 is E3
+e10 : List ℕ
+e10 = cast (head root 51 1 ++ (head private 27 0 ++ (97 ∷ 98 ∷ 99 ∷ [])))
+
+e3 : List ℕ
+e3 = cast (head root 24 0)
+
+e10-trimmed : ran e10 (trim 1 ∷ []) ≡ record { answers = done 40 ∷ []; file = e3 }
+unfolding ran cast head e10 e3
+e10-trimmed = refl
+
+e10-tallied : tallied e10 (row root noParent 40 40 1 ∷ row private 0 64 67 0 ∷ []) (trim 1 ∷ []) ≡ record { answers = done 40 ∷ []; file = e3 }
+unfolding tallied cast head e10 e3
+e10-tallied = refl
+
+-- what is left in an output of 42 bytes, in one of 39, and, of a table of 8,193 numbers, in its first nine and its last
+e10-output : (left e10 1 (replicate 42 8) .output ≡ e3 ++ (8 ∷ 8 ∷ [])) × (left e10 1 (replicate 39 8) .output ≡ replicate 39 8)
+unfolding left cast head e10 e3
+e10-output = (refl, refl)
+
+e10-table : (take 9 (left e10 1 (replicate 42 8) .table) ≡ root ∷ 0 ∷ 0 ∷ noParent ∷ 40 ∷ 40 ∷ 0 ∷ 0 ∷ 0 ∷ [])
+    × (drop 8191 (left e10 1 (replicate 42 8) .table) ≡ 0 ∷ 7 ∷ []) × (take 9 (left e10 1 (replicate 39 8) .table) ≡ replicate 9 0)
+    × (drop 8191 (left e10 1 (replicate 39 8) .table) ≡ 0 ∷ 7 ∷ [])
+unfolding left cast head e10
+e10-table = (refl, refl, refl, refl)
+
+-- ---- a Root with a Model and a private node C below it; below the Model, private nodes A and B
+file : List ℕ
+file = cast (head root 126 2 ++ (head model 76 2 ++ (head private 27 0 ++ (1 ∷ 1 ∷ 1 ∷ head private 25 0 ++ (2 ∷ head private 26 0 ++ (3 ∷ 3 ∷ []))))))
+
+rows : List Row
+rows = row root noParent 40 40 2 ∷ row model 0 64 64 2 ∷ row private 1 88 91 0 ∷ row private 1 115 116 0 ∷ row private 0 140 142 0 ∷ []
+
+-- A and B, under one parent, in either order: the Model has none left, and the Root is smaller by both
+withoutAB : List ℕ
+withoutAB = cast (head root 74 2 ++ (head model 24 0 ++ (head private 26 0 ++ (3 ∷ 3 ∷ []))))
+
+a-then-b : (ran file (trim 2 ∷ trim 2 ∷ []) ≡ record { answers = done 115 ∷ done 90 ∷ []; file = withoutAB })
+    × (tallied file rows (trim 2 ∷ trim 2 ∷ []) ≡ record { answers = done 115 ∷ done 90 ∷ []; file = withoutAB })
+unfolding ran tallied cast head file rows withoutAB
+a-then-b = (refl, refl)
+
+b-then-a : (ran file (trim 3 ∷ trim 2 ∷ []) ≡ record { answers = done 117 ∷ done 90 ∷ []; file = withoutAB })
+    × (tallied file rows (trim 3 ∷ trim 2 ∷ []) ≡ record { answers = done 117 ∷ done 90 ∷ []; file = withoutAB })
+unfolding ran tallied cast head file rows withoutAB
+b-then-a = (refl, refl)
+
+-- A and C, under the Model and under the Root around it, in either order
+withoutAC : List ℕ
+withoutAC = cast (head root 73 1 ++ (head model 49 1 ++ (head private 25 0 ++ (2 ∷ []))))
+
+a-then-c : (ran file (trim 2 ∷ trim 3 ∷ []) ≡ record { answers = done 115 ∷ done 89 ∷ []; file = withoutAC })
+    × (tallied file rows (trim 2 ∷ trim 3 ∷ []) ≡ record { answers = done 115 ∷ done 89 ∷ []; file = withoutAC })
+unfolding ran tallied cast head file rows withoutAC
+a-then-c = (refl, refl)
+
+c-then-a : (ran file (trim 4 ∷ trim 2 ∷ []) ≡ record { answers = done 116 ∷ done 89 ∷ []; file = withoutAC })
+    × (tallied file rows (trim 4 ∷ trim 2 ∷ []) ≡ record { answers = done 116 ∷ done 89 ∷ []; file = withoutAC })
+unfolding ran tallied cast head file rows withoutAC
+c-then-a = (refl, refl)
+
+-- ---- with refusals between: 1 before 30; 30; 31; 32 by one byte; then A with just enough room; 31; 30, as rows have become
+-- fewer; then C
+abbrev exact : (row room : ℕ) → Trimming
+exact k room = record { row = k; table = replicate 8192 7; output = replicate room 9 }
+
+abbrev mixed : List Trimming
+mixed = record { row = 9; table = replicate 8191 7; output = [] } ∷ exact 5 200 ∷ exact 1 0 ∷ exact 2 114 ∷ exact 2 115 ∷ exact 0 200 ∷ exact 4 200 ∷ exact 3 89 ∷ []
+
+abbrev told : List Written
+told = refused 1 0 ∷ refused 30 0 ∷ refused 31 0 ∷ refused 32 0 ∷ done 115 ∷ refused 31 0 ∷ refused 30 0 ∷ done 89 ∷ []
+
+with-refusals : (ran file mixed ≡ record { answers = told; file = withoutAC }) × (tallied file rows mixed ≡ record { answers = told; file = withoutAC })
+unfolding ran tallied cast head file rows withoutAC
+with-refusals = (refl, refl)
+
+-- a file that is refused, with the reader's number and place
+refused-file : ran (cast (head model 24 0)) (trim 0 ∷ []) ≡ record { answers = refused 6 16 ∷ []; file = cast (head model 24 0) }
+unfolding ran cast head
+refused-file = refl

@@ -1,0 +1,4 @@
+pub mod Trimming
+pub mod Tally
+pub mod RemovalSequence
+pub mod Examples
