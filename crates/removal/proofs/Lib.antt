@@ -3,3 +3,9 @@ pub mod Marking
 pub mod Targets
 pub mod StillValid
 pub mod LeftLinks
+pub mod Emitting
+pub mod KeptRows
+pub mod One
+pub mod Falls
+pub mod TallyFile
+pub mod Trimmed
