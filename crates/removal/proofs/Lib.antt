@@ -9,3 +9,6 @@ pub mod One
 pub mod Falls
 pub mod TallyFile
 pub mod Trimmed
+pub mod Steps
+pub mod Differ
+pub mod EveryList

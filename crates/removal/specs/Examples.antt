@@ -1,6 +1,7 @@
 -- Small lists of trimmings, computed by the definitions: what is answered and left, and what the tally says.
 use Prim.Native.Nat.{ℕ}
 use mathlib.Core.Path.{_≡_, refl}
+use mathlib.Core.Bool.{true, false}
 use mathlib.Core.List.{List, [], _∷_, _++_, map}
 use lib.ListN.{length, take, drop, replicate}
 use Rattle.le.specs.Le.{val, numberAt, le}
@@ -23,9 +24,10 @@ use Rattle.reader.specs.Reading.{bonesUnder, judgedWith, ruled, ownKnown, ownUn
 use Rattle.reader.specs.Reading.{tableAfter as readTable}
 use Rattle.emit.specs.declared.Written.{Written}
 use Rattle.emit.specs.Emission.{under, sizes, nodesBytes, roots, fileBytes, refused, done, leftBy}
+use Rattle.writer.specs.Forest.{laidOut}
 use Rattle.removal.specs.Trimming.{withoutFrom, newFile, trimmedOf, outputAfter, tableAfter}
 use Rattle.removal.specs.Tally.{Fed, noMarks, rowNumbered, overMarked, isAround, fallen, nodesLeft, fileLeft, tell, answers, marksAfter}
-use Rattle.removal.specs.RemovalSequence.{Trimming, answersOf, fileAfter, fedBy}
+use Rattle.removal.specs.RemovalSequence.{Trimming, answersOf, fileAfter, fedBy, unmarked, renumberedFrom, rowsLeft}
 
 -- ---- the run, and the tally, of a file with these rows: the answers, and the file after the list
 pub record Ended : Type 0 where
@@ -68,9 +70,12 @@ row kind parent start stop children =
 abbrev private : ℕ
 private = 0x6E676177
 
--- a trimming with a table and an output that have room
+-- a trimming with a table that has room and an output of so many bytes; and with an output that has room
+abbrev into : (room row : ℕ) → Trimming
+into room k = record { row = k; table = replicate 8192 7; output = replicate room 9 }
+
 abbrev trim : (row : ℕ) → Trimming
-trim k = record { row = k; table = replicate 8192 7; output = replicate 200 9 }
+trim k = into 200 k
 
 -- ---- E10 trimmed at row 1 is E3
 e10 : List ℕ
@@ -105,46 +110,42 @@ file = cast (head root 126 2 ++ (head model 76 2 ++ (head private 27 0 ++ (1 ∷
 rows : List Row
 rows = row root noParent 40 40 2 ∷ row model 0 64 64 2 ∷ row private 1 88 91 0 ∷ row private 1 115 116 0 ∷ row private 0 140 142 0 ∷ []
 
+-- run and tally give these answers and this file
+abbrev Both : List Trimming → List Written → List ℕ → Type 0
+Both list told after =
+    (ran file list ≡ record { answers = told; file = after }) × (tallied file rows list ≡ record { answers = told; file = after })
+
 -- A and B, under one parent, in either order: the Model has none left, and the Root is smaller by both
 withoutAB : List ℕ
 withoutAB = cast (head root 74 2 ++ (head model 24 0 ++ (head private 26 0 ++ (3 ∷ 3 ∷ []))))
 
-a-then-b : (ran file (trim 2 ∷ trim 2 ∷ []) ≡ record { answers = done 115 ∷ done 90 ∷ []; file = withoutAB })
-    × (tallied file rows (trim 2 ∷ trim 2 ∷ []) ≡ record { answers = done 115 ∷ done 90 ∷ []; file = withoutAB })
+a-and-b : Both (trim 2 ∷ trim 2 ∷ []) (done 115 ∷ done 90 ∷ []) withoutAB × Both (trim 3 ∷ trim 2 ∷ []) (done 117 ∷ done 90 ∷ []) withoutAB
 unfolding ran tallied cast head file rows withoutAB
-a-then-b = (refl, refl)
-
-b-then-a : (ran file (trim 3 ∷ trim 2 ∷ []) ≡ record { answers = done 117 ∷ done 90 ∷ []; file = withoutAB })
-    × (tallied file rows (trim 3 ∷ trim 2 ∷ []) ≡ record { answers = done 117 ∷ done 90 ∷ []; file = withoutAB })
-unfolding ran tallied cast head file rows withoutAB
-b-then-a = (refl, refl)
+a-and-b = ((refl, refl), (refl, refl))
 
 -- A and C, under the Model and under the Root around it, in either order
 withoutAC : List ℕ
 withoutAC = cast (head root 73 1 ++ (head model 49 1 ++ (head private 25 0 ++ (2 ∷ []))))
 
-a-then-c : (ran file (trim 2 ∷ trim 3 ∷ []) ≡ record { answers = done 115 ∷ done 89 ∷ []; file = withoutAC })
-    × (tallied file rows (trim 2 ∷ trim 3 ∷ []) ≡ record { answers = done 115 ∷ done 89 ∷ []; file = withoutAC })
+a-and-c : Both (trim 2 ∷ trim 3 ∷ []) (done 115 ∷ done 89 ∷ []) withoutAC × Both (trim 4 ∷ trim 2 ∷ []) (done 116 ∷ done 89 ∷ []) withoutAC
 unfolding ran tallied cast head file rows withoutAC
-a-then-c = (refl, refl)
+a-and-c = ((refl, refl), (refl, refl))
 
-c-then-a : (ran file (trim 4 ∷ trim 2 ∷ []) ≡ record { answers = done 116 ∷ done 89 ∷ []; file = withoutAC })
-    × (tallied file rows (trim 4 ∷ trim 2 ∷ []) ≡ record { answers = done 116 ∷ done 89 ∷ []; file = withoutAC })
-unfolding ran tallied cast head file rows withoutAC
-c-then-a = (refl, refl)
+-- the rows that are left of it: B is row 2 and lies where A lay; Root and Model have a child less
+rows-left : rowsLeft rows (false ∷ false ∷ true ∷ false ∷ true ∷ []) ≡
+    row root noParent 40 40 1 ∷ row model 0 64 64 1 ∷ row private 1 88 89 0 ∷ []
+unfolding overMarked unmarked renumberedFrom laidOut rowsLeft rows
+rows-left = refl
 
 -- ---- with refusals between: 1 before 30; 30; 31; 32 by one byte; then A with just enough room; 31; 30, as rows have become
 -- fewer; then C
-abbrev exact : (row room : ℕ) → Trimming
-exact k room = record { row = k; table = replicate 8192 7; output = replicate room 9 }
-
 abbrev mixed : List Trimming
-mixed = record { row = 9; table = replicate 8191 7; output = [] } ∷ exact 5 200 ∷ exact 1 0 ∷ exact 2 114 ∷ exact 2 115 ∷ exact 0 200 ∷ exact 4 200 ∷ exact 3 89 ∷ []
+mixed = record { row = 9; table = replicate 8191 7; output = [] } ∷ trim 5 ∷ into 0 1 ∷ into 114 2 ∷ into 115 2 ∷ trim 0 ∷ trim 4 ∷ into 89 3 ∷ []
 
 abbrev told : List Written
 told = refused 1 0 ∷ refused 30 0 ∷ refused 31 0 ∷ refused 32 0 ∷ done 115 ∷ refused 31 0 ∷ refused 30 0 ∷ done 89 ∷ []
 
-with-refusals : (ran file mixed ≡ record { answers = told; file = withoutAC }) × (tallied file rows mixed ≡ record { answers = told; file = withoutAC })
+with-refusals : Both mixed told withoutAC
 unfolding ran tallied cast head file rows withoutAC
 with-refusals = (refl, refl)
 

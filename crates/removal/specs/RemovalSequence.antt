@@ -162,34 +162,38 @@ movedLink rows marks l = record {
   targets = map (numberOf marks) (l .targets);
 }
 
--- ---- demand 3 of one list from a file s with these rows and this account
+-- ---- the file after a list, given the marks; the first file is s, with these rows and this account
+pub record IsLeft (s : List ℕ) (rows : List Row) (a : Account) (marks : List Bool) (file : List ℕ) : Type 0 where
+  -- "After the list the file is accepted and is the tally's". "Its rows are the old ones without theirs, renumbered, but for
+  -- where bodies lie and those child counts."
+  pub account : Account
+  pub accepted : IsRead file (rowsLeft rows marks) account
+  pub flags : account .flags ≡ a .flags
+  pub isTallys : file ≡ fileLeft s rows marks
+  -- "the first one without the removed nodes, where only the sizes of the nodes around them and their parents' child counts
+  -- differ"
+  pub sameLength : length file ≡ length (bytesLeft s rows marks)
+  pub differ : (at : ℕ) → (getD file at 0 ≡ getD (bytesLeft s rows marks) at 0) ⊎ (InSize rows marks at ⊎ InCount rows marks at)
+  pub bodies : map (bodyOf file) (rowsLeft rows marks) ≡ map (bodyOf s) (unmarkedRows rows marks)
+  -- "Every link reaches the same node"
+  pub links : linksOf file (rowsLeft rows marks) ≡ map (movedLink rows marks) (linksOf s rows)
+  pub linkCount : account .links ≡ a .links
+  -- "every other node is charged the same"
+  pub charges : map ownBytes (rowsLeft rows marks) ≡ map ownBytes (unmarkedRows rows marks)
+  pub charged : account .known ≡ a .known
+  -- "and the face counts stay"
+  pub faces : facesOf file (rowsLeft rows marks) ≡ facesOf s rows
+  pub faceCount : account .faces ≡ a .faces
+  pub degenerate : account .degenerate ≡ a .degenerate
+
+-- ---- demand 3 of one list from such a file
 pub record HoldsOf (s : List ℕ) (rows : List Row) (a : Account) (list : List Trimming) : Type 0 where
   -- "For every such list, each answer is the one document 01's tally gives"
   pub answered : answersOf s list ≡ answers s rows (noMarks rows) (map fedBy list)
   -- "a node goes exactly when its row is there, its kind unknown, and table and output long enough"
   pub goes : EachTrimming Goes s list
-  -- "After the list the file is accepted and is the tally's". "Its rows are the old ones without theirs, renumbered, but for
-  -- where bodies lie and those child counts."
-  pub account : Account
-  pub accepted : IsRead (fileAfter s list) (rowsLeft rows (marksBy s rows list)) account
-  pub file : fileAfter s list ≡ fileLeft s rows (marksBy s rows list)
-  -- "the first one without the removed nodes, where only the sizes of the nodes around them and their parents' child counts
-  -- differ"
-  pub sameLength : length (fileAfter s list) ≡ length (bytesLeft s rows (marksBy s rows list))
-  pub differ : (at : ℕ) → (getD (fileAfter s list) at 0 ≡ getD (bytesLeft s rows (marksBy s rows list)) at 0)
-      ⊎ (InSize rows (marksBy s rows list) at ⊎ InCount rows (marksBy s rows list) at)
-  pub bodies : map (bodyOf (fileAfter s list)) (rowsLeft rows (marksBy s rows list)) ≡ map (bodyOf s) (unmarkedRows rows (marksBy s rows list))
-  -- "Every link reaches the same node"
-  pub links : linksOf (fileAfter s list) (rowsLeft rows (marksBy s rows list)) ≡ map (movedLink rows (marksBy s rows list)) (linksOf s rows)
-  pub linkCount : account .links ≡ a .links
-  -- "every other node is charged the same"
-  pub charges : map ownBytes (rowsLeft rows (marksBy s rows list)) ≡ map ownBytes (unmarkedRows rows (marksBy s rows list))
-  pub charged : account .known ≡ a .known
-  -- "and the face counts stay"
-  pub faces : facesOf (fileAfter s list) (rowsLeft rows (marksBy s rows list)) ≡ facesOf s rows
-  pub faceCount : account .faces ≡ a .faces
-  pub degenerate : account .degenerate ≡ a .degenerate
-  pub flags : account .flags ≡ a .flags
+  -- "After the list ..."
+  pub ended : IsLeft s rows a (marksBy s rows list) (fileAfter s list)
   -- "Two lists from one file that remove the same nodes, in whichever order, end with the same bytes."
   pub anyOrder : (other : List Trimming) → marksBy s rows other ≡ marksBy s rows list → fileAfter s other ≡ fileAfter s list
 
