@@ -19,7 +19,7 @@ use Rattle.table.specs.Table.{blank}
 use Rattle.format.specs.Layout.{Each}
 use Rattle.format.specs.Rows.{bodyOf, ownBytes}
 use Rattle.writer.specs.Forest.{laidOut}
-use Rattle.removal.specs.Tally.{overMarked, isAround, headerIn, sizeIn, sizeFall, countFall, fallen, nodesLeft, fileLeft}
+use Rattle.removal.specs.Tally.{sumOverMarked, isAround, headerIn, sizeIn, sizeFall, countFall, reducedHeader, nodesLeft, fileLeft}
 use Rattle.removal.specs.RemovalSequence.{unmarked, unmarkedRows, renumberedFrom, rowsLeft, bytesLeft, InHeader, InSize, InCount}
 
 -- a row whose header and body lie in the file
@@ -36,8 +36,8 @@ record Summand (x : ℕ → Row → ℕ) (j : ℕ) (rows : List Row) (marks : Li
   counts : x (j + place) (getD rows place blank) ≡ 0 → ⊥
 
 some-marked : (x : ℕ → Row → ℕ) (j : ℕ) (rows : List Row) (marks : List Bool)
-    → (overMarked x j rows marks ≡ 0 → ⊥) → Summand x j rows marks
-unfolding overMarked
+    → (sumOverMarked x j rows marks ≡ 0 → ⊥) → Summand x j rows marks
+unfolding sumOverMarked
 some-marked x j [] marks h = absurd (h refl)
 some-marked x j (r ∷ rows) [] h = absurd (h refl)
 some-marked x j (r ∷ rows) (mark ∷ marks) h =
@@ -92,13 +92,13 @@ module _ (h : List ℕ) (long : length h ≡ 24) where
   third : length (take 12 (drop 8 h)) ≡ 12
   third = length-take-le 12 (drop 8 h) (simp length-drop (omega arith))
 
-  length-fallen : (x y : ℕ) → length (fallen h x y) ≡ 24
-  unfolding fallen
-  length-fallen x y = simp (length-append, length-le, first, third)
+  length-reducedHeader : (x y : ℕ) → length (reducedHeader h x y) ≡ 24
+  unfolding reducedHeader
+  length-reducedHeader x y = simp (length-append, length-le, first, third)
 
-  fallen-none : AreBytes h → fallen h 0 0 ≡ h
-  unfolding fallen
-  fallen-none bytes =
+  reducedHeader-none : AreBytes h → reducedHeader h 0 0 ≡ h
+  unfolding reducedHeader
+  reducedHeader-none bytes =
       rw (
         sub-zero (numberAt 4 h 4),
         sub-zero (numberAt 4 h 20),
@@ -111,11 +111,11 @@ module _ (h : List ℕ) (long : length h ≡ 24) where
 
   header-alike : {P : ℕ → Type 0} (n : ℕ) → AreBytes h → (x y : ℕ)
       → ((x ≡ 0 → ⊥) → (at : ℕ) → n + 4 ≤ at → at < n + 4 + 4 → P at)
-      → ((y ≡ 0 → ⊥) → (at : ℕ) → n + 20 ≤ at → at < n + 20 + 4 → P at) → Alike P n (fallen h x y) h
-  unfolding fallen
+      → ((y ≡ 0 → ⊥) → (at : ℕ) → n + 20 ≤ at → at < n + 20 + 4 → P at) → Alike P n (reducedHeader h x y) h
+  unfolding reducedHeader
   header-alike {P} n bytes x y f g =
       let size = numberAt 4 h 4 in
-      subst (Alike P n (fallen h x y)) (fallen-none bytes)
+      subst (Alike P n (reducedHeader h x y)) (reducedHeader-none bytes)
       (append (same (take 4 h)) (omega (arith, first))
       (append (falls {n = n + 4} 4 size x f) (omega (arith, length-le 4 (size - x)))
       (append (same {n = n + 8} (take 12 (drop 8 h))) (omega (arith, third)) (falls {n = n + 20} 4 (numberAt 4 h 20) y g))))
@@ -134,7 +134,7 @@ startOf all marked i at rs ms place = getD (laidOut at (renumberedFrom all marke
 -- a place among the four bytes, from the header's byte `first` on, of a number that falls in a row that is left
 record Falling (all : List Row) (marked : List Bool) (fall : ℕ → ℕ) (first i at : ℕ) (rs : List Row) (ms : List Bool) (q : ℕ) : Type 0 where
   place : ℕ
-  isLeft : getD ms place true ≡ false
+  isUnmarked : getD ms place true ≡ false
   falls : fall (i + place) ≡ 0 → ⊥
   from : startOf all marked i at rs ms place + first ≤ q + 24
   before : q + 24 < startOf all marked i at rs ms place + first + 4
@@ -142,7 +142,7 @@ record Falling (all : List Row) (marked : List Bool) (fall : ℕ → ℕ) (first
 module _ {all : List Row} {marked : List Bool} {fall : ℕ → ℕ} {first i at : ℕ} {rs : List Row} {ms : List Bool} {q : ℕ} (r : Row) where
   in-first : (fall i ≡ 0 → ⊥) → at + first ≤ q → q < at + first + 4 → Falling all marked fall first i at (r ∷ rs) (false ∷ ms) q
   unfolding laidOut renumberedFrom unmarked
-  in-first f h k = record { place = 0; isLeft = refl; falls = rw (add-zero i) f; from = omega arith; before = omega arith }
+  in-first f h k = record { place = 0; isUnmarked = refl; falls = rw (add-zero i) f; from = omega arith; before = omega arith }
 
   in-later : (mark : Bool) → Falling all marked fall first (suc i) (cond mark at (at + ownBytes r)) rs ms q
       → Falling all marked fall first i at (r ∷ rs) (mark ∷ ms) q
@@ -150,7 +150,7 @@ module _ {all : List Row} {marked : List Bool} {fall : ℕ → ℕ} {first i at 
   in-later mark f =
       let n : ℕ = f .place in
       let e = start mark n in
-      record { place = suc n; isLeft = f .isLeft; falls = rw (onward i n) (f .falls); from = rw e (f .from); before = rw e (f .before) }
+      record { place = suc n; isUnmarked = f .isUnmarked; falls = rw (onward i n) (f .falls); from = rw e (f .from); before = rw e (f .before) }
     where
       start : (mark : Bool) (n : ℕ)
           → startOf all marked i at (r ∷ rs) (mark ∷ ms) (suc n) ≡ startOf all marked (suc i) (cond mark at (at + ownBytes r)) rs ms n
@@ -172,7 +172,7 @@ module _ (s : List ℕ) (all : List Row) (marked : List Bool) where
   length-along i (r ∷ rs) (true ∷ ms) h = length-along (suc i) rs ms (h .1)
   length-along i (r ∷ rs) (false ∷ ms) h =
       let long = lengths s r (h .0) .0 in
-      simp (length-append, length-fallen (headerIn s r) long, long) (omega (arith, length-along (suc i) rs ms (h .1)))
+      simp (length-append, length-reducedHeader (headerIn s r) long, long) (omega (arith, length-along (suc i) rs ms (h .1)))
 
   along : {P : ℕ → Type 0} → AreBytes s → (i at : ℕ) (rs : List Row) (ms : List Bool) → Each (LiesIn s) rs
       → ((q : ℕ) → SizeFalls i at rs ms q → P q) → ((q : ℕ) → CountFalls i at rs ms q → P q)
@@ -191,7 +191,7 @@ module _ (s : List ℕ) (all : List Row) (marked : List Bool) where
       rw append-assoc
       (append
       (header-alike header (long .0) at good x y (λ k q l u. f q (in-first r k l u)) (λ k q l u. g q (in-first r k l u)))
-      (omega (arith, length-fallen header (long .0) x y))
+      (omega (arith, length-reducedHeader header (long .0) x y))
       (append (same {n = at + 24} (bodyOf s r)) (omega (arith, long .1))
       (along bytes (suc i) (at + ownBytes r) rs ms (h .1) (λ q k. f q (in-later r false k)) (λ q k. g q (in-later r false k)))))
 
@@ -204,14 +204,14 @@ same-length s rows marks h = simp length-append (ap (λ n. length (take 16 s) + 
 -- a number that falls does so by some marked row
 in-header : {To : (row marked : ℕ) → Type 0} (first : ℕ) (rows : List Row) (marks : List Bool) (x : ℕ → ℕ → Row → ℕ)
     → ((i j : ℕ) → (x i j (getD rows j blank) ≡ 0 → ⊥) → To i j)
-    → (at : ℕ) → Falling rows marks (λ i. overMarked (x i) 0 rows marks) first 0 16 rows marks at → InHeader To first rows marks at
+    → (at : ℕ) → Falling rows marks (λ i. sumOverMarked (x i) 0 rows marks) first 0 16 rows marks at → InHeader To first rows marks at
 unfolding rowsLeft
 in-header first rows marks x to at f =
     let m = some-marked (x (f .place)) 0 rows marks (rw (zero-add (f .place)) at (f .falls)) in
     record {
       row = f .place;
       marked = m .place;
-      isLeft = f .isLeft;
+      isUnmarked = f .isUnmarked;
       isMarked = m .isMarked;
       to = to (f .place) (m .place) (rw (zero-add (m .place)) at (m .counts));
       from = f .from;

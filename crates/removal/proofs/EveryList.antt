@@ -26,14 +26,15 @@ use Rattle.reader.specs.Reading.{readingOf, verdict}
 use Rattle.reader.specs.Reading.{tableAfter as readTable}
 use Rattle.reader.specs.Acceptance.{AnswerOf, facesOf}
 use Rattle.reader.proofs.Exactly.{valid-flags, valid-verdict, verdict-valid, valid-answer, in-room, has-room, answersTheRules}
-use Rattle.removal.specs.Tally.{Told, noMarks, fileLeft, tell, answers, marksAfter}
-use Rattle.removal.specs.RemovalSequence.{Trimming, answerTo, fileFrom, answersOf, fileAfter, EachTrimming, fedBy, marksBy, IsRead, Goes, unmarkedRows, rowsLeft, bytesLeft, InSize, InCount, movedLink, IsLeft, HoldsOf, EveryList}
+use Rattle.removal.specs.Tally.{Tallied, noMarks, fileLeft, tallyStep, answers, marksAfter}
+use Rattle.removal.specs.RemovalSequence.{Trimming, answerTo, fileFrom, answersOf, fileAfter, EachTrimming, fedBy, marksBy, IsRead, Goes, Leaves, unmarkedRows, rowsLeft, bytesLeft, InSize, InCount, movedLink, IsLeft, HoldsOf, EveryList}
 use Rattle.removal.proofs.Marked.{Marked, bare, kept, marks, fresh, bare-fresh, kept-fresh}
 use Rattle.removal.proofs.Marking.{marks-fresh}
 use Rattle.removal.proofs.StillValid.{valid-kept, length-file}
 use Rattle.removal.proofs.LeftLinks.{faces-left, owns-left, bodies-left, known-left, links-left}
 use Rattle.removal.proofs.TallyFile.{file-left}
 use Rattle.removal.proofs.Trimmed.{rows-are, rows-same}
+use Rattle.removal.proofs.Bytes.{bytes-left}
 use Rattle.removal.proofs.Differ.{LiesIn, same-length, differ}
 use Rattle.removal.proofs.Steps.{accountFor, is-read, Step, step}
 
@@ -45,14 +46,15 @@ record Ran (flags : ℕ) (f : Forest) (m : Marked) (list : List Trimming) : Type
   marked : marksAfter (fileOf flags f) (rowsOf f) (marks m) (map fedBy list) ≡ marks after
   file : fileAfter (fileOf flags (kept m)) list ≡ fileOf flags (kept after)
   goes : EachTrimming Goes (fileOf flags (kept m)) list
+  leaves : EachTrimming Leaves (fileOf flags (kept m)) list
 
 ran : (flags : ℕ) (f : Forest) → Valid flags f → (list : List Trimming) (m : Marked) → bare m ≡ f → Ran flags f m list
 unfolding answersOf answers marksAfter fileAfter
-ran flags f v [] m e = record { after = m; first = e; answered = refl; marked = refl; file = refl; goes = tt }
+ran flags f v [] m e = record { after = m; first = e; answered = refl; marked = refl; file = refl; goes = tt; leaves = tt }
 ran flags f v (c ∷ list) m e =
     let st = step flags m (subst (Valid flags) (sym e) v) c in
     let rest = ran flags f v list (st .after) (st .same ∙ e) in
-    let told : Forest → Told = λ g. tell (fileOf flags g) (rowsOf g) (marks m) (fedBy c) in
+    let told : Forest → Tallied = λ g. tallyStep (fileOf flags g) (rowsOf g) (marks m) (fedBy c) in
     let answer : answerTo (fileOf flags (kept m)) c ≡ told f .answer = subst (λ g. answerTo (fileOf flags (kept m)) c ≡ told g .answer) e (st .answer) in
     let marked : told f .marks ≡ marks (st .after) = subst (λ g. told g .marks ≡ marks (st .after)) e (st .marked) in
     record {
@@ -65,6 +67,7 @@ ran flags f v (c ∷ list) m e =
       marked = ap (λ ms. marksAfter (fileOf flags f) (rowsOf f) ms (map fedBy list)) marked ∙ rest .marked;
       file = ap (λ s. fileAfter s list) (st .file) ∙ rest .file;
       goes = (st .goes, subst (λ s. EachTrimming Goes s list) (sym (st .file)) (rest .goes));
+      leaves = (st .leaves, subst (λ s. EachTrimming Leaves s list) (sym (st .file)) (rest .leaves));
     }
 
 -- ---- what is left
@@ -113,13 +116,17 @@ module _ (flags : ℕ) (m : Marked) (v : Valid flags (bare m)) (bytes : AreBytes
         account = accountFor flags (kept m);
         accepted = subst (λ rs. IsRead left rs (accountFor flags (kept m))) are (is-read flags (kept m) valid);
         flags = valid-flags left flags (kept m) valid refl ∙ sym (valid-flags s flags (bare m) v refl);
-        isTallys = tally;
+        isTallyFile = tally;
         sameLength = ap length tally ∙ same-length s rows (marks m) inside;
         differ = subst (λ l. (at : ℕ) → Differs l at) (sym tally) (differ s rows (marks m) bytes (omega (arith, length-file flags (bare m))) inside);
         bodies = subst (λ rs. map (bodyOf left) rs ≡ map (bodyOf s) (unmarkedRows rows (marks m))) are (bodies-left same);
         links = subst (λ rs. linksOf left rs ≡ map (movedLink rows (marks m)) (linksOf s rows)) are links;
         linkCount = new .links ∙ ap length links ∙ length-map (linksOf s rows) (movedLink rows (marks m)) ∙ sym (old .links);
-        charges = subst (λ rs. map ownBytes rs ≡ map ownBytes (unmarkedRows rows (marks m))) are (owns-left same);
+        charges = λ t h.
+            ap (λ u. map ownBytes (rowsAt u 0 (length (rowsOf (kept m))))) (is-read flags (kept m) valid .table t h)
+            ∙ ap (map ownBytes) (rows-filled t (rowsOf (kept m)) h (omega (arith, length-rows (kept m) noParent 0 16, valid .few)))
+            ∙ owns-left same;
+        bytes = subst AreBytes (sym tally) (bytes-left s bytes rows (marks m));
         charged = ap ofBytes (known-left same);
         faces = subst (λ rs. facesOf left rs ≡ facesOf s rows) are faces;
         faceCount = ap ofFaces (new .faces ∙ ap length faces ∙ sym (old .faces));
@@ -158,8 +165,9 @@ module _ (flags : ℕ) (f : Forest) (v : Valid flags f) (bytes : AreBytes (fileO
   holds list = record {
     answered = ap (λ g. answersOf (fileOf flags g) list) (sym (kept-fresh f)) ∙ from-first list .answered ∙ ap (λ ms. answers (fileOf flags f) (rowsOf f) ms (map fedBy list)) no-mark;
     goes = subst (λ g. EachTrimming Goes (fileOf flags g) list) (kept-fresh f) (from-first list .goes);
+    leaves = subst (λ g. EachTrimming Leaves (fileOf flags g) list) (kept-fresh f) (from-first list .leaves);
     ended = ended list;
-    anyOrder = λ other e. ended other .isTallys ∙ ap (fileLeft (fileOf flags f) (rowsOf f)) e ∙ sym (ended list .isTallys);
+    anyOrder = λ other e. ended other .isTallyFile ∙ ap (fileLeft (fileOf flags f) (rowsOf f)) e ∙ sym (ended list .isTallyFile);
   }
 
 account-same : (a b : Account) → Accepted a ≡ Accepted b → b ≡ a

@@ -21,7 +21,7 @@ use Rattle.format.specs.Layout.{Fits, WellFormed, WellFormedFile, Few}
 use Rattle.format.proofs.Headers.{length-header, fileHeader-drop}
 use Rattle.format.proofs.Rows.{length-rows}
 use Rattle.reader.proofs.Counts.{Outside, within, not-first}
-use Rattle.removal.specs.Tally.{overMarked, isAround, sizeIn, sizeFall, countFall}
+use Rattle.removal.specs.Tally.{sumOverMarked, isAround, sizeIn, sizeFall, countFall}
 use Rattle.removal.proofs.Marked.{Marked, mend, mkn, mun, bare, marks, lost, goneTop, Falls, length-marks}
 
 -- ---- parts of lists
@@ -158,23 +158,23 @@ module _ (s : List ℕ) (all : List Row) where
 
 -- ---- sums over marked rows
 
-overMarked-append : (x : ℕ → Row → ℕ) (j k : ℕ) (xs ys : List Row) (ms ns : List Bool) → length xs ≡ length ms → j + length xs ≡ k
-    → overMarked x j (xs ++ ys) (ms ++ ns) ≡ overMarked x j xs ms + overMarked x k ys ns
-unfolding overMarked
-overMarked-append x j k [] ys [] ns e h = let n : k ≡ j = omega arith in rw (n, zero-add)
-overMarked-append x j k [] ys (m ∷ ms) ns e h = absurd (omega arith)
-overMarked-append x j k (r ∷ xs) ys [] ns e h = absurd (omega arith)
-overMarked-append x j k (r ∷ xs) ys (m ∷ ms) ns e h =
-    rw (overMarked-append x (suc j) k xs ys ms ns (omega arith) (omega arith)) (omega arith)
+sumOverMarked-append : (x : ℕ → Row → ℕ) (j k : ℕ) (xs ys : List Row) (ms ns : List Bool) → length xs ≡ length ms → j + length xs ≡ k
+    → sumOverMarked x j (xs ++ ys) (ms ++ ns) ≡ sumOverMarked x j xs ms + sumOverMarked x k ys ns
+unfolding sumOverMarked
+sumOverMarked-append x j k [] ys [] ns e h = let n : k ≡ j = omega arith in rw (n, zero-add)
+sumOverMarked-append x j k [] ys (m ∷ ms) ns e h = absurd (omega arith)
+sumOverMarked-append x j k (r ∷ xs) ys [] ns e h = absurd (omega arith)
+sumOverMarked-append x j k (r ∷ xs) ys (m ∷ ms) ns e h =
+    rw (sumOverMarked-append x (suc j) k xs ys ms ns (omega arith) (omega arith)) (omega arith)
 
 -- over the rows of a forest under a chain
 abbrev sum : (ℕ → Row → ℕ) → Marked → (c : List ℕ) (row at : ℕ) → ℕ
-sum x m c row at = overMarked x row (rows (bare m) (parentOf c) row at) (marks m)
+sum x m c row at = sumOverMarked x row (rows (bare m) (parentOf c) row at) (marks m)
 
 sum-known : (x : ℕ → Row → ℕ) (k h p : ℕ) (body : List ℕ) (kids next : Marked) (c : List ℕ) (row at : ℕ)
     → sum x (mkn k h p body kids next) c row at ≡ sum x kids (row ∷ c) (suc row) (at + 24 + length body)
     + sum x next c (suc row + nodes (bare kids)) (at + 24 + length body + length (encode (bare kids)))
-unfolding overMarked
+unfolding sumOverMarked
 sum-known x k h p body kids next c row at =
     let here : ℕ = at + 24 + length body in
     let over : ℕ = suc row + nodes (bare kids) in
@@ -182,7 +182,7 @@ sum-known x k h p body kids next c row at =
     let beside = rows (bare next) (parentOf c) over (here + length (encode (bare kids))) in
     let n = length-rows (bare kids) row (suc row) here in
     zero-add _
-    ∙ overMarked-append x (suc row) over below beside (marks kids) (marks next) (n ∙ sym (length-marks kids)) (ap (λ n. suc row + n) n)
+    ∙ sumOverMarked-append x (suc row) over below beside (marks kids) (marks next) (n ∙ sym (length-marks kids)) (ap (λ n. suc row + n) n)
 
 by-mark : (g : Bool) → _≡_ {A = ℕ} (cond g 0 0) 0
 by-mark true = refl
@@ -213,7 +213,7 @@ module _ (s : List ℕ) (all : List Row) (x : ℕ → ℕ → Row → ℕ) (test
   -- no row falls for nodes that are not under it
   none-lost : (i : ℕ) (m : Marked) (c : List ℕ) (row at : ℕ) → Sits s all m c row at → test i c ≡ false → Outside i row (nodes (bare m))
       → sum (x i) m c row at ≡ 0
-  unfolding overMarked
+  unfolding sumOverMarked
   none-lost i mend c row at sat t out = refl
   none-lost i (mkn k h p body kids next) c row at sat t out =
       let n = nodes (bare (mkn k h p body kids next)) in
@@ -236,7 +236,7 @@ module _ (s : List ℕ) (all : List Row) (x : ℕ → ℕ → Row → ℕ) (test
       (owns : (i : ℕ) (m : Marked) (c : List ℕ) (at : ℕ) → Sits s all m (i ∷ c) (suc i) at → sum (x i) m (i ∷ c) (suc i) at ≡ own m) where
     falls-by : (m : Marked) (c : List ℕ) (row at : ℕ) → Sits s all m c row at → Before test c row → row + nodes (bare m) ≤ 1024
         → Inside T x m c row at → FallsBy T own m row
-    unfolding overMarked
+    unfolding sumOverMarked
     falls-by mend c row at sat before few inside = tt
     falls-by (mkn k h p body kids next) c row at sat before few inside =
         let here : ℕ = at + 24 + length body in
@@ -281,7 +281,7 @@ sizes-weigh s all = record {
 -- a row around some nodes loses the bytes of the marked ones
 module _ (s : List ℕ) (all : List Row) (i : ℕ) where
   bytes-lost : (m : Marked) (c : List ℕ) (row at : ℕ) → Sits s all m c row at → elem i c ≡ true → sum (sizeBy s all i) m c row at ≡ lost m
-  unfolding overMarked
+  unfolding sumOverMarked
   bytes-lost mend c row at sat t = refl
   bytes-lost (mkn k h p body kids next) c row at sat t =
       let here : ℕ = at + 24 + length body in
@@ -308,7 +308,7 @@ counts-weigh all = record {
 -- a parent loses its marked children
 module _ (s : List ℕ) (all : List Row) (i : ℕ) (c : List ℕ) where
   children-lost : (m : Marked) (row at : ℕ) → Sits s all m (i ∷ c) row at → i < row → sum (countBy i) m (i ∷ c) row at ≡ goneTop m
-  unfolding overMarked
+  unfolding sumOverMarked
   children-lost mend row at sat l = refl
   children-lost (mkn k h p body kids next) row at sat l =
       let here : ℕ = at + 24 + length body in

@@ -17,19 +17,19 @@ use Rattle.format.specs.Layout.{Each, Few}
 use Rattle.format.proofs.Each.{each-map}
 use Rattle.format.proofs.Rows.{length-rows}
 use Rattle.format.proofs.Within.{Under, rows-under}
-use Rattle.removal.specs.Trimming.{lowered, mended, withoutFrom, without}
-use Rattle.removal.specs.Tally.{noMarks, overMarked, countFall}
+use Rattle.removal.specs.Trimmer.{lowered, mended, withoutFrom, without}
+use Rattle.removal.specs.Tally.{noMarks, sumOverMarked, countFall}
 use Rattle.removal.specs.RemovalSequence.{unmarked, numberOf, renumbered, renumberedFrom}
 
 -- ---- sums over the marked rows
-over-none : (x : ℕ → Row → ℕ) (j : ℕ) (rs : List Row) → overMarked x j rs (noMarks rs) ≡ 0
-unfolding overMarked
+over-none : (x : ℕ → Row → ℕ) (j : ℕ) (rs : List Row) → sumOverMarked x j rs (noMarks rs) ≡ 0
+unfolding sumOverMarked
 over-none x j [] = refl
 over-none x j (r ∷ rs) = omega (arith, over-none x (suc j) rs)
 
 over-one : (x : ℕ → Row → ℕ) (j k : ℕ) (rs : List Row) → k < length rs
-    → overMarked x j rs (set (noMarks rs) k true) ≡ x (j + k) (getD rs k blank)
-unfolding overMarked
+    → sumOverMarked x j rs (set (noMarks rs) k true) ≡ x (j + k) (getD rs k blank)
+unfolding sumOverMarked
 over-one x j k [] h = absurd (omega arith)
 over-one x j zero (r ∷ rs) h =
     let here : j + 0 ≡ j = omega arith in

@@ -7,8 +7,8 @@ use mathlib.Core.Bool.{Bool, true, false, true≢false}
 use mathlib.Core.Option.{some}
 use mathlib.Core.List.{List}
 use lib.Dec.{leb, ltb}
-use lib.ListN.{length, getD, set}
-use lib.Seq.{take-append-seam}
+use lib.ListN.{length, getD, set, drop}
+use lib.Seq.{take-append-seam, drop-append-seam}
 use borrow.Author.Tests.{ltb-true, ltb-false, leb-true, leb-false, lt-ltb, le-ltb, le-leb, lt-leb, ne-eqb}
 use Rattle.le.proofs.Tests.{by-test}
 use Rattle.kinds.specs.Kinds.{isKnown}
@@ -27,9 +27,9 @@ use Rattle.reader.proofs.Exactly.{valid-rows, valid-verdict, in-room, answersTh
 use Rattle.reader.proofs.Whole.{short-table}
 use Rattle.emit.specs.declared.Written.{Written}
 use Rattle.emit.specs.Emission.{refused, done, leftBy}
-use Rattle.removal.specs.Trimming.{removal, newFile, trimmedOf, outputAfter}
-use Rattle.removal.specs.Tally.{Told, refusal, byRow, fileLeft, tell}
-use Rattle.removal.specs.RemovalSequence.{Trimming, answerTo, fileFrom, fedBy, IsRead, Removable, Goes}
+use Rattle.removal.specs.Trimmer.{removal, newFile, trimmedOf, outputAfter, tableAfter}
+use Rattle.removal.specs.Tally.{Tallied, refusal, byRow, fileLeft, tallyStep}
+use Rattle.removal.specs.RemovalSequence.{Trimming, answerTo, fileFrom, fedBy, IsRead, Removable, Goes, Leaves}
 use Rattle.removal.proofs.Marked.{Marked, bare, kept, marks}
 use Rattle.removal.proofs.Marking.{At, stands-at, Stands, numbered-at, numbered-none, unmarked-marks, at-left, kind-at, kind-left}
 use Rattle.removal.proofs.Marking.{mark, bare-mark, marks-mark, ownAt, own-at, length-mark}
@@ -68,14 +68,29 @@ module _ (s : List ℕ) (c : Trimming) where
   unfolding outputAfter leftBy
   written-file e = rw e (take-append-seam (newFile s (c .row)) _)
 
+  leaves-refused : (n place : ℕ) → answerTo s c ≡ refused (suc n) place → Leaves s c
+  unfolding outputAfter leftBy tableAfter
+  leaves-refused n place e = record {
+    output = rw (e, ne-eqb (suc n) 0 (λ z. omega (arith, z)));
+    table = rw (e, ne-eqb (suc n) 0 (λ z. omega (arith, z)));
+  }
+
+  leaves-written : answerTo s c ≡ done (length (newFile s (c .row))) → Leaves s c
+  unfolding outputAfter leftBy tableAfter
+  leaves-written e = record {
+    output = rw e (drop-append-seam (newFile s (c .row)) _);
+    table = rw (e, take-append-seam (newFile s (c .row)) (drop (length (newFile s (c .row))) (c .output)));
+  }
+
 -- ---- one step of both
 pub record Step (flags : ℕ) (m : Marked) (c : Trimming) : Type 0 where
   pub after : Marked
   pub same : bare after ≡ bare m
-  pub answer : answerTo (fileOf flags (kept m)) c ≡ tell (fileOf flags (bare m)) (rowsOf (bare m)) (marks m) (fedBy c) .answer
-  pub marked : tell (fileOf flags (bare m)) (rowsOf (bare m)) (marks m) (fedBy c) .marks ≡ marks after
+  pub answer : answerTo (fileOf flags (kept m)) c ≡ tallyStep (fileOf flags (bare m)) (rowsOf (bare m)) (marks m) (fedBy c) .answer
+  pub marked : tallyStep (fileOf flags (bare m)) (rowsOf (bare m)) (marks m) (fedBy c) .marks ≡ marks after
   pub file : fileFrom (fileOf flags (kept m)) c ≡ fileOf flags (kept after)
   pub goes : Goes (fileOf flags (kept m)) c
+  pub leaves : Leaves (fileOf flags (kept m)) c
 
 module _ (flags : ℕ) (m : Marked) (v : Valid flags (bare m)) (c : Trimming) where
   abbrev s : List ℕ
@@ -84,8 +99,8 @@ module _ (flags : ℕ) (m : Marked) (v : Valid flags (bare m)) (c : Trimming) wh
   abbrev rows : List Row
   rows = rowsOf (kept m)
 
-  abbrev told : Told
-  told = tell (fileOf flags (bare m)) (rowsOf (bare m)) (marks m) (fedBy c)
+  abbrev told : Tallied
+  told = tallyStep (fileOf flags (bare m)) (rowsOf (bare m)) (marks m) (fedBy c)
 
   abbrev k : ℕ
   k = c .row
@@ -101,8 +116,8 @@ module _ (flags : ℕ) (m : Marked) (v : Valid flags (bare m)) (c : Trimming) wh
   refuse n a t stays = record {
     after = m;
     same = refl;
-    answer = a ∙ ap (λ (x : Told). x .answer) (sym t);
-    marked = ap (λ (x : Told). x .marks) t;
+    answer = a ∙ ap (λ (x : Tallied). x .answer) (sym t);
+    marked = ap (λ (x : Tallied). x .marks) t;
     file = same-file s c n 0 a;
     goes = record {
       rows = rows;
@@ -110,10 +125,11 @@ module _ (flags : ℕ) (m : Marked) (v : Valid flags (bare m)) (c : Trimming) wh
       read = is-read flags (kept m) valid;
       exactly = (λ e. absurd (omega (arith, ap (λ (w : Written). w .number) (sym a) ∙ e)), λ r. absurd (stays r));
     };
+    leaves = leaves-refused s c n 0 a;
   }
 
   short : hasRoom (c .table) ≡ false → Step flags m c
-  unfolding trimmedOf tell
+  unfolding trimmedOf tallyStep
   short h = refuse 0 (rw (← (short-table s (c .table) h .0))) (rw (no-room (c .table) h)) (λ r. omega (arith, r .table, ltb-true (length (c .table)) 8192 (no-room (c .table) h)))
 
   module _ (h : hasRoom (c .table) ≡ true) where
@@ -122,7 +138,7 @@ module _ (flags : ℕ) (m : Marked) (v : Valid flags (bare m)) (c : Trimming) wh
     trimmed = rw (in-room s (c .table) h, valid-verdict s flags (kept m) valid refl, valid-rows s flags (kept m) valid refl)
 
     none-there : nodes (kept m) ≤ k → Step flags m c
-    unfolding tell
+    unfolding tallyStep
     none-there l =
         refuse 29 (trimmed ∙ rw (le-leb (length rows) k (omega (arith, length-left))))
         (rw (some-room (c .table) h, numbered-none 0 (marks m) k (omega (arith, unmarked-marks m))))
@@ -133,7 +149,7 @@ module _ (flags : ℕ) (m : Marked) (v : Valid flags (bare m)) (c : Trimming) wh
       there = lt-leb (length rows) k (omega (arith, at-left a, length-left))
 
       told-of : told ≡ byRow (some i) (fileOf flags (bare m)) (rowsOf (bare m)) (marks m) (length (c .output))
-      unfolding tell
+      unfolding tallyStep
       told-of = rw (some-room (c .table) h, numbered-at a 0) (ap (λ j. byRow (some j) (fileOf flags (bare m)) (rowsOf (bare m)) (marks m) (length (c .output))) (omega arith))
 
       kind-old : isKnown (getD (rowsOf (bare m)) i blank .kind) ≡ z
@@ -176,8 +192,8 @@ module _ (flags : ℕ) (m : Marked) (v : Valid flags (bare m)) (c : Trimming) wh
           record {
             after = mark a;
             same = bare-mark a;
-            answer = answer ∙ ap (λ (x : Told). x .answer) (sym both);
-            marked = ap (λ (x : Told). x .marks) both ∙ sym (marks-mark a);
+            answer = answer ∙ ap (λ (x : Tallied). x .answer) (sym both);
+            marked = ap (λ (x : Tallied). x .marks) both ∙ sym (marks-mark a);
             file = written-file s c (answer ∙ ap (λ l. done (length l)) (sym new)) ∙ new;
             goes = record {
               rows = rows;
@@ -193,6 +209,7 @@ module _ (flags : ℕ) (m : Marked) (v : Valid flags (bare m)) (c : Trimming) wh
                 λ r. ap (λ (w : Written). w .number) answer,
               );
             };
+            leaves = leaves-written s c (answer ∙ ap (λ l. done (length l)) (sym new));
           }
 
     by-node : {z : Bool} {i : ℕ} → At m z k i → Step flags m c

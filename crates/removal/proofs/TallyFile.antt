@@ -19,7 +19,7 @@ use Rattle.format.specs.Rows.{rows, rowsOf}
 use Rattle.format.specs.Layout.{Fits, WellFormed, WellFormedFile, Placed, Few}
 use Rattle.format.proofs.Headers.{length-fileHeader, fileHeader-drop}
 use Rattle.format.proofs.Rows.{length-rows}
-use Rattle.removal.specs.Tally.{fallen, nodesLeft, fileLeft}
+use Rattle.removal.specs.Tally.{reducedHeader, nodesLeft, fileLeft}
 use Rattle.removal.proofs.Marked.{Marked, mend, mkn, mun, bare, kept, marks, lost, goneTop, Falls, length-marks, length-kept, count-kept}
 use Rattle.removal.proofs.Falls.{falls, size-in, known-header, known-body, known-kids, known-next}
 use Rattle.removal.proofs.Falls.{unknown-header, unknown-body, unknown-next}
@@ -50,9 +50,9 @@ children-in : (k z h p c : ℕ) → Fits k z h p c → numberAt 4 (header k z h 
 unfolding numberAt header le
 children-in k z h p c fits = val-le 4 c (fits .4)
 
-fallen-header : (k z h p c x y : ℕ) → Fits k z h p c → fallen (header k z h p c) x y ≡ header k (z - x) h p (c - y)
-unfolding fallen
-fallen-header k z h p c x y fits = rw (size-in k z h p c fits, children-in k z h p c fits) (put k z h p c (z - x) (c - y))
+reducedHeader-header : (k z h p c x y : ℕ) → Fits k z h p c → reducedHeader (header k z h p c) x y ≡ header k (z - x) h p (c - y)
+unfolding reducedHeader
+reducedHeader-header k z h p c x y fits = rw (size-in k z h p c fits, children-in k z h p c fits) (put k z h p c (z - x) (c - y))
 
 -- ---- the nodes that are left
 
@@ -93,7 +93,7 @@ module _ (s : List ℕ) (all : List Row) (marked : List Bool) where
         known-header s post k h p body (bare kids) (bare next) at e,
         f .0,
         f .1,
-        fallen-header k z h p (count (bare kids)) (lost kids) (goneTop kids) (w .1),
+        reducedHeader-header k z h p (count (bare kids)) (lost kids) (goneTop kids) (w .1),
         size,
         children,
         body-in s body (encode (bare kids) ++ (encode (bare next) ++ post)) (at + 24) (known-body s post k h p body (bare kids) (bare next) at e),
@@ -108,7 +108,7 @@ module _ (s : List ℕ) (all : List Row) (marked : List Bool) where
         unknown-header s post k h p c rest (bare next) at e,
         f .0,
         f .1,
-        fallen-header k (24 + length rest) h p c 0 0 (w .1),
+        reducedHeader-header k (24 + length rest) h p c 0 0 (w .1),
         sub-zero (24 + length rest),
         sub-zero c,
         body-in s rest (encode (bare next) ++ post) (at + 24) (unknown-body s post k h p c rest (bare next) at e),

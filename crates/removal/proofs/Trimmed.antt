@@ -15,7 +15,7 @@ use Rattle.reader.proofs.Exactly.{valid-rows, valid-flags}
 use Rattle.emit.specs.Emission.{fileBytes}
 use Rattle.writer.specs.Forest.{laidOut}
 use Rattle.writer.proofs.RoundTrip.{same-bytes}
-use Rattle.removal.specs.Trimming.{without, newFile}
+use Rattle.removal.specs.Trimmer.{without, newFile}
 use Rattle.removal.specs.Tally.{noMarks}
 use Rattle.removal.specs.RemovalSequence.{unmarkedRows, renumberedFrom, rowsLeft}
 use Rattle.removal.proofs.Marked.{Marked, bare, kept, marks, fresh, Left}

@@ -25,8 +25,8 @@ use Rattle.reader.specs.Reading.{tableAfter as readTable}
 use Rattle.emit.specs.declared.Written.{Written}
 use Rattle.emit.specs.Emission.{under, sizes, nodesBytes, roots, fileBytes, refused, done, leftBy}
 use Rattle.writer.specs.Forest.{laidOut}
-use Rattle.removal.specs.Trimming.{withoutFrom, newFile, trimmedOf, outputAfter, tableAfter}
-use Rattle.removal.specs.Tally.{Fed, noMarks, rowNumbered, overMarked, isAround, fallen, nodesLeft, fileLeft, tell, answers, marksAfter}
+use Rattle.removal.specs.Trimmer.{withoutFrom, newFile, trimmedOf, outputAfter, tableAfter}
+use Rattle.removal.specs.Tally.{Fed, noMarks, rowNumbered, sumOverMarked, isAround, reducedHeader, nodesLeft, fileLeft, tallyStep, answers, marksAfter}
 use Rattle.removal.specs.RemovalSequence.{Trimming, answersOf, fileAfter, fedBy, unmarked, renumberedFrom, rowsLeft}
 
 -- ---- the run, and the tally, of a file with these rows: the answers, and the file after the list
@@ -34,13 +34,13 @@ pub record Ended : Type 0 where
   pub answers : List Written
   pub file : List ℕ
 
-unfoldable ran : List ℕ → List Trimming → Ended
+unfoldable byRun : List ℕ → List Trimming → Ended
 unfolding val numberAt bytesOk same decimal number numbered kindLines lineIn lineOf isKnown standsAtTop standsUnder mayStand hasRoom headerRefusal dataRefusal toZero dataOf nameAt stepAt pass properties firstNamed widthOf facesIn below degenerate letters lines unpacked texts lists ruleIn ofKind linesOf isText inSet isOneOf le lengthOf valueOf typesOf besideOf typed misses lacks faultOf valued nodeFaces nodeLinks verdictAt judgedAt judged header fileHeader reached linksAt linksFrom resolved linked headerAt nodeRefusal andThen children knownNode nodeBy node nodeAt childrenAt walkOf limited bonesUnder judgedWith ruled ownKnown ownUnknown checked verdict readingOf under sizes nodesBytes roots fileBytes leftBy withoutFrom newFile trimmedOf outputAfter answersOf fileAfter
-ran s list = record { answers = answersOf s list; file = fileAfter s list }
+byRun s list = record { answers = answersOf s list; file = fileAfter s list }
 
-unfoldable tallied : List ℕ → List Row → List Trimming → Ended
-unfolding val numberAt kindLines lineIn lineOf isKnown le rowNumbered overMarked isAround fallen nodesLeft fileLeft tell answers marksAfter
-tallied s rows list = record {
+unfoldable byTally : List ℕ → List Row → List Trimming → Ended
+unfolding val numberAt kindLines lineIn lineOf isKnown le rowNumbered sumOverMarked isAround reducedHeader nodesLeft fileLeft tallyStep answers marksAfter
+byTally s rows list = record {
   answers = answers s rows (noMarks rows) (map fedBy list);
   file = fileLeft s rows (marksAfter s rows (noMarks rows) (map fedBy list));
 }
@@ -84,12 +84,12 @@ e10 = cast (head root 51 1 ++ (head private 27 0 ++ (97 ∷ 98 ∷ 99 ∷ [])))
 e3 : List ℕ
 e3 = cast (head root 24 0)
 
-e10-trimmed : ran e10 (trim 1 ∷ []) ≡ record { answers = done 40 ∷ []; file = e3 }
-unfolding ran cast head e10 e3
+e10-trimmed : byRun e10 (trim 1 ∷ []) ≡ record { answers = done 40 ∷ []; file = e3 }
+unfolding byRun cast head e10 e3
 e10-trimmed = refl
 
-e10-tallied : tallied e10 (row root noParent 40 40 1 ∷ row private 0 64 67 0 ∷ []) (trim 1 ∷ []) ≡ record { answers = done 40 ∷ []; file = e3 }
-unfolding tallied cast head e10 e3
+e10-tallied : byTally e10 (row root noParent 40 40 1 ∷ row private 0 64 67 0 ∷ []) (trim 1 ∷ []) ≡ record { answers = done 40 ∷ []; file = e3 }
+unfolding byTally cast head e10 e3
 e10-tallied = refl
 
 -- what is left in an output of 42 bytes, in one of 39, and, of a table of 8,193 numbers, in its first nine and its last
@@ -113,14 +113,14 @@ rows = row root noParent 40 40 2 ∷ row model 0 64 64 2 ∷ row private 1 88 91
 -- run and tally give these answers and this file
 abbrev Both : List Trimming → List Written → List ℕ → Type 0
 Both list told after =
-    (ran file list ≡ record { answers = told; file = after }) × (tallied file rows list ≡ record { answers = told; file = after })
+    (byRun file list ≡ record { answers = told; file = after }) × (byTally file rows list ≡ record { answers = told; file = after })
 
 -- A and B, under one parent, in either order: the Model has none left, and the Root is smaller by both
 withoutAB : List ℕ
 withoutAB = cast (head root 74 2 ++ (head model 24 0 ++ (head private 26 0 ++ (3 ∷ 3 ∷ []))))
 
 a-and-b : Both (trim 2 ∷ trim 2 ∷ []) (done 115 ∷ done 90 ∷ []) withoutAB × Both (trim 3 ∷ trim 2 ∷ []) (done 117 ∷ done 90 ∷ []) withoutAB
-unfolding ran tallied cast head file rows withoutAB
+unfolding byRun byTally cast head file rows withoutAB
 a-and-b = ((refl, refl), (refl, refl))
 
 -- A and C, under the Model and under the Root around it, in either order
@@ -128,14 +128,22 @@ withoutAC : List ℕ
 withoutAC = cast (head root 73 1 ++ (head model 49 1 ++ (head private 25 0 ++ (2 ∷ []))))
 
 a-and-c : Both (trim 2 ∷ trim 3 ∷ []) (done 115 ∷ done 89 ∷ []) withoutAC × Both (trim 4 ∷ trim 2 ∷ []) (done 116 ∷ done 89 ∷ []) withoutAC
-unfolding ran tallied cast head file rows withoutAC
+unfolding byRun byTally cast head file rows withoutAC
 a-and-c = ((refl, refl), (refl, refl))
 
 -- the rows that are left of it: B is row 2 and lies where A lay; Root and Model have a child less
 rows-left : rowsLeft rows (false ∷ false ∷ true ∷ false ∷ true ∷ []) ≡
     row root noParent 40 40 1 ∷ row model 0 64 64 1 ∷ row private 1 88 89 0 ∷ []
-unfolding overMarked unmarked renumberedFrom laidOut rowsLeft rows
+unfolding sumOverMarked unmarked renumberedFrom laidOut rowsLeft rows
 rows-left = refl
+
+-- ---- a Root with a private node before a Model that has one: the Model becomes row 1, and so the other's parent
+before : List ℕ
+before = cast (head root 99 2 ++ (head private 26 0 ++ (1 ∷ 1 ∷ head model 49 1 ++ (head private 25 0 ++ (2 ∷ [])))))
+
+renumbers : byRun before (trim 1 ∷ []) ≡ record { answers = done 89 ∷ []; file = withoutAC }
+unfolding byRun cast head before withoutAC
+renumbers = refl
 
 -- ---- with refusals between: 1 before 30; 30; 31; 32 by one byte; then A with just enough room; 31; 30, as rows have become
 -- fewer; then C
@@ -146,10 +154,10 @@ abbrev told : List Written
 told = refused 1 0 ∷ refused 30 0 ∷ refused 31 0 ∷ refused 32 0 ∷ done 115 ∷ refused 31 0 ∷ refused 30 0 ∷ done 89 ∷ []
 
 with-refusals : Both mixed told withoutAC
-unfolding ran tallied cast head file rows withoutAC
+unfolding byRun byTally cast head file rows withoutAC
 with-refusals = (refl, refl)
 
 -- a file that is refused, with the reader's number and place
-refused-file : ran (cast (head model 24 0)) (trim 0 ∷ []) ≡ record { answers = refused 6 16 ∷ []; file = cast (head model 24 0) }
-unfolding ran cast head
+refused-file : byRun (cast (head model 24 0)) (trim 0 ∷ []) ≡ record { answers = refused 6 16 ∷ []; file = cast (head model 24 0) }
+unfolding byRun cast head
 refused-file = refl

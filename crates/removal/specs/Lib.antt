@@ -1,4 +1,4 @@
-pub mod Trimming
+pub mod Trimmer
 pub mod Tally
 pub mod RemovalSequence
 pub mod Examples

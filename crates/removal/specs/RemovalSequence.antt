@@ -1,4 +1,4 @@
--- Demand 3, whole, as one statement: `EveryList`. One trimming is `trimmedOf` and `outputAfter` (Trimming.antt), the contract that
+-- Demand 3, whole, as one statement: `EveryList`. One trimming is `trimmedOf` and `outputAfter` (Trimmer.antt), the contract that
 -- a trimmer has to meet; the tally is Tally.antt's; "accepted", rows, links, faces and charges are demand 2's.
 use Prim.Native.Nat.{ℕ, suc, _+_, _-_, _≤_, _<_}
 use mathlib.Core.Path.{_≡_}
@@ -6,21 +6,22 @@ use mathlib.Core.Logic.{_⊎_, _↔_}
 use mathlib.Core.Bool.{Bool, true, false, cond}
 use mathlib.Core.List.{List, [], _∷_, _++_, map, flatMap}
 use lib.Dec.{eqb}
-use lib.ListN.{length, getD, take}
+use lib.ListN.{length, getD, take, drop}
 use Rattle.le.specs.Le.{AreBytes}
 use Rattle.kinds.specs.Kinds.{isKnown}
 use Rattle.table.specs.declared.Row.{Row}
-use Rattle.table.specs.Table.{noParent, blank, hasRoom, rowsAt, filled}
+use Rattle.table.specs.Table.{noParent, blank, hasRoom, rowsAt, cleared, filled}
 use Rattle.format.specs.Rows.{bodyOf, ownBytes}
 use Rattle.links.specs.Links.{Link, linksOf}
 use Rattle.reader.specs.declared.Account.{Account}
-use Rattle.reader.specs.declared.Reading.the-variants.{Accepted}
+use Rattle.reader.specs.declared.Reading.the-variants.{Accepted, Refused}
 use Rattle.reader.specs.Reading.{readingOf}
 use Rattle.reader.specs.Reading.{tableAfter as readTable}
 use Rattle.reader.specs.Acceptance.{facesOf}
 use Rattle.emit.specs.declared.Written.{Written}
+use Rattle.emit.specs.Emission.{refused}
 use Rattle.writer.specs.Forest.{laidOut}
-use Rattle.removal.specs.Trimming.{trimmedOf, outputAfter}
+use Rattle.removal.specs.Trimmer.{trimmedOf, outputAfter, tableAfter}
 use Rattle.removal.specs.Tally.{Fed, noMarks, isAround, headerIn, countFall, fileLeft, answers, marksAfter}
 
 -- ---- a list of trimmings
@@ -85,6 +86,14 @@ pub record Goes (s : List ℕ) (c : Trimming) : Type 0 where
   pub read : IsRead s rows account
   pub exactly : (answerTo s c .number ≡ 0) ↔ Removable s rows c
 
+-- ---- what a trimming leaves of what it is lent
+pub record Leaves (s : List ℕ) (c : Trimming) : Type 0 where
+  -- "the output past its length stays"; on a refusal that length is 0, and all of the output stays
+  pub output : drop (answerTo s c .length) (outputAfter s (c .row) (c .table) (c .output)) ≡ drop (answerTo s c .length) (c .output)
+  -- "On success the table holds the rows of the new file", as a reading of it leaves them; else it is cleared, and untouched on 1
+  pub table : tableAfter s (c .row) (c .table) (length (c .output))
+      ≡ cond (eqb (answerTo s c .number) 0) (readTable (fileFrom s c) (c .table)) (cleared (c .table))
+
 -- ---- rows by marks
 
 -- how many of some rows are unmarked; and the number that row i has among the unmarked ones
@@ -139,7 +148,7 @@ bytesLeft s rows marks = take 16 s ++ flatMap (λ r. headerIn s r ++ bodyOf s r)
 pub record InHeader (To : (row marked : ℕ) → Type 0) (first : ℕ) (rows : List Row) (marks : List Bool) (at : ℕ) : Type 0 where
   pub row : ℕ
   pub marked : ℕ
-  pub isLeft : getD marks row true ≡ false
+  pub isUnmarked : getD marks row true ≡ false
   pub isMarked : getD marks marked false ≡ true
   pub to : To row marked
   pub from : getD (rowsLeft rows marks) (numberOf marks row) blank .start + first ≤ at + 24
@@ -167,9 +176,10 @@ pub record IsLeft (s : List ℕ) (rows : List Row) (a : Account) (marks : List B
   -- "After the list the file is accepted and is the tally's". "Its rows are the old ones without theirs, renumbered, but for
   -- where bodies lie and those child counts."
   pub account : Account
+  pub bytes : AreBytes file
   pub accepted : IsRead file (rowsLeft rows marks) account
   pub flags : account .flags ≡ a .flags
-  pub isTallys : file ≡ fileLeft s rows marks
+  pub isTallyFile : file ≡ fileLeft s rows marks
   -- "the first one without the removed nodes, where only the sizes of the nodes around them and their parents' child counts
   -- differ"
   pub sameLength : length file ≡ length (bytesLeft s rows marks)
@@ -179,7 +189,8 @@ pub record IsLeft (s : List ℕ) (rows : List Row) (a : Account) (marks : List B
   pub links : linksOf file (rowsLeft rows marks) ≡ map (movedLink rows marks) (linksOf s rows)
   pub linkCount : account .links ≡ a .links
   -- "every other node is charged the same"
-  pub charges : map ownBytes (rowsLeft rows marks) ≡ map ownBytes (unmarkedRows rows marks)
+  pub charges : (t : List ℕ) → hasRoom t ≡ true
+      → map ownBytes (rowsAt (readTable file t) 0 (account .nodes)) ≡ map ownBytes (unmarkedRows rows marks)
   pub charged : account .known ≡ a .known
   -- "and the face counts stay"
   pub faces : facesOf file (rowsLeft rows marks) ≡ facesOf s rows
@@ -192,6 +203,8 @@ pub record HoldsOf (s : List ℕ) (rows : List Row) (a : Account) (list : List T
   pub answered : answersOf s list ≡ answers s rows (noMarks rows) (map fedBy list)
   -- "a node goes exactly when its row is there, its kind unknown, and table and output long enough"
   pub goes : EachTrimming Goes s list
+  -- document 01's trimmer: what is left in each output and each table
+  pub leaves : EachTrimming Leaves s list
   -- "After the list ..."
   pub ended : IsLeft s rows a (marksBy s rows list) (fileAfter s list)
   -- "Two lists from one file that remove the same nodes, in whichever order, end with the same bytes."
@@ -201,3 +214,9 @@ pub record HoldsOf (s : List ℕ) (rows : List Row) (a : Account) (list : List T
 abbrev pub EveryList : Type 0
 EveryList = (s t : List ℕ) (a : Account) → AreBytes s → readingOf s t ≡ Accepted a
     → (list : List Trimming) → HoldsOf s (rowsAt (readTable s t) 0 (a .nodes)) a list
+
+-- "the reader's refusals": of a file that is not accepted, whatever else is lent. The output is untouched, and the table is as the
+-- reading leaves it.
+abbrev pub RefusedFiles : Type 0
+RefusedFiles = (s t : List ℕ) (n place k : ℕ) (out : List ℕ) → readingOf s t ≡ Refused (suc n) place
+    → (trimmedOf s k t (length out) ≡ refused (suc n) place) × (outputAfter s k t out ≡ out) × (tableAfter s k t (length out) ≡ readTable s t)

@@ -33,10 +33,10 @@ rowNumbered i (false ∷ marks) zero = some i
 rowNumbered i (false ∷ marks) (suc n) = rowNumbered (suc i) marks n
 
 -- the sum of a number over the marked rows, from row j on
-unfoldable pub overMarked : (ℕ → Row → ℕ) → (j : ℕ) → List Row → List Bool → ℕ
-overMarked x j [] marks = 0
-overMarked x j (r ∷ rows) [] = 0
-overMarked x j (r ∷ rows) (mark ∷ marks) = cond mark (x j r) 0 + overMarked x (suc j) rows marks
+unfoldable pub sumOverMarked : (ℕ → Row → ℕ) → (j : ℕ) → List Row → List Bool → ℕ
+sumOverMarked x j [] marks = 0
+sumOverMarked x j (r ∷ rows) [] = 0
+sumOverMarked x j (r ∷ rows) (mark ∷ marks) = cond mark (x j r) 0 + sumOverMarked x (suc j) rows marks
 
 -- ---- the file: "The file then is F without the marked nodes; in each node around some of them, parent to root, the size falls
 -- by theirs and the child count by its marked children."
@@ -58,14 +58,14 @@ sizeIn s r = numberAt 4 (headerIn s r) 4
 
 -- by how much the size of row i falls, and by how much its child count
 abbrev pub sizeFall : (s : List ℕ) → List Row → List Bool → (i : ℕ) → ℕ
-sizeFall s rows marks i = overMarked (λ j r. cond (isAround rows (length rows) i j) (sizeIn s r) 0) 0 rows marks
+sizeFall s rows marks i = sumOverMarked (λ j r. cond (isAround rows (length rows) i j) (sizeIn s r) 0) 0 rows marks
 
 abbrev pub countFall : List Row → List Bool → (i : ℕ) → ℕ
-countFall rows marks i = overMarked (λ j r. cond (eqb (r .parent) i) 1 0) 0 rows marks
+countFall rows marks i = sumOverMarked (λ j r. cond (eqb (r .parent) i) 1 0) 0 rows marks
 
--- a header whose size and child count have fallen: its other bytes are as they were
-unfoldable pub fallen : (header : List ℕ) (size children : ℕ) → List ℕ
-fallen h size children =
+-- a header whose size and child count have reducedHeader: its other bytes are as they were
+unfoldable pub reducedHeader : (header : List ℕ) (size children : ℕ) → List ℕ
+reducedHeader h size children =
     take 4 h ++ (le 4 (numberAt 4 h 4 - size) ++ (take 12 (drop 8 h) ++ le 4 (numberAt 4 h 20 - children)))
 
 -- the unmarked ones of F's rows, from row i on: header and body of each
@@ -74,7 +74,7 @@ nodesLeft s all marked i [] marks = []
 nodesLeft s all marked i (r ∷ rows) [] = []
 nodesLeft s all marked i (r ∷ rows) (true ∷ marks) = nodesLeft s all marked (suc i) rows marks
 nodesLeft s all marked i (r ∷ rows) (false ∷ marks) =
-    fallen (headerIn s r) (sizeFall s all marked i) (countFall all marked i)
+    reducedHeader (headerIn s r) (sizeFall s all marked i) (countFall all marked i)
     ++ (bodyOf s r ++ nodesLeft s all marked (suc i) rows marks)
 
 -- the tally's file
@@ -84,21 +84,21 @@ fileLeft s rows marks = take 16 s ++ nodesLeft s rows marks 0 rows marks
 -- ---- the answers
 
 -- an answer, and the marks after it
-pub record Told : Type 0 where
+pub record Tallied : Type 0 where
   pub answer : Written
   pub marks : List Bool
 
 -- a refusal, "with place and length 0", marks nothing
-abbrev pub refusal : (number : ℕ) → List Bool → Told
+abbrev pub refusal : (number : ℕ) → List Bool → Tallied
 refusal n marks = record { answer = record { number = n; place = 0; length = 0 }; marks = marks }
 
 -- 32, or the row that was asked for marked: `marks` are the marks with it, `old` those without
-abbrev pub byRoom : (new room : ℕ) (marks old : List Bool) → Told
+abbrev pub byRoom : (new room : ℕ) (marks old : List Bool) → Tallied
 byRoom new room marks old =
     cond (ltb room new) (refusal 32 old) (record { answer = record { number = 0; place = 0; length = new }; marks = marks })
 
 -- 30 where there is no such row, 31 where its kind is known
-abbrev pub byRow : Option ℕ → (s : List ℕ) → List Row → List Bool → (room : ℕ) → Told
+abbrev pub byRow : Option ℕ → (s : List ℕ) → List Row → List Bool → (room : ℕ) → Tallied
 byRow none s rows marks room = refusal 30 marks
 byRow (some i) s rows marks room =
     let marked = set marks i true in
@@ -107,15 +107,15 @@ byRow (some i) s rows marks room =
 
 -- "It answers the first that holds of 1 table short, 30 no such number, 31 kind known, 32 output short, with place and length 0;
 -- else it marks that row and answers the new length."
-unfoldable pub tell : (s : List ℕ) → List Row → List Bool → Fed → Told
-tell s rows marks fed =
+unfoldable pub tallyStep : (s : List ℕ) → List Row → List Bool → Fed → Tallied
+tallyStep s rows marks fed =
     cond (ltb (fed .table) 8192) (refusal 1 marks) (byRow (rowNumbered 0 marks (fed .row)) s rows marks (fed .output))
 
 -- the answers to a list, and the marks after it
 unfoldable pub answers : (s : List ℕ) → List Row → List Bool → List Fed → List Written
 answers s rows marks [] = []
-answers s rows marks (fed ∷ list) = let t = tell s rows marks fed in t .answer ∷ answers s rows (t .marks) list
+answers s rows marks (fed ∷ list) = let t = tallyStep s rows marks fed in t .answer ∷ answers s rows (t .marks) list
 
 unfoldable pub marksAfter : (s : List ℕ) → List Row → List Bool → List Fed → List Bool
 marksAfter s rows marks [] = marks
-marksAfter s rows marks (fed ∷ list) = marksAfter s rows (tell s rows marks fed .marks) list
+marksAfter s rows marks (fed ∷ list) = marksAfter s rows (tallyStep s rows marks fed .marks) list

@@ -1,0 +1,45 @@
+-- A file that is not accepted.
+use Prim.Native.Nat.{ℕ, suc}
+use native.Mathlib.Omega.{arith}
+use mathlib.Core.Path.{_≡_, sym, _∙_}
+use mathlib.Core.Bool.{true, false}
+use mathlib.Core.List.{List}
+use lib.ListN.{length}
+use borrow.Author.Tests.{ne-eqb}
+use Rattle.le.proofs.Tests.{by-test}
+use Rattle.table.specs.Table.{hasRoom, cleared}
+use Rattle.reader.specs.declared.Reading.the-variants.{Refused}
+use Rattle.reader.specs.Reading.{readingOf}
+use Rattle.reader.specs.Reading.{tableAfter as readTable}
+use Rattle.reader.proofs.Exactly.{in-room}
+use Rattle.emit.specs.Emission.{refused, leftBy}
+use Rattle.removal.specs.Trimmer.{trimmedOf, outputAfter, tableAfter}
+use Rattle.removal.specs.RemovalSequence.{RefusedFiles}
+
+module _ (s t : List ℕ) (n place : ℕ) (r : readingOf s t ≡ Refused (suc n) place) where
+  with-room : hasRoom t ≡ true → readTable s t ≡ cleared t
+  unfolding readTable
+  with-room h = rw (h, sym (in-room s t h) ∙ r)
+
+  without-room : hasRoom t ≡ false → readTable s t ≡ cleared t
+  unfolding readTable cleared
+  without-room h = rw h
+
+  table-read : readTable s t ≡ cleared t
+  table-read = by-test (hasRoom t) with-room without-room
+
+  module _ (k : ℕ) (out : List ℕ) where
+    answer : trimmedOf s k t (length out) ≡ refused (suc n) place
+    unfolding trimmedOf
+    answer = rw r
+
+    output : outputAfter s k t out ≡ out
+    unfolding outputAfter leftBy
+    output = rw (answer, ne-eqb (suc n) 0 (λ z. omega (arith, z)))
+
+    table : tableAfter s k t (length out) ≡ readTable s t
+    unfolding tableAfter
+    table = rw (answer, ne-eqb (suc n) 0 (λ z. omega (arith, z))) (sym table-read)
+
+pub refusedFiles : RefusedFiles
+refusedFiles s t n place k out r = (answer s t n place r k out, output s t n place r k out, table s t n place r k out)
