@@ -21,23 +21,28 @@ bytes-le zero x i = omega arith
 bytes-le (suc w) x zero = omega arith
 bytes-le (suc w) x (suc i) = bytes-le w (x / 256) i
 
-bytes-reducedHeader : (h : List ℕ) (a b : ℕ) → AreBytes h → AreBytes (reducedHeader h a b)
+bytes-header : (h : List ℕ) (a b : ℕ) → AreBytes h → AreBytes (reducedHeader h a b)
 unfolding reducedHeader
-bytes-reducedHeader h a b bs =
+bytes-header h a b bs =
     bytes-append (take 4 h) _ (bytes-take 4 h bs)
     (bytes-append (le 4 _) _ (bytes-le 4 _)
     (bytes-append (take 12 (drop 8 h)) _ (bytes-take 12 (drop 8 h) (bytes-drop 8 h bs)) (bytes-le 4 _)))
 
-bytes-nodes : (s : List ℕ) → AreBytes s → (all : List Row) (marked : List Bool) (i : ℕ) (rows : List Row) (marks : List Bool) → AreBytes (nodesLeft s all marked i rows marks)
-unfolding nodesLeft
-bytes-nodes s bs all marked i [] marks = λ j. omega arith
-bytes-nodes s bs all marked i (r ∷ rows) [] = λ j. omega arith
-bytes-nodes s bs all marked i (r ∷ rows) (true ∷ marks) = bytes-nodes s bs all marked (suc i) rows marks
-bytes-nodes s bs all marked i (r ∷ rows) (false ∷ marks) =
-    bytes-append (reducedHeader (headerIn s r) (sizeFall s all marked i) (countFall all marked i)) _
-    (bytes-reducedHeader (headerIn s r) (sizeFall s all marked i) (countFall all marked i) (bytes-take 24 (drop (r .start - 24) s) (bytes-drop (r .start - 24) s bs)))
-    (bytes-append (bodyOf s r) _ (bytes-take (r .end - r .start) (drop (r .start) s) (bytes-drop (r .start) s bs)) (bytes-nodes s bs all marked (suc i) rows marks))
+module _ (s : List ℕ) (bs : AreBytes s) where
+  bytes-part : (at n : ℕ) → AreBytes (take n (drop at s))
+  bytes-part at n = bytes-take n (drop at s) (bytes-drop at s bs)
 
-pub bytes-left : (s : List ℕ) → AreBytes s → (rows : List Row) (marks : List Bool) → AreBytes (fileLeft s rows marks)
-unfolding fileLeft
-bytes-left s bs rows marks = bytes-append (take 16 s) _ (bytes-take 16 s bs) (bytes-nodes s bs rows marks 0 rows marks)
+  bytes-nodes : (all : List Row) (marked : List Bool) (i : ℕ) (rows : List Row) (marks : List Bool) → AreBytes (nodesLeft s all marked i rows marks)
+  unfolding nodesLeft
+  bytes-nodes all marked i [] marks = λ j. omega arith
+  bytes-nodes all marked i (r ∷ rows) [] = λ j. omega arith
+  bytes-nodes all marked i (r ∷ rows) (true ∷ marks) = bytes-nodes all marked (suc i) rows marks
+  bytes-nodes all marked i (r ∷ rows) (false ∷ marks) =
+      let size = sizeFall s all marked i in
+      let children = countFall all marked i in
+      bytes-append (reducedHeader (headerIn s r) size children) _ (bytes-header (headerIn s r) size children (bytes-part (r .start - 24) 24))
+      (bytes-append (bodyOf s r) _ (bytes-part (r .start) (r .end - r .start)) (bytes-nodes all marked (suc i) rows marks))
+
+  pub bytes-left : (rows : List Row) (marks : List Bool) → AreBytes (fileLeft s rows marks)
+  unfolding fileLeft
+  bytes-left rows marks = bytes-append (take 16 s) _ (bytes-take 16 s bs) (bytes-nodes rows marks 0 rows marks)

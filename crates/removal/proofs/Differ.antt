@@ -20,11 +20,15 @@ use Rattle.format.specs.Layout.{Each}
 use Rattle.format.specs.Rows.{bodyOf, ownBytes}
 use Rattle.writer.specs.Forest.{laidOut}
 use Rattle.removal.specs.Tally.{sumOverMarked, isAround, headerIn, sizeIn, sizeFall, countFall, reducedHeader, nodesLeft, fileLeft}
-use Rattle.removal.specs.RemovalSequence.{unmarked, unmarkedRows, renumberedFrom, rowsLeft, bytesLeft, InHeader, InSize, InCount}
+use Rattle.removal.specs.Left.{unmarked, unmarkedRows, renumberedFrom, rowsLeft, InHeader, InSize, InCount}
 
 -- a row whose header and body lie in the file
 abbrev pub LiesIn : (s : List ℕ) → Row → Type 0
 LiesIn s r = (24 ≤ r .start) × (r .start ≤ r .end) × (r .end ≤ length s)
+
+-- the first file's bytes without the marked nodes', piece by piece: a header and a body for each unmarked row
+abbrev pub pieces : (s : List ℕ) → List Row → List Bool → List ℕ
+pieces s rows marks = take 16 s ++ flatMap (λ r. headerIn s r ++ bodyOf s r) (unmarkedRows rows marks)
 
 onward : (i n : ℕ) → i + suc n ≡ suc i + n
 onward i n = omega arith
@@ -197,30 +201,30 @@ module _ (s : List ℕ) (all : List Row) (marked : List Bool) where
 
 -- ---- the files
 pub same-length : (s : List ℕ) (rows : List Row) (marks : List Bool) → Each (LiesIn s) rows
-    → length (fileLeft s rows marks) ≡ length (bytesLeft s rows marks)
-unfolding fileLeft bytesLeft
+    → length (fileLeft s rows marks) ≡ length (pieces s rows marks)
+unfolding fileLeft
 same-length s rows marks h = simp length-append (ap (λ n. length (take 16 s) + n) (length-along s rows marks 0 rows marks h))
 
 -- a number that falls does so by some marked row
-in-header : {To : (row marked : ℕ) → Type 0} (first : ℕ) (rows : List Row) (marks : List Bool) (x : ℕ → ℕ → Row → ℕ)
-    → ((i j : ℕ) → (x i j (getD rows j blank) ≡ 0 → ⊥) → To i j)
-    → (at : ℕ) → Falling rows marks (λ i. sumOverMarked (x i) 0 rows marks) first 0 16 rows marks at → InHeader To first rows marks at
+in-header : {Related : (row marked : ℕ) → Type 0} (first : ℕ) (rows : List Row) (marks : List Bool) (x : ℕ → ℕ → Row → ℕ)
+    → ((i j : ℕ) → (x i j (getD rows j blank) ≡ 0 → ⊥) → Related i j)
+    → (at : ℕ) → Falling rows marks (λ i. sumOverMarked (x i) 0 rows marks) first 0 16 rows marks at → InHeader Related first rows marks at
 unfolding rowsLeft
-in-header first rows marks x to at f =
+in-header first rows marks x related at f =
     let m = some-marked (x (f .place)) 0 rows marks (rw (zero-add (f .place)) at (f .falls)) in
     record {
       row = f .place;
       marked = m .place;
       isUnmarked = f .isUnmarked;
       isMarked = m .isMarked;
-      to = to (f .place) (m .place) (rw (zero-add (m .place)) at (m .counts));
+      related = related (f .place) (m .place) (rw (zero-add (m .place)) at (m .counts));
       from = f .from;
       before = f .before;
     }
 
 pub differ : (s : List ℕ) (rows : List Row) (marks : List Bool) → AreBytes s → 16 ≤ length s → Each (LiesIn s) rows
-    → (at : ℕ) → (getD (fileLeft s rows marks) at 0 ≡ getD (bytesLeft s rows marks) at 0) ⊎ (InSize rows marks at ⊎ InCount rows marks at)
-unfolding fileLeft bytesLeft
+    → (at : ℕ) → (getD (fileLeft s rows marks) at 0 ≡ getD (pieces s rows marks) at 0) ⊎ (InSize rows marks at ⊎ InCount rows marks at)
+unfolding fileLeft
 differ s rows marks bytes long h at =
     at-place {P = λ q. InSize rows marks q ⊎ InCount rows marks q}
     (append (same {n = 0} (take 16 s)) (omega (arith, length-take-le 16 s long))

@@ -1,17 +1,13 @@
 -- Rows that are moved together with their bodies emit the same bytes.
 use Prim.Native.Nat.{ℕ, suc, _+_}
-use mathlib.Core.Path.{_≡_, refl, ap, _∙_}
+use mathlib.Core.Path.{_≡_, refl, ap}
 use mathlib.Core.Bool.{Bool, true, false}
-use mathlib.Core.List.{List, [], _∷_, _++_, map}
-use lib.Dec.{eqb}
-use lib.ListN.{length}
-use Rattle.le.proofs.Tests.{by-test}
-use Rattle.kinds.specs.Kinds.{root}
+use mathlib.Core.List.{List, [], _∷_, map}
 use Rattle.table.specs.declared.Row.{Row}
 use Rattle.format.specs.Rows.{bodyOf, ownBytes}
-use Rattle.emit.specs.Emission.{under, sizes, sizeOf, nodesBytes, roots, fileBytes}
+use Rattle.emit.specs.Emission.{under, sizes, nodesBytes, roots, fileBytes}
 use Rattle.writer.specs.Forest.{movedTo, laidOut}
-use Rattle.removal.specs.RemovalSequence.{unmarkedRows, renumberedFrom}
+use Rattle.removal.specs.Left.{unmarkedRows, renumberedFrom}
 
 under-laid : (p at : ℕ) (rs : List Row) (zs : List ℕ) → under p (laidOut at rs) zs ≡ under p rs zs
 unfolding under laidOut
@@ -44,9 +40,11 @@ module _ (s s′ : List ℕ) where
   nodes-laid at k [] e = refl
   nodes-laid at k (r ∷ rs) e =
       let moved = first-moved at r rs e in
-      rw (sizes-laid (at + ownBytes r) (suc k) rs (moved .1), moved .0, under-laid k (at + ownBytes r) rs (sizes s (suc k) rs), nodes-laid (at + ownBytes r) (suc k) rs (moved .1))
+      let later : ℕ = at + ownBytes r in
+      rw (sizes-laid later (suc k) rs (moved .1), moved .0, under-laid k later rs (sizes s (suc k) rs), nodes-laid later (suc k) rs (moved .1))
 
-  pub file-laid : (flags : ℕ) (rs : List Row) → map (bodyOf s′) (laidOut 16 rs) ≡ map (bodyOf s) rs → fileBytes flags s′ (laidOut 16 rs) ≡ fileBytes flags s rs
+  pub file-laid : (flags : ℕ) (rs : List Row) → map (bodyOf s′) (laidOut 16 rs) ≡ map (bodyOf s) rs
+      → fileBytes flags s′ (laidOut 16 rs) ≡ fileBytes flags s rs
   unfolding fileBytes
   file-laid flags rs e = rw (roots-laid 16 rs, nodes-laid 16 0 rs e)
 

@@ -1,18 +1,15 @@
 -- Demand 3: the run and the tally side by side, along any list; and what is left at its end.
-use Prim.Native.Nat.{ℕ, _+_, _≤_}
+use Prim.Native.Nat.{ℕ, _≤_}
 use native.Mathlib.Omega.{arith}
 use mathlib.Core.Path.{_≡_, refl, ap, sym, subst, _∙_}
-use mathlib.Core.Logic.{_⊎_}
-use mathlib.Core.List.{List, [], _∷_, _++_, map}
-use lib.ListN.{length, getD, length-map}
+use mathlib.Core.List.{List, [], _∷_, map}
+use lib.ListN.{length, length-map}
 use Rattle.le.specs.Le.{AreBytes}
 use Rattle.table.specs.declared.Row.{Row}
 use Rattle.table.specs.Table.{noParent, rowsAt, filled}
 use Rattle.table.proofs.Plans.{rows-filled}
-use Rattle.faces.specs.declared.Faces.{Faces}
 use Rattle.faces.specs.Faces.{degenerate as degenerateIn}
-use Rattle.format.specs.declared.OwnBytes.{OwnBytes}
-use Rattle.format.specs.Forest.{Forest, encode, fileOf}
+use Rattle.format.specs.Forest.{Forest, fileOf}
 use Rattle.format.specs.Rows.{rowsOf, bodyOf, ownBytes}
 use Rattle.format.specs.Layout.{Each}
 use Rattle.format.proofs.Each.{each-map}
@@ -22,21 +19,23 @@ use Rattle.links.specs.Links.{linksOf}
 use Rattle.valid.specs.Valid.{Valid}
 use Rattle.reader.specs.declared.Account.{Account}
 use Rattle.reader.specs.declared.Reading.the-variants.{Accepted}
-use Rattle.reader.specs.Reading.{readingOf, verdict}
+use Rattle.reader.specs.Reading.{verdict}
 use Rattle.reader.specs.Reading.{tableAfter as readTable}
 use Rattle.reader.specs.Acceptance.{AnswerOf, facesOf}
 use Rattle.reader.proofs.Exactly.{valid-flags, valid-verdict, verdict-valid, valid-answer, in-room, has-room, answersTheRules}
 use Rattle.removal.specs.Tally.{Tallied, noMarks, fileLeft, tallyStep, answers, marksAfter}
-use Rattle.removal.specs.RemovalSequence.{Trimming, answerTo, fileFrom, answersOf, fileAfter, EachTrimming, fedBy, marksBy, IsRead, Goes, Leaves, unmarkedRows, rowsLeft, bytesLeft, InSize, InCount, movedLink, IsLeft, HoldsOf, EveryList}
-use Rattle.removal.proofs.Marked.{Marked, bare, kept, marks, fresh, bare-fresh, kept-fresh}
+use Rattle.removal.specs.RemovalSequence.{Trimming, answerTo, fileFrom, answersOf, fileAfter, EachTrimming, fedBy, marksBy, IsRead, Goes, Leaves, IsLeft, HoldsOf, EveryList}
+use Rattle.removal.specs.Left.{unmarkedRows, bytesLeft, movedLink}
+use Rattle.removal.proofs.Marked.{Marked, bare, kept, marks, fresh, bare-fresh, kept-fresh, length-marks}
 use Rattle.removal.proofs.Marking.{marks-fresh}
 use Rattle.removal.proofs.StillValid.{valid-kept, length-file}
-use Rattle.removal.proofs.LeftLinks.{faces-left, owns-left, bodies-left, known-left, links-left}
+use Rattle.removal.proofs.LeftLinks.{faces-left, owns-left, bodies-left, known-left, unknown-left, only-unknown, links-left}
 use Rattle.removal.proofs.TallyFile.{file-left}
 use Rattle.removal.proofs.Trimmed.{rows-are, rows-same}
 use Rattle.removal.proofs.Bytes.{bytes-left}
-use Rattle.removal.proofs.Differ.{LiesIn, same-length, differ}
-use Rattle.removal.proofs.Steps.{accountFor, is-read, Step, step}
+use Rattle.removal.proofs.Differ.{LiesIn, pieces, same-length, differ}
+use Rattle.removal.proofs.Cut.{Tiles, rows-tile, cut}
+use Rattle.removal.proofs.Steps.{accountFor, is-read, step}
 
 -- ---- along a list
 record Ran (flags : ℕ) (f : Forest) (m : Marked) (list : List Trimming) : Type 0 where
@@ -71,12 +70,6 @@ ran flags f v (c ∷ list) m e =
     }
 
 -- ---- what is left
-abbrev ofBytes : ℕ → OwnBytes
-ofBytes n = record { 0 = n }
-
-abbrev ofFaces : ℕ → Faces
-ofFaces n = record { 0 = n }
-
 answer-for : (flags : ℕ) (f : Forest) → Valid flags f → AnswerOf (fileOf flags f) (rowsOf f) (accountFor flags f)
 answer-for flags f v = valid-answer (fileOf flags f) flags f v refl (accountFor flags f) (valid-verdict (fileOf flags f) flags f v refl)
 
@@ -96,8 +89,10 @@ module _ (flags : ℕ) (m : Marked) (v : Valid flags (bare m)) (bytes : AreBytes
   tally : left ≡ fileLeft s rows (marks m)
   tally = sym (file-left s flags m (v .wellFormed) (v .placed) (v .few) refl)
 
-  abbrev Differs : (file : List ℕ) (at : ℕ) → Type 0
-  Differs file at = (getD file at 0 ≡ getD (bytesLeft s rows (marks m)) at 0) ⊎ (InSize rows (marks m) at ⊎ InCount rows (marks m) at)
+  cut-file : bytesLeft s rows (marks m) ≡ pieces s rows (marks m)
+  cut-file =
+      cut s rows (marks m) (subst (Tiles 16 rows) (sym (length-file flags (bare m))) (rows-tile (bare m) noParent 0 16))
+      (length-rows (bare m) noParent 0 16 ∙ sym (length-marks m))
 
   -- all rows lie in the file
   inside : Each (LiesIn s) rows
@@ -113,23 +108,27 @@ module _ (flags : ℕ) (m : Marked) (v : Valid flags (bare m)) (bytes : AreBytes
       let faces = faces-left same in
       let links = links-left s left rows (marks m) (rowsOf (kept m)) same are in
       record {
+        bytes = subst AreBytes (sym tally) (bytes-left s bytes rows (marks m));
         account = accountFor flags (kept m);
         accepted = subst (λ rs. IsRead left rs (accountFor flags (kept m))) are (is-read flags (kept m) valid);
         flags = valid-flags left flags (kept m) valid refl ∙ sym (valid-flags s flags (bare m) v refl);
         isTallyFile = tally;
-        sameLength = ap length tally ∙ same-length s rows (marks m) inside;
-        differ = subst (λ l. (at : ℕ) → Differs l at) (sym tally) (differ s rows (marks m) bytes (omega (arith, length-file flags (bare m))) inside);
+        sameLength = ap length tally ∙ same-length s rows (marks m) inside ∙ ap length (sym cut-file);
+        differ =
+            rw (tally, cut-file) (differ s rows (marks m) bytes (omega (arith, length-file flags (bare m))) inside);
         bodies = subst (λ rs. map (bodyOf left) rs ≡ map (bodyOf s) (unmarkedRows rows (marks m))) are (bodies-left same);
+        marked = length-marks m ∙ sym (length-rows (bare m) noParent 0 16);
+        onlyUnknown = only-unknown same;
         links = subst (λ rs. linksOf left rs ≡ map (movedLink rows (marks m)) (linksOf s rows)) are links;
         linkCount = new .links ∙ ap length links ∙ length-map (linksOf s rows) (movedLink rows (marks m)) ∙ sym (old .links);
         charges = λ t h.
             ap (λ u. map ownBytes (rowsAt u 0 (length (rowsOf (kept m))))) (is-read flags (kept m) valid .table t h)
             ∙ ap (map ownBytes) (rows-filled t (rowsOf (kept m)) h (omega (arith, length-rows (kept m) noParent 0 16, valid .few)))
             ∙ owns-left same;
-        bytes = subst AreBytes (sym tally) (bytes-left s bytes rows (marks m));
-        charged = ap ofBytes (known-left same);
+        known = known-left same;
+        unknown = unknown-left 0 same;
         faces = subst (λ rs. facesOf left rs ≡ facesOf s rows) are faces;
-        faceCount = ap ofFaces (new .faces ∙ ap length faces ∙ sym (old .faces));
+        faceCount = new .faces ∙ ap length faces ∙ sym (old .faces);
         degenerate = new .degenerates ∙ ap degenerateIn faces ∙ sym (old .degenerates);
       }
 
@@ -158,12 +157,15 @@ module _ (flags : ℕ) (f : Forest) (v : Valid flags f) (bytes : AreBytes (fileO
       subst (λ g. IsLeft (fileOf flags g) (rowsOf g) (accountFor flags g) (marks m) (fileOf flags (kept m))) e
       (is-left flags m (subst (Valid flags) (sym e) v) (subst (λ g. AreBytes (fileOf flags g)) (sym e) bytes))
 
-  ended : (list : List Trimming) → IsLeft (fileOf flags f) (rowsOf f) (accountFor flags f) (marksBy (fileOf flags f) (rowsOf f) list) (fileAfter (fileOf flags f) list)
+  ended : (list : List Trimming)
+      → IsLeft (fileOf flags f) (rowsOf f) (accountFor flags f) (marksBy (fileOf flags f) (rowsOf f) list) (fileAfter (fileOf flags f) list)
   ended list = rw (marked-by list, file-is list) (left-by list)
 
   holds : (list : List Trimming) → HoldsOf (fileOf flags f) (rowsOf f) (accountFor flags f) list
   holds list = record {
-    answered = ap (λ g. answersOf (fileOf flags g) list) (sym (kept-fresh f)) ∙ from-first list .answered ∙ ap (λ ms. answers (fileOf flags f) (rowsOf f) ms (map fedBy list)) no-mark;
+    answered =
+        ap (λ g. answersOf (fileOf flags g) list) (sym (kept-fresh f)) ∙ from-first list .answered
+        ∙ ap (λ ms. answers (fileOf flags f) (rowsOf f) ms (map fedBy list)) no-mark;
     goes = subst (λ g. EachTrimming Goes (fileOf flags g) list) (kept-fresh f) (from-first list .goes);
     leaves = subst (λ g. EachTrimming Leaves (fileOf flags g) list) (kept-fresh f) (from-first list .leaves);
     ended = ended list;
@@ -186,7 +188,8 @@ everyList s t a bytes r list =
     = ap (λ u. rowsAt u 0 (a .nodes)) (answer .2) ∙ ap (rowsAt (filled (rowsOf f) t) 0) (answer .1 .nodes) ∙ rows-filled t (rowsOf f) room few in
     let whole = holds (valid .flags) f (valid .valid) (subst AreBytes (valid .bytes) bytes) list in
     let account : accountFor (valid .flags) f ≡ a
-    = account-same a (accountFor (valid .flags) f) (sym v ∙ ap verdict (valid .bytes) ∙ valid-verdict (fileOf (valid .flags) f) (valid .flags) f (valid .valid) refl) in
+    = account-same a (accountFor (valid .flags) f)
+    (sym v ∙ ap verdict (valid .bytes) ∙ valid-verdict (fileOf (valid .flags) f) (valid .flags) f (valid .valid) refl) in
     subst (λ rs. HoldsOf s rs a list) (sym rows)
     (subst (λ x. HoldsOf s (rowsOf f) x list) account
     (subst (λ l. HoldsOf l (rowsOf f) (accountFor (valid .flags) f) list) (sym (valid .bytes)) whole))

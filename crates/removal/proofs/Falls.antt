@@ -26,23 +26,23 @@ use Rattle.removal.proofs.Marked.{Marked, mend, mkn, mun, bare, marks, 
 
 -- ---- parts of lists
 
--- what is behind a part that is known to be at a place
+-- what is after a part that is known to be at a place
 pub drop-on : {A : Type 0} (l xs ys : List A) (n k : ℕ) → drop n l ≡ xs ++ ys → n + length xs ≡ k → drop k l ≡ ys
 drop-on l xs ys n k e h = rw (← h, ← (drop-drop (length xs) n l), e) (drop-at xs ys (length xs) refl)
 
--- the row at a place, and the rows behind it
+-- the row at a place, and the rows after it
 module _ (r : Row) (all rs : List Row) (row : ℕ) (e : drop row all ≡ r ∷ rs) where
   here-is : getD all row blank ≡ r
   here-is = ap (λ n. getD all n blank) (sym (add-zero row)) ∙ sym (getD-drop row all 0 blank) ∙ ap (λ l. getD l 0 blank) e
 
-  behind : drop (suc row) all ≡ rs
-  behind = drop-on all (r ∷ []) rs row (suc row) e (omega arith)
+  rows-after : drop (suc row) all ≡ rs
+  rows-after = drop-on all (r ∷ []) rs row (suc row) e (omega arith)
 
 pub size-in : (k z h p c : ℕ) → Fits k z h p c → numberAt 4 (header k z h p c) 4 ≡ z
 unfolding numberAt header le
 size-in k z h p c fits = val-le 4 z (fits .1)
 
--- the header of a node at a place, and the bytes behind it
+-- the header of a node at a place, and the bytes after it
 module _ (s post : List ℕ) (k z h p c at : ℕ) (e : drop at s ≡ header k z h p c ++ post) where
   pub header-in : take 24 (drop (at + 24 - 24) s) ≡ header k z h p c
   header-in = let n : at + 24 - 24 ≡ at = omega arith in rw (n, e) (take-at (header k z h p c) post 24 (length-header k z h p c))
@@ -137,7 +137,7 @@ module _ (s : List ℕ) (all : List Row) where
       let below = rows (bare kids) row (suc row) here in
       let beside = rows (bare next) (parentOf c) over there in
       let r = nodeRow k h (parentOf c) (at + 24) here p (count (bare kids)) in
-      let g : drop (suc row) all ≡ below ++ (beside ++ later) = behind r all ((below ++ beside) ++ later) row e ∙ append-assoc below beside later in
+      let g : drop (suc row) all ≡ below ++ (beside ++ later) = rows-after r all ((below ++ beside) ++ later) row e ∙ append-assoc below beside later in
       let o : drop over all ≡ beside ++ later
       = drop-on all below (beside ++ later) (suc row) over g (ap (λ n. suc row + n) (length-rows (bare kids) row (suc row) here)) in
       let under = chain-below all c row chain (ap (λ r. r .parent) (here-is r all ((below ++ beside) ++ later) row e)) (omega arith) in (
@@ -152,7 +152,7 @@ module _ (s : List ℕ) (all : List Row) where
       let r = nodeRow k h (parentOf c) (at + 24) there p n in (
         chain row (ap (λ r. r .parent) (here-is r all (beside ++ later) row e)) (length all) (omega arith),
         ap (λ l. numberAt 4 l 4) (unknown-header s post k h p n rest (bare next) at f) ∙ size-in k (24 + length rest) h p n (w .1),
-        sits next c (suc row) there later post (w .3) (omega arith) (omega arith) (omega arith) chain (behind r all (beside ++ later) row e)
+        sits next c (suc row) there later post (w .3) (omega arith) (omega arith) (omega arith) chain (rows-after r all (beside ++ later) row e)
             (unknown-next s post k h p n rest (bare next) at f),
       )
 

@@ -18,7 +18,7 @@ use Rattle.format.proofs.Rows.{part, length-rows, own-rows}
 use Rattle.writer.specs.Forest.{movedTo, laidOut}
 use Rattle.writer.proofs.Order.{none-laid}
 use Rattle.removal.specs.Tally.{countFall}
-use Rattle.removal.specs.RemovalSequence.{unmarked, numberOf, renumbered, renumberedFrom, rowsLeft}
+use Rattle.removal.specs.Left.{unmarked, numberOf, renumbered, renumberedFrom, rowsLeft}
 use Rattle.removal.proofs.Marked.{Marked, mend, mkn, mun, bare, kept, marks, Falls, SameNode, Left, none, gone, same, length-marks, count-kept}
 use Rattle.removal.proofs.Marking.{unmarked-append, unmarked-marks}
 
@@ -56,15 +56,15 @@ abbrev parentLeft : List Bool → ℕ → ℕ
 parentLeft marked p = cond (eqb p noParent) noParent (numberOf marked p)
 
 -- these marks stand from `row` on, and so many before them are unmarked
-record Behind (marked ms : List Bool) (row row′ : ℕ) : Type 0 where
+record MarksFrom (marked ms : List Bool) (row row′ : ℕ) : Type 0 where
   pre : List Bool
   post : List Bool
   whole : marked ≡ pre ++ (ms ++ post)
   long : length pre ≡ row
   number : unmarked pre ≡ row′
 
-module _ (marked xs ys : List Bool) (row row′ : ℕ) (b : Behind marked (xs ++ ys) row row′) where
-  first-marks : Behind marked xs row row′
+module _ (marked xs ys : List Bool) (row row′ : ℕ) (b : MarksFrom marked (xs ++ ys) row row′) where
+  first-marks : MarksFrom marked xs row row′
   first-marks = record {
     pre = b .pre;
     post = ys ++ b .post;
@@ -73,7 +73,7 @@ module _ (marked xs ys : List Bool) (row row′ : ℕ) (b : Behind marked (xs ++
     number = b .number;
   }
 
-  later-marks : (to to′ : ℕ) → row + length xs ≡ to → row′ + unmarked xs ≡ to′ → Behind marked ys to to′
+  later-marks : (to to′ : ℕ) → row + length xs ≡ to → row′ + unmarked xs ≡ to′ → MarksFrom marked ys to to′
   later-marks to to′ l u = record {
     pre = b .pre ++ xs;
     post = b .post;
@@ -82,12 +82,12 @@ module _ (marked xs ys : List Bool) (row row′ : ℕ) (b : Behind marked (xs ++
     number = unmarked-append (b .pre) xs ∙ omega (arith, b .number);
   }
 
-own-number : (marked ms : List Bool) (row row′ : ℕ) → Behind marked ms row row′ → row ≤ 1024 → parentLeft marked row ≡ row′
+own-number : (marked ms : List Bool) (row row′ : ℕ) → MarksFrom marked ms row row′ → row ≤ 1024 → parentLeft marked row ≡ row′
 own-number marked ms row row′ b few =
     rw (ne-eqb row noParent (λ e. omega arith), b .whole, take-at (b .pre) (ms ++ b .post) row (b .long)) (b .number)
 
 module _ (s : List ℕ) (all : List Row) (marked : List Bool) where
-  -- a row that is left, and those that are laid out behind it
+  -- a row that is left, and those that are laid out after it
   row-left : (k h ps p p′ row at at′ size c c′ : ℕ) (rs rs′ : List Row) → parentLeft marked p ≡ p′ → c - countFall all marked row ≡ c′
       → rs′ ≡ laidOut (at′ + 24 + size) rs
       → nodeRow k h p′ (at′ + 24) (at′ + 24 + size) ps c′ ∷ rs′
@@ -97,7 +97,7 @@ module _ (s : List ℕ) (all : List Row) (marked : List Bool) where
       let stop : at′ + 24 + size ≡ at′ + (24 + (at + 24 + size - (at + 24))) = omega arith in
       rw (← q, ← e, l, stop)
 
-  laid : (m : Marked) (p p′ row row′ at at′ : ℕ) → Behind marked (marks m) row row′ → parentLeft marked p ≡ p′
+  laid : (m : Marked) (p p′ row row′ at at′ : ℕ) → MarksFrom marked (marks m) row row′ → parentLeft marked p ≡ p′
       → row + nodes (bare m) ≤ 1024 → Falls s all marked m row
       → rows (kept m) p′ row′ at′ ≡ laidOut at′ (renumberedFrom all marked row (rows (bare m) p row at) (marks m))
   unfolding renumberedFrom unmarked
@@ -143,7 +143,7 @@ pub rows-left : (s : List ℕ) (m : Marked) → Few (bare m) → Falls s (rowsOf
     → rowsOf (kept m) ≡ rowsLeft (rowsOf (bare m)) (marks m)
 unfolding rowsLeft unmarked
 rows-left s m few falls =
-    let b : Behind (marks m) (marks m) 0 0 = record { pre = []; post = []; whole = sym (append-nil (marks m)); long = refl; number = refl } in
+    let b : MarksFrom (marks m) (marks m) 0 0 = record { pre = []; post = []; whole = sym (append-nil (marks m)); long = refl; number = refl } in
     laid s (rowsOf (bare m)) (marks m) m noParent noParent 0 0 16 16 b refl (omega arith) falls
 
 -- ---- node by node the same

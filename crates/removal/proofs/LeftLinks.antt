@@ -1,8 +1,8 @@
 -- Of the rows that are left of a file: faces, charges, bodies and links are those that they were.
 use Prim.Native.Nat.{ℕ, zero, suc, _+_, _-_}
 use native.Mathlib.Omega.{arith}
-use mathlib.Core.Path.{_≡_, refl, ap, _∙_}
-use mathlib.Core.Bool.{Bool, true, false, _&&_}
+use mathlib.Core.Path.{_≡_, refl, ap, sym, _∙_}
+use mathlib.Core.Bool.{Bool, true, false, _&&_, true≢false}
 use mathlib.Core.List.{List, [], _∷_, map, map-append, flatMap}
 use lib.Dec.{eqb}
 use lib.ListN.{getD, drop}
@@ -17,9 +17,10 @@ use Rattle.rules.specs.Table.{linkTo}
 use Rattle.rules.specs.Rules.{linesOf}
 use Rattle.judge.specs.Properties.{ruleAt, restAt}
 use Rattle.links.specs.Links.{reached, linksAt, rowLinks, linksFrom, linksOf}
-use Rattle.reader.specs.Reading.{ownKnown}
+use Rattle.reader.specs.Reading.{ownKnown, ownUnknown}
 use Rattle.reader.specs.Acceptance.{facesOf}
-use Rattle.removal.specs.RemovalSequence.{unmarked, numberOf, unmarkedRows, rowsLeft, movedLink}
+use Rattle.removal.specs.Tally.{sumOverMarked}
+use Rattle.removal.specs.Left.{unmarked, numberOf, unmarkedRows, rowsLeft, movedLink}
 use Rattle.removal.proofs.Marked.{Left, none, gone, same}
 use Rattle.removal.proofs.Targets.{target-at, unlike}
 
@@ -51,6 +52,25 @@ module _ {s s′ : List ℕ} where
   known-left (gone u l) = rw u (known-left l)
   known-left (same n l) = rw (n .kind, n .own, known-left l)
 
+  pub unknown-left : {rows : List Row} {ms : List Bool} {rows′ : List Row} (j : ℕ) → Left s s′ rows ms rows′
+      → ownUnknown rows ≡ sumOverMarked (λ i r. ownBytes r) j rows ms + ownUnknown rows′
+  unfolding ownUnknown sumOverMarked
+  unknown-left j none = refl
+  unknown-left j (gone u l) = rw u (omega (arith, unknown-left (suc j) l))
+  unknown-left j (same {r = r} n l) =
+      by-test (isKnown (r .kind))
+      (λ t. rw (n .kind, t) (omega (arith, unknown-left (suc j) l)))
+      (λ t. rw (n .kind, n .own, t) (omega (arith, unknown-left (suc j) l)))
+
+  pub only-unknown : {rows : List Row} {ms : List Bool} {rows′ : List Row} → Left s s′ rows ms rows′
+      → (i : ℕ) → getD ms i false ≡ true → isKnown (getD rows i blank .kind) ≡ false
+  only-unknown none zero e = absurd (true≢false (sym e))
+  only-unknown none (suc i) e = absurd (true≢false (sym e))
+  only-unknown (gone u l) zero e = u
+  only-unknown (gone u l) (suc i) e = only-unknown l i e
+  only-unknown (same n l) zero e = absurd (true≢false (sym e))
+  only-unknown (same n l) (suc i) e = only-unknown l i e
+
 -- ---- a list from place i on
 module _ {A : Type 0} where
   pub here : (l : List A) (i : ℕ) (d : A) {x : A} {xs : List A} → drop i l ≡ x ∷ xs → getD l i d ≡ x
@@ -65,7 +85,7 @@ module _ {A : Type 0} where
   onward (y ∷ l) zero e = cc
   onward (y ∷ l) (suc i) e = onward l i e
 
--- the number of the row behind a marked row, and behind one that is left
+-- the number of the row after a marked row, and after one that is left
 pub number-gone : (ms : List Bool) (i : ℕ) {rest : List Bool} → drop i ms ≡ true ∷ rest → numberOf ms (suc i) ≡ numberOf ms i
 unfolding unmarked
 number-gone [] zero e = refl

@@ -12,5 +12,7 @@ pub mod Trimmed
 pub mod Steps
 pub mod Bytes
 pub mod Differ
+pub mod Cut
 pub mod EveryList
-pub mod RefusedFiles
+pub mod RefusedFile
+pub mod Numbers

@@ -4,23 +4,20 @@ use native.Mathlib.Omega.{arith}
 use mathlib.Core.Path.{_≡_, refl, ap, sym, subst, _∙_}
 use mathlib.Core.Logic.{_⊎_, inl, inr}
 use mathlib.Core.Bool.{Bool, true, false, not, true≢false}
-use mathlib.Core.Option.{Option, none, some}
+use mathlib.Core.Option.{none, some}
 use mathlib.Core.List.{List, [], _∷_, _++_, map-append}
-use lib.ListN.{length, getD, set, replicate, length-append, List·getD-append}
+use lib.ListN.{length, getD, set, length-append, List·getD-append}
 use lib.Seq.{set-append-left, getD-append-add}
-use lib.Dec.{ltb}
-use borrow.Author.Tests.{ltb-true, ltb-false}
-use Rattle.le.proofs.Tests.{by-test}
 use Rattle.kinds.specs.Kinds.{isKnown}
 use Rattle.table.specs.declared.Row.{Row}
 use Rattle.table.specs.Table.{blank}
-use Rattle.format.specs.Forest.{Forest, end, known, unknown, count, nodes, encode}
+use Rattle.format.specs.Forest.{Forest, end, known, unknown, nodes, encode}
 use Rattle.format.specs.Rows.{rows, ownBytes}
 use Rattle.format.specs.Layout.{WellFormed}
 use Rattle.format.proofs.Headers.{length-header}
 use Rattle.format.proofs.Rows.{length-rows}
 use Rattle.removal.specs.Tally.{rowNumbered, noMarks}
-use Rattle.removal.specs.RemovalSequence.{unmarked}
+use Rattle.removal.specs.Left.{unmarked}
 use Rattle.removal.proofs.Marked.{Marked, mend, mkn, mun, bare, kept, marks, fresh, bare-fresh, kept-fresh, length-marks}
 
 -- the row k of those that are left is row i of all; whether its node is a known one
@@ -39,7 +36,8 @@ pub record Stands (m : Marked) (k : ℕ) : Type 0 where
   pub row : ℕ
   pub stands : At m isKnownNode k row
 
-stands-beside : {c h p : ℕ} {body : List ℕ} {kids next : Marked} (k : ℕ) → nodes (kept kids) ≤ k → Stands next (k - nodes (kept kids)) → Stands (mkn c h p body kids next) (suc k)
+stands-beside : {c h p : ℕ} {body : List ℕ} {kids next : Marked} (k : ℕ) → nodes (kept kids) ≤ k → Stands next (k - nodes (kept kids))
+    → Stands (mkn c h p body kids next) (suc k)
 stands-beside {c} {h} {p} {body} {kids} {next} k l st =
     let e : nodes (kept kids) + (k - nodes (kept kids)) ≡ k = omega arith in
     let there : ℕ = suc (nodes (bare kids) + st .row) in
@@ -209,27 +207,35 @@ kept-single (pastLeft a) = cc (kept-single a)
 kept-single (below {next = next} a) = cc (kept-single a, kept-fresh (kept next))
 kept-single (beside {kids = kids} a) = cc (kept-single a, kept-fresh (kept kids))
 
-set-second : (xs ys : List Bool) (n i : ℕ) (z : Bool) → n ≡ length xs → set (xs ++ ys) (n + i) z ≡ xs ++ set ys i z
-set-second [] ys n i z e = let f : n + i ≡ i = omega arith in rw f
-set-second (x ∷ xs) ys n i z e =
+-- a mark set in the first of two lists, and in the second
+set-first : (xs ys xs′ : List Bool) (n i : ℕ) (z : Bool) → i < n → length xs ≡ n → xs′ ≡ set xs i z → xs′ ++ ys ≡ set (xs ++ ys) i z
+set-first xs ys xs′ n i z l h e = ap (λ x. x ++ ys) e ∙ sym (set-append-left xs ys i z (omega arith))
+
+set-second : (xs ys ys′ : List Bool) (n i : ℕ) (z : Bool) → length xs ≡ n → ys′ ≡ set ys i z → xs ++ ys′ ≡ set (xs ++ ys) (n + i) z
+set-second [] ys ys′ n i z h e = let f : n + i ≡ i = omega arith in rw f e
+set-second (x ∷ xs) ys ys′ n i z h e =
     let f : n + i ≡ suc (length xs + i) = omega arith in
-    rw f (ap (λ l. x ∷ l) (set-second xs ys (length xs) i z refl))
+    rw f (ap (λ l. x ∷ l) (set-second xs ys ys′ (length xs) i z refl e))
 
 pub marks-mark : {m : Marked} {z : Bool} {k i : ℕ} (a : At m z k i) → marks (mark a) ≡ set (marks m) i (not z)
 marks-mark hereKnown = refl
 marks-mark hereUnknown = refl
 marks-mark (pastGone a) = cc (marks-mark a)
 marks-mark (pastLeft a) = cc (marks-mark a)
-marks-mark (below {b = z} {i = i} {kids = kids} {next = next} a) =
-    ap (λ l. false ∷ l) (ap (λ l. l ++ marks next) (marks-mark a) ∙ sym (set-append-left (marks kids) (marks next) i (not z) (omega (arith, at-all a, length-marks kids))))
-marks-mark (beside {b = z} {i = i} {kids = kids} {next = next} a) =
-    ap (λ l. false ∷ l) (ap (λ l. marks kids ++ l) (marks-mark a) ∙ sym (set-second (marks kids) (marks next) (nodes (bare kids)) i (not z) (sym (length-marks kids))))
+marks-mark (below {i = i} {kids = kids} {next = next} a) =
+    ap (λ l. false ∷ l) (set-first (marks kids) (marks next) (marks (mark a)) (nodes (bare kids)) i _ (at-all a) (length-marks kids) (marks-mark a))
+marks-mark (beside {i = i} {kids = kids} {next = next} a) =
+    ap (λ l. false ∷ l) (set-second (marks kids) (marks next) (marks (mark a)) (nodes (bare kids)) i _ (length-marks kids) (marks-mark a))
 
 -- no row is marked
 pub marks-fresh : (f : Forest) (p row at : ℕ) → marks (fresh f) ≡ noMarks (rows f p row at)
 marks-fresh end p row at = refl
 marks-fresh (known k h n body kids next) p row at =
-    ap (λ l. false ∷ l) (cc (marks-fresh kids row (suc row) (at + 24 + length body), marks-fresh next p (suc row + nodes kids) (at + 24 + length body + length (encode kids))) ∙ sym (map-append _ (rows kids _ _ _) (rows next _ _ _)))
+    let here : ℕ = at + 24 + length body in
+    let there : ℕ = here + length (encode kids) in
+    let below = marks-fresh kids row (suc row) here in
+    let beside = marks-fresh next p (suc row + nodes kids) there in
+    ap (λ l. false ∷ l) (cc (below, beside) ∙ sym (map-append _ (rows kids row (suc row) here) (rows next p (suc row + nodes kids) there)))
 marks-fresh (unknown k h n c rest next) p row at = ap (λ l. false ∷ l) (marks-fresh next p (suc row) (at + 24 + length rest))
 
 fresh-length : (f : Forest) → length (marks (fresh f)) ≡ nodes f
@@ -240,10 +246,14 @@ marks-single hereKnown = refl
 marks-single hereUnknown = refl
 marks-single (pastGone a) = marks-single a
 marks-single (pastLeft a) = cc (marks-single a)
-marks-single (below {b = z} {k = k} {kids = kids} {next = next} a) =
-    ap (λ l. false ∷ l) (ap (λ l. l ++ marks (fresh (kept next))) (marks-single a) ∙ sym (set-append-left (marks (fresh (kept kids))) (marks (fresh (kept next))) k (not z) (omega (arith, at-left a, fresh-length (kept kids)))))
-marks-single (beside {b = z} {k = k} {kids = kids} {next = next} a) =
-    ap (λ l. false ∷ l) (ap (λ l. marks (fresh (kept kids)) ++ l) (marks-single a) ∙ sym (set-second (marks (fresh (kept kids))) (marks (fresh (kept next))) (nodes (kept kids)) k (not z) (sym (fresh-length (kept kids)))))
+marks-single (below {k = k} {kids = kids} {next = next} a) =
+    let f = kept kids in
+    let g = kept next in
+    ap (λ l. false ∷ l) (set-first (marks (fresh f)) (marks (fresh g)) (marks (single a)) (nodes f) k _ (at-left a) (fresh-length f) (marks-single a))
+marks-single (beside {k = k} {kids = kids} {next = next} a) =
+    let f = kept kids in
+    let g = kept next in
+    ap (λ l. false ∷ l) (set-second (marks (fresh f)) (marks (fresh g)) (marks (single a)) (nodes f) k _ (fresh-length f) (marks-single a))
 
 -- ---- the length without it
 

@@ -19,7 +19,7 @@ use Rattle.format.proofs.Rows.{length-rows}
 use Rattle.format.proofs.Within.{Under, rows-under}
 use Rattle.removal.specs.Trimmer.{lowered, mended, withoutFrom, without}
 use Rattle.removal.specs.Tally.{noMarks, sumOverMarked, countFall}
-use Rattle.removal.specs.RemovalSequence.{unmarked, numberOf, renumbered, renumberedFrom}
+use Rattle.removal.specs.Left.{unmarked, numberOf, renumbered, renumberedFrom}
 
 -- ---- sums over the marked rows
 over-none : (x : ℕ → Row → ℕ) (j : ℕ) (rs : List Row) → sumOverMarked x j rs (noMarks rs) ≡ 0
@@ -52,12 +52,12 @@ number-before (suc p) k [] h l = absurd (omega arith)
 number-before (suc p) zero (r ∷ rs) h l = absurd (omega arith)
 number-before (suc p) (suc k) (r ∷ rs) h l = ap suc (number-before p k rs (omega arith) (omega arith))
 
-number-behind : (p k : ℕ) (rs : List Row) → p ≤ length rs → k < p → numberOf (set (noMarks rs) k true) p ≡ p - 1
+number-after : (p k : ℕ) (rs : List Row) → p ≤ length rs → k < p → numberOf (set (noMarks rs) k true) p ≡ p - 1
 unfolding unmarked
-number-behind zero k rs h l = absurd (omega arith)
-number-behind (suc p) k [] h l = absurd (omega arith)
-number-behind (suc p) zero (r ∷ rs) h l = number-none p rs (omega arith) ∙ omega arith
-number-behind (suc p) (suc k) (r ∷ rs) h l = ap suc (number-behind p k rs (omega arith) (omega arith)) ∙ omega arith
+number-after zero k rs h l = absurd (omega arith)
+number-after (suc p) k [] h l = absurd (omega arith)
+number-after (suc p) zero (r ∷ rs) h l = number-none p rs (omega arith) ∙ omega arith
+number-after (suc p) (suc k) (r ∷ rs) h l = ap suc (number-after p k rs (omega arith) (omega arith)) ∙ omega arith
 
 -- a row's parent is none, or one of n rows
 abbrev Among : (n : ℕ) → Row → Type 0
@@ -76,7 +76,7 @@ module _ (all : List Row) (k : ℕ) (few : length all ≤ 1024) (there : k < len
   same-parent r (inr h) =
       rw (ne-eqb (r .parent) noParent (λ e. omega arith))
       (by-test (ltb k (r .parent))
-      (λ t. rw t (sym (number-behind (r .parent) k all (omega arith) (ltb-true k (r .parent) t))))
+      (λ t. rw t (sym (number-after (r .parent) k all (omega arith) (ltb-true k (r .parent) t))))
       (λ t. rw t (sym (number-before (r .parent) k all there (omega (arith, ltb-false k (r .parent) t))))))
 
   same-children : (i c : ℕ) → cond (eqb i above) (c - 1) c ≡ c - countFall all marked i
@@ -89,17 +89,17 @@ module _ (all : List Row) (k : ℕ) (few : length all ≤ 1024) (there : k < len
   same-row : (i : ℕ) (r : Row) → Among (length all) r → mended k above i r ≡ renumbered all marked i r
   same-row i r h = rw (same-parent r h, same-children i (r .children))
 
-  rows-behind : (i : ℕ) (rs : List Row) → k < i → Each (Among (length all)) rs
+  rows-after : (i : ℕ) (rs : List Row) → k < i → Each (Among (length all)) rs
       → withoutFrom k above i rs ≡ renumberedFrom all marked i rs (noMarks rs)
   unfolding withoutFrom renumberedFrom
-  rows-behind i [] h e = refl
-  rows-behind i (r ∷ rs) h e = rw (ne-eqb i k (λ q. omega arith), same-row i r (e .0), rows-behind (suc i) rs (omega arith) (e .1))
+  rows-after i [] h e = refl
+  rows-after i (r ∷ rs) h e = rw (ne-eqb i k (λ q. omega arith), same-row i r (e .0), rows-after (suc i) rs (omega arith) (e .1))
 
   rows-from : (i j : ℕ) (rs : List Row) → i + j ≡ k → Each (Among (length all)) rs
       → withoutFrom k above i rs ≡ renumberedFrom all marked i rs (set (noMarks rs) j true)
   unfolding withoutFrom renumberedFrom
   rows-from i j [] h e = refl
-  rows-from i zero (r ∷ rs) h e = rw (eq-eqb i k (omega arith)) (rows-behind (suc i) rs (omega arith) (e .1))
+  rows-from i zero (r ∷ rs) h e = rw (eq-eqb i k (omega arith)) (rows-after (suc i) rs (omega arith) (e .1))
   rows-from i (suc j) (r ∷ rs) h e = rw (ne-eqb i k (λ q. omega arith), same-row i r (e .0), rows-from (suc i) j rs (omega arith) (e .1))
 
 pub without-one : (f : Forest) (k : ℕ) → Few f → k < nodes f

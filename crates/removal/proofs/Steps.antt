@@ -1,5 +1,5 @@
 -- One trimming and one answer of the tally, from the same marks: they answer the same, and go on from the same marks.
-use Prim.Native.Nat.{ℕ, zero, suc, _+_, _≤_, _<_}
+use Prim.Native.Nat.{ℕ, suc, _+_, _≤_}
 use native.Mathlib.Omega.{arith}
 use mathlib.Core.Path.{_≡_, refl, ap, sym, subst, _∙_}
 use mathlib.Core.Logic.{_⊎_, inl, inr}
@@ -9,13 +9,13 @@ use mathlib.Core.List.{List}
 use lib.Dec.{leb, ltb}
 use lib.ListN.{length, getD, set, drop}
 use lib.Seq.{take-append-seam, drop-append-seam}
-use borrow.Author.Tests.{ltb-true, ltb-false, leb-true, leb-false, lt-ltb, le-ltb, le-leb, lt-leb, ne-eqb}
+use borrow.Author.Tests.{ltb-true, ltb-false, leb-false, lt-ltb, le-ltb, le-leb, lt-leb, ne-eqb}
 use Rattle.le.proofs.Tests.{by-test}
 use Rattle.kinds.specs.Kinds.{isKnown}
 use Rattle.table.specs.declared.Row.{Row}
 use Rattle.table.specs.Table.{noParent, blank, hasRoom}
 use Rattle.table.proofs.Clearing.{hasRoom-fits}
-use Rattle.format.specs.Forest.{Forest, nodes, encode, fileOf}
+use Rattle.format.specs.Forest.{Forest, nodes, fileOf}
 use Rattle.format.specs.Rows.{rowsOf, ownBytes}
 use Rattle.format.proofs.Rows.{length-rows}
 use Rattle.links.specs.Links.{linked}
@@ -27,12 +27,12 @@ use Rattle.reader.proofs.Exactly.{valid-rows, valid-verdict, in-room, answersTh
 use Rattle.reader.proofs.Whole.{short-table}
 use Rattle.emit.specs.declared.Written.{Written}
 use Rattle.emit.specs.Emission.{refused, done, leftBy}
-use Rattle.removal.specs.Trimmer.{removal, newFile, trimmedOf, outputAfter, tableAfter}
+use Rattle.removal.specs.Trimmer.{removalOf, newFile, trimmedOf, trimmedOutput, trimmedTable}
 use Rattle.removal.specs.Tally.{Tallied, refusal, byRow, fileLeft, tallyStep}
 use Rattle.removal.specs.RemovalSequence.{Trimming, answerTo, fileFrom, fedBy, IsRead, Removable, Goes, Leaves}
 use Rattle.removal.proofs.Marked.{Marked, bare, kept, marks}
 use Rattle.removal.proofs.Marking.{At, stands-at, Stands, numbered-at, numbered-none, unmarked-marks, at-left, kind-at, kind-left}
-use Rattle.removal.proofs.Marking.{mark, bare-mark, marks-mark, ownAt, own-at, length-mark}
+use Rattle.removal.proofs.Marking.{mark, bare-mark, marks-mark, own-at, length-mark}
 use Rattle.removal.proofs.StillValid.{valid-kept, length-file}
 use Rattle.removal.proofs.TallyFile.{file-left}
 use Rattle.removal.proofs.Trimmed.{new-file}
@@ -65,18 +65,18 @@ module _ (s : List ℕ) (c : Trimming) where
   same-file n place e = rw (e, ne-eqb (suc n) 0 (λ z. omega (arith, z)))
 
   written-file : answerTo s c ≡ done (length (newFile s (c .row))) → fileFrom s c ≡ newFile s (c .row)
-  unfolding outputAfter leftBy
+  unfolding trimmedOutput leftBy
   written-file e = rw e (take-append-seam (newFile s (c .row)) _)
 
   leaves-refused : (n place : ℕ) → answerTo s c ≡ refused (suc n) place → Leaves s c
-  unfolding outputAfter leftBy tableAfter
+  unfolding trimmedOutput leftBy trimmedTable
   leaves-refused n place e = record {
     output = rw (e, ne-eqb (suc n) 0 (λ z. omega (arith, z)));
     table = rw (e, ne-eqb (suc n) 0 (λ z. omega (arith, z)));
   }
 
   leaves-written : answerTo s c ≡ done (length (newFile s (c .row))) → Leaves s c
-  unfolding outputAfter leftBy tableAfter
+  unfolding trimmedOutput leftBy trimmedTable
   leaves-written e = record {
     output = rw e (drop-append-seam (newFile s (c .row)) _);
     table = rw (e, take-append-seam (newFile s (c .row)) (drop (length (newFile s (c .row))) (c .output)));
@@ -130,10 +130,12 @@ module _ (flags : ℕ) (m : Marked) (v : Valid flags (bare m)) (c : Trimming) wh
 
   short : hasRoom (c .table) ≡ false → Step flags m c
   unfolding trimmedOf tallyStep
-  short h = refuse 0 (rw (← (short-table s (c .table) h .0))) (rw (no-room (c .table) h)) (λ r. omega (arith, r .table, ltb-true (length (c .table)) 8192 (no-room (c .table) h)))
+  short h =
+      let less = no-room (c .table) h in
+      refuse 0 (rw (← (short-table s (c .table) h .0))) (rw less) (λ r. omega (arith, r .table, ltb-true (length (c .table)) 8192 less))
 
   module _ (h : hasRoom (c .table) ≡ true) where
-    trimmed : answerTo s c ≡ removal rows k (length (newFile s k)) (length (c .output))
+    trimmed : answerTo s c ≡ removalOf rows k (length (newFile s k)) (length (c .output))
     unfolding trimmedOf
     trimmed = rw (in-room s (c .table) h, valid-verdict s flags (kept m) valid refl, valid-rows s flags (kept m) valid refl)
 
@@ -150,7 +152,9 @@ module _ (flags : ℕ) (m : Marked) (v : Valid flags (bare m)) (c : Trimming) wh
 
       told-of : told ≡ byRow (some i) (fileOf flags (bare m)) (rowsOf (bare m)) (marks m) (length (c .output))
       unfolding tallyStep
-      told-of = rw (some-room (c .table) h, numbered-at a 0) (ap (λ j. byRow (some j) (fileOf flags (bare m)) (rowsOf (bare m)) (marks m) (length (c .output))) (omega arith))
+      told-of =
+          rw (some-room (c .table) h, numbered-at a 0)
+          (ap (λ j. byRow (some j) (fileOf flags (bare m)) (rowsOf (bare m)) (marks m) (length (c .output))) (omega arith))
 
       kind-old : isKnown (getD (rowsOf (bare m)) i blank .kind) ≡ z
       kind-old = kind-at a (v .wellFormed .2) noParent 0 16
@@ -177,8 +181,8 @@ module _ (flags : ℕ) (m : Marked) (v : Valid flags (bare m)) (c : Trimming) wh
       shorter : length (fileOf flags (kept (mark a))) + ownBytes (getD rows k blank) ≡ length s
       shorter = omega (arith, length-mark a, own-at a noParent 0 16 refl, length-file flags (kept (mark a)), length-file flags (kept m))
 
-      answered : answerTo s c ≡ removal rows k (length (fileOf flags (kept (mark a)))) (length (c .output))
-      answered = trimmed ∙ ap (λ l. removal rows k (length l) (length (c .output))) new
+      answered : answerTo s c ≡ removalOf rows k (length (fileOf flags (kept (mark a)))) (length (c .output))
+      answered = trimmed ∙ ap (λ l. removalOf rows k (length l) (length (c .output))) new
 
       no-output : ltb (length (c .output)) (length (fileOf flags (kept (mark a)))) ≡ true → Step flags m c
       no-output t =
@@ -188,7 +192,8 @@ module _ (flags : ℕ) (m : Marked) (v : Valid flags (bare m)) (c : Trimming) wh
       removed : ltb (length (c .output)) (length (fileOf flags (kept (mark a)))) ≡ false → Step flags m c
       removed t =
           let answer : answerTo s c ≡ done (length (fileOf flags (kept (mark a)))) = answered ∙ rw (there a, kind-new a, t) in
-          let both : told ≡ record { answer = done (length (fileOf flags (kept (mark a)))); marks = set (marks m) i true } = told-of a ∙ rw (kind-old a, tally-new, t) in
+          let both : told ≡ record { answer = done (length (fileOf flags (kept (mark a)))); marks = set (marks m) i true }
+          = told-of a ∙ rw (kind-old a, tally-new, t) in
           record {
             after = mark a;
             same = bare-mark a;

@@ -1,24 +1,22 @@
 -- One trimming of what is left of a valid forest's file: the new file is what is left with one mark more.
-use Prim.Native.Nat.{ℕ, _+_, _≤_, _<_}
-use native.Mathlib.Omega.{arith}
+use Prim.Native.Nat.{ℕ}
 use mathlib.Core.Path.{_≡_, refl, ap, sym, subst, _∙_}
-use mathlib.Core.Bool.{Bool, true, false}
+use mathlib.Core.Bool.{true, false}
 use mathlib.Core.List.{List, map}
-use lib.ListN.{length, getD, set}
+use lib.ListN.{set}
 use Rattle.table.specs.declared.Row.{Row}
 use Rattle.table.specs.Table.{noParent}
-use Rattle.format.specs.Forest.{Forest, nodes, fileOf}
+use Rattle.format.specs.Forest.{fileOf}
 use Rattle.format.specs.Rows.{rowsOf, bodyOf}
 use Rattle.valid.specs.Valid.{Valid}
-use Rattle.walk.specs.Walk.{limited, flagsOf}
 use Rattle.reader.proofs.Exactly.{valid-rows, valid-flags}
 use Rattle.emit.specs.Emission.{fileBytes}
 use Rattle.writer.specs.Forest.{laidOut}
 use Rattle.writer.proofs.RoundTrip.{same-bytes}
 use Rattle.removal.specs.Trimmer.{without, newFile}
 use Rattle.removal.specs.Tally.{noMarks}
-use Rattle.removal.specs.RemovalSequence.{unmarkedRows, renumberedFrom, rowsLeft}
-use Rattle.removal.proofs.Marked.{Marked, bare, kept, marks, fresh, Left}
+use Rattle.removal.specs.Left.{renumberedFrom, rowsLeft}
+use Rattle.removal.proofs.Marked.{Marked, bare, kept, marks, Left}
 use Rattle.removal.proofs.Marking.{At, at-left, mark, single, bare-single, kept-single, marks-fresh, marks-single}
 use Rattle.removal.proofs.StillValid.{valid-kept}
 use Rattle.removal.proofs.LeftLinks.{bodies-left}
@@ -75,4 +73,5 @@ module _ (flags : ℕ) (m : Marked) (v : Valid flags (bare m)) {k i : ℕ} (a : 
       let s = fileOf flags (kept m) in
       let valid = valid-kept flags m v in
       rw (valid-rows s flags (kept m) valid refl, valid-flags s flags (kept m) valid refl, without-row)
-      (ap (λ f. fileBytes flags (fileOf flags f) (renumberedRows flags (single a) one)) (sym (bare-single a)) ∙ emitted flags (single a) one ∙ ap (fileOf flags) (kept-single a))
+      (ap (λ f. fileBytes flags (fileOf flags f) (renumberedRows flags (single a) one)) (sym (bare-single a))
+      ∙ emitted flags (single a) one ∙ ap (fileOf flags) (kept-single a))

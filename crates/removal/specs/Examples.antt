@@ -9,7 +9,7 @@ use Rattle.names.specs.Names.{bytesOk, same, decimal, number, numbered}
 use Rattle.kinds.specs.Kinds.{root, model, lineIn, lineOf, isKnown, standsAtTop, standsUnder, mayStand}
 use Rattle.kinds.specs.Kinds.{lines as kindLines}
 use Rattle.table.specs.declared.Row.{Row}
-use Rattle.table.specs.Table.{noParent, hasRoom, zeroed, cleared, flat, filled}
+use Rattle.table.specs.Table.{noParent, fields, hasRoom, zeroed, cleared, flat, filled}
 use Rattle.props.specs.Step.{headerRefusal, dataRefusal, toZero, dataOf, nameAt, stepAt}
 use Rattle.body.specs.Body.{pass, properties, firstNamed}
 use Rattle.faces.specs.Faces.{widthOf, facesIn, below, degenerate}
@@ -23,11 +23,13 @@ use Rattle.walk.specs.Walk.{headerAt, nodeRefusal, andThen, children, knownNode
 use Rattle.reader.specs.Reading.{bonesUnder, judgedWith, ruled, ownKnown, ownUnknown, checked, verdict, readingOf}
 use Rattle.reader.specs.Reading.{tableAfter as readTable}
 use Rattle.emit.specs.declared.Written.{Written}
-use Rattle.emit.specs.Emission.{under, sizes, nodesBytes, roots, fileBytes, refused, done, leftBy}
+use Rattle.emit.specs.Emission.{under, sizes, nodesBytes, roots, fileBytes, refused, done}
+use Rattle.emit.specs.Emission.{leftBy as emitLeft}
 use Rattle.writer.specs.Forest.{laidOut}
-use Rattle.removal.specs.Trimmer.{withoutFrom, newFile, trimmedOf, outputAfter, tableAfter}
-use Rattle.removal.specs.Tally.{Fed, noMarks, rowNumbered, sumOverMarked, isAround, reducedHeader, nodesLeft, fileLeft, tallyStep, answers, marksAfter}
-use Rattle.removal.specs.RemovalSequence.{Trimming, answersOf, fileAfter, fedBy, unmarked, renumberedFrom, rowsLeft}
+use Rattle.removal.specs.Trimmer.{withoutFrom, newFile, trimmedOf, trimmedOutput, trimmedTable}
+use Rattle.removal.specs.Tally.{noMarks, rowNumbered, sumOverMarked, isAround, reducedHeader, nodesLeft, fileLeft, tallyStep, answers, marksAfter}
+use Rattle.removal.specs.Left.{unmarked, renumberedFrom, rowsLeft}
+use Rattle.removal.specs.RemovalSequence.{Trimming, answersOf, fileAfter, fedBy}
 
 -- ---- the run, and the tally, of a file with these rows: the answers, and the file after the list
 pub record Ended : Type 0 where
@@ -35,7 +37,7 @@ pub record Ended : Type 0 where
   pub file : List ℕ
 
 unfoldable byRun : List ℕ → List Trimming → Ended
-unfolding val numberAt bytesOk same decimal number numbered kindLines lineIn lineOf isKnown standsAtTop standsUnder mayStand hasRoom headerRefusal dataRefusal toZero dataOf nameAt stepAt pass properties firstNamed widthOf facesIn below degenerate letters lines unpacked texts lists ruleIn ofKind linesOf isText inSet isOneOf le lengthOf valueOf typesOf besideOf typed misses lacks faultOf valued nodeFaces nodeLinks verdictAt judgedAt judged header fileHeader reached linksAt linksFrom resolved linked headerAt nodeRefusal andThen children knownNode nodeBy node nodeAt childrenAt walkOf limited bonesUnder judgedWith ruled ownKnown ownUnknown checked verdict readingOf under sizes nodesBytes roots fileBytes leftBy withoutFrom newFile trimmedOf outputAfter answersOf fileAfter
+unfolding val numberAt bytesOk same decimal number numbered kindLines lineIn lineOf isKnown standsAtTop standsUnder mayStand hasRoom headerRefusal dataRefusal toZero dataOf nameAt stepAt pass properties firstNamed widthOf facesIn below degenerate letters lines unpacked texts lists ruleIn ofKind linesOf isText inSet isOneOf le lengthOf valueOf typesOf besideOf typed misses lacks faultOf valued nodeFaces nodeLinks verdictAt judgedAt judged header fileHeader reached linksAt linksFrom resolved linked headerAt nodeRefusal andThen children knownNode nodeBy node nodeAt childrenAt walkOf limited bonesUnder judgedWith ruled ownKnown ownUnknown checked verdict readingOf under sizes nodesBytes roots fileBytes emitLeft withoutFrom newFile trimmedOf trimmedOutput answersOf fileAfter
 byRun s list = record { answers = answersOf s list; file = fileAfter s list }
 
 unfoldable byTally : List ℕ → List Row → List Trimming → Ended
@@ -45,14 +47,18 @@ byTally s rows list = record {
   file = fileLeft s rows (marksAfter s rows (noMarks rows) (map fedBy list));
 }
 
--- what one trimming leaves, given a table of 8,193 numbers
+-- what one trimming leaves
 pub record Lent : Type 0 where
   pub table : List ℕ
   pub output : List ℕ
 
-unfoldable left : List ℕ → ℕ → List ℕ → Lent
-unfolding flat filled zeroed cleared readTable tableAfter val numberAt bytesOk same decimal number numbered kindLines lineIn lineOf isKnown standsAtTop standsUnder mayStand hasRoom headerRefusal dataRefusal toZero dataOf nameAt stepAt pass properties firstNamed widthOf facesIn below degenerate letters lines unpacked texts lists ruleIn ofKind linesOf isText inSet isOneOf le lengthOf valueOf typesOf besideOf typed misses lacks faultOf valued nodeFaces nodeLinks verdictAt judgedAt judged header fileHeader reached linksAt linksFrom resolved linked headerAt nodeRefusal andThen children knownNode nodeBy node nodeAt childrenAt walkOf limited bonesUnder judgedWith ruled ownKnown ownUnknown checked verdict readingOf under sizes nodesBytes roots fileBytes leftBy withoutFrom newFile trimmedOf outputAfter
-left s k out = record { table = tableAfter s k (replicate 8193 7) (length out); output = outputAfter s k (replicate 8193 7) out }
+unfoldable lentAfter : (s : List ℕ) (k : ℕ) (t out : List ℕ) → Lent
+unfolding flat filled zeroed cleared readTable trimmedTable val numberAt bytesOk same decimal number numbered kindLines lineIn lineOf isKnown standsAtTop standsUnder mayStand hasRoom headerRefusal dataRefusal toZero dataOf nameAt stepAt pass properties firstNamed widthOf facesIn below degenerate letters lines unpacked texts lists ruleIn ofKind linesOf isText inSet isOneOf le lengthOf valueOf typesOf besideOf typed misses lacks faultOf valued nodeFaces nodeLinks verdictAt judgedAt judged header fileHeader reached linksAt linksFrom resolved linked headerAt nodeRefusal andThen children knownNode nodeBy node nodeAt childrenAt walkOf limited bonesUnder judgedWith ruled ownKnown ownUnknown checked verdict readingOf under sizes nodesBytes roots fileBytes emitLeft withoutFrom newFile trimmedOf trimmedOutput
+lentAfter s k t out = record { table = trimmedTable s k t (length out); output = trimmedOutput s k t out }
+
+-- the same, with a table of 8,193 numbers
+abbrev left : (s : List ℕ) (k : ℕ) (out : List ℕ) → Lent
+left s k out = lentAfter s k (replicate 8193 7) out
 
 -- a file of one root, and a node's header alone
 unfoldable cast : List ℕ → List ℕ
@@ -92,16 +98,22 @@ e10-tallied : byTally e10 (row root noParent 40 40 1 ∷ row private 0 64 67 0 �
 unfolding byTally cast head e10 e3
 e10-tallied = refl
 
--- what is left in an output of 42 bytes, in one of 39, and, of a table of 8,193 numbers, in its first nine and its last
-e10-output : (left e10 1 (replicate 42 8) .output ≡ e3 ++ (8 ∷ 8 ∷ [])) × (left e10 1 (replicate 39 8) .output ≡ replicate 39 8)
-unfolding left cast head e10 e3
-e10-output = (refl, refl)
+-- what is left on success, in an output of 42 bytes, and of the table in its first nine numbers and its last two
+e10-lent : (left e10 1 (replicate 42 8) .output ≡ e3 ++ (8 ∷ 8 ∷ []))
+    × (take 9 (left e10 1 (replicate 42 8) .table) ≡ root ∷ 0 ∷ 0 ∷ noParent ∷ 40 ∷ 40 ∷ 0 ∷ 0 ∷ 0 ∷ [])
+    × (drop 8191 (left e10 1 (replicate 42 8) .table) ≡ 0 ∷ 7 ∷ [])
+unfolding lentAfter cast head e10 e3
+e10-lent = (refl, refl, refl)
 
-e10-table : (take 9 (left e10 1 (replicate 42 8) .table) ≡ root ∷ 0 ∷ 0 ∷ noParent ∷ 40 ∷ 40 ∷ 0 ∷ 0 ∷ 0 ∷ [])
-    × (drop 8191 (left e10 1 (replicate 42 8) .table) ≡ 0 ∷ 7 ∷ []) × (take 9 (left e10 1 (replicate 39 8) .table) ≡ replicate 9 0)
-    × (drop 8191 (left e10 1 (replicate 39 8) .table) ≡ 0 ∷ 7 ∷ [])
-unfolding left cast head e10
-e10-table = (refl, refl, refl, refl)
+-- a refusal leaves the output, and clears the table's first 8,192 numbers: 32, 30, 31 and the reader's 6; 1 leaves both
+abbrev Cleared : Lent → (out : List ℕ) → Type 0
+Cleared lent out = (lent .output ≡ out) × (take 9 (lent .table) ≡ replicate 9 0) × (drop 8191 (lent .table) ≡ 0 ∷ 7 ∷ [])
+
+refusals-lent : Cleared (left e10 1 (replicate 39 8)) (replicate 39 8) × Cleared (left e10 2 (replicate 42 8)) (replicate 42 8)
+    × Cleared (left e10 0 (replicate 42 8)) (replicate 42 8) × Cleared (left (cast (head model 24 0)) 0 (replicate 42 8)) (replicate 42 8)
+    × (lentAfter e10 1 (5 ∷ 6 ∷ []) (replicate 42 8) ≡ record { table = 5 ∷ 6 ∷ []; output = replicate 42 8 })
+unfolding lentAfter cast head e10
+refusals-lent = ((refl, refl, refl), (refl, refl, refl), (refl, refl, refl), (refl, refl, refl), refl)
 
 -- ---- a Root with a Model and a private node C below it; below the Model, private nodes A and B
 file : List ℕ
@@ -144,6 +156,12 @@ before = cast (head root 99 2 ++ (head private 26 0 ++ (1 ∷ 1 ∷ head model 4
 renumbers : byRun before (trim 1 ∷ []) ≡ record { answers = done 89 ∷ []; file = withoutAC }
 unfolding byRun cast head before withoutAC
 renumbers = refl
+
+-- a later row moves up in the table, and its body to where it lies in the new file: A taken out
+a-lent : take 33 (left file 2 (replicate 200 9) .table) ≡
+    fields (row root noParent 40 40 2) ++ (fields (row model 0 64 64 1) ++ (fields (row private 1 88 89 0) ++ (fields (row private 0 113 115 0) ++ (0 ∷ []))))
+unfolding lentAfter cast head file
+a-lent = refl
 
 -- ---- with refusals between: 1 before 30; 30; 31; 32 by one byte; then A with just enough room; 31; 30, as rows have become
 -- fewer; then C

@@ -25,14 +25,14 @@ pub record Fed : Type 0 where
 abbrev pub noMarks : List Row → List Bool
 noMarks rows = map (λ r. false) rows
 
--- "F's unmarked rows are numbered from 0, in order": the row of F that has a number, given the marks from row i on
+-- "F's unmarked rows are numbered from 0, in order": the row of F whose number is n; the marks are those of row i and later
 unfoldable pub rowNumbered : (i : ℕ) → List Bool → (number : ℕ) → Option ℕ
 rowNumbered i [] n = none
 rowNumbered i (true ∷ marks) n = rowNumbered (suc i) marks n
 rowNumbered i (false ∷ marks) zero = some i
 rowNumbered i (false ∷ marks) (suc n) = rowNumbered (suc i) marks n
 
--- the sum of a number over the marked rows, from row j on
+-- the sum of a number over the marked rows; the first of these rows is row j
 unfoldable pub sumOverMarked : (ℕ → Row → ℕ) → (j : ℕ) → List Row → List Bool → ℕ
 sumOverMarked x j [] marks = 0
 sumOverMarked x j (r ∷ rows) [] = 0
@@ -41,34 +41,34 @@ sumOverMarked x j (r ∷ rows) (mark ∷ marks) = cond mark (x j r) 0 + sumOverM
 -- ---- the file: "The file then is F without the marked nodes; in each node around some of them, parent to root, the size falls
 -- by theirs and the child count by its marked children."
 
--- row i is around row j: it is the parent of row j, or around that parent. At most n levels up; a row has fewer than there are
--- rows.
+-- row i is around row j: it is the parent of row j, or around that parent. Looks at most n levels up; a row has fewer rows
+-- around it than there are rows.
 unfoldable pub isAround : List Row → (n i j : ℕ) → Bool
 isAround rows zero i j = false
 isAround rows (suc n) i j =
     let parent = getD rows j blank .parent in
     not (eqb parent noParent) && (eqb parent i || isAround rows n i parent)
 
--- a node's 24 header bytes as they stand in F; its size is the second of their numbers, its child count the last
+-- a node's 24 header bytes as they stand in F: its bytes 4 to 7 are the size, 20 to 23 the child count
 abbrev pub headerIn : (s : List ℕ) → Row → List ℕ
 headerIn s r = take 24 (drop (r .start - 24) s)
 
 abbrev pub sizeIn : (s : List ℕ) → Row → ℕ
 sizeIn s r = numberAt 4 (headerIn s r) 4
 
--- by how much the size of row i falls, and by how much its child count
+-- by how much the size of row i falls: the sizes of the marked rows that it is around; and its child count: its marked children
 abbrev pub sizeFall : (s : List ℕ) → List Row → List Bool → (i : ℕ) → ℕ
 sizeFall s rows marks i = sumOverMarked (λ j r. cond (isAround rows (length rows) i j) (sizeIn s r) 0) 0 rows marks
 
 abbrev pub countFall : List Row → List Bool → (i : ℕ) → ℕ
 countFall rows marks i = sumOverMarked (λ j r. cond (eqb (r .parent) i) 1 0) 0 rows marks
 
--- a header whose size and child count have reducedHeader: its other bytes are as they were
+-- a header with its size and its child count less by so much; its other bytes are as they were
 unfoldable pub reducedHeader : (header : List ℕ) (size children : ℕ) → List ℕ
 reducedHeader h size children =
     take 4 h ++ (le 4 (numberAt 4 h 4 - size) ++ (take 12 (drop 8 h) ++ le 4 (numberAt 4 h 20 - children)))
 
--- the unmarked ones of F's rows, from row i on: header and body of each
+-- the unmarked ones of some rows, the first of which is row i: header and body of each. `all` and `marked` are those of all rows
 unfoldable pub nodesLeft : (s : List ℕ) (all : List Row) (marked : List Bool) (i : ℕ) → List Row → List Bool → List ℕ
 nodesLeft s all marked i [] marks = []
 nodesLeft s all marked i (r ∷ rows) [] = []
@@ -77,13 +77,13 @@ nodesLeft s all marked i (r ∷ rows) (false ∷ marks) =
     reducedHeader (headerIn s r) (sizeFall s all marked i) (countFall all marked i)
     ++ (bodyOf s r ++ nodesLeft s all marked (suc i) rows marks)
 
--- the tally's file
+-- the tally's file: F's first 16 bytes, and what is left of its nodes
 unfoldable pub fileLeft : (s : List ℕ) → List Row → List Bool → List ℕ
 fileLeft s rows marks = take 16 s ++ nodesLeft s rows marks 0 rows marks
 
 -- ---- the answers
 
--- an answer, and the marks after it
+-- the tally's answer to one trimming, and the marks after it
 pub record Tallied : Type 0 where
   pub answer : Written
   pub marks : List Bool
@@ -92,7 +92,7 @@ pub record Tallied : Type 0 where
 abbrev pub refusal : (number : ℕ) → List Bool → Tallied
 refusal n marks = record { answer = record { number = n; place = 0; length = 0 }; marks = marks }
 
--- 32, or the row that was asked for marked: `marks` are the marks with it, `old` those without
+-- 32 where the output is too short; else the new length, and the row is marked: `marks` has it marked, `old` has not
 abbrev pub byRoom : (new room : ℕ) (marks old : List Bool) → Tallied
 byRoom new room marks old =
     cond (ltb room new) (refusal 32 old) (record { answer = record { number = 0; place = 0; length = new }; marks = marks })

@@ -54,8 +54,8 @@ newFile s k = fileBytes (flagsOf s) s (without k (limited s .rows))
 -- ---- the answer
 
 -- 30 to 32 of a file with these rows, by the length of the new file
-abbrev pub removal : (rows : List Row) (k new room : ℕ) → Written
-removal rows k new room =
+abbrev pub removalOf : (rows : List Row) (k new room : ℕ) → Written
+removalOf rows k new room =
     cond (leb (length rows) k) (refused 30 0)
     (cond (isKnown (getD rows k blank .kind)) (refused 31 0)
     (cond (ltb room new) (refused 32 0)
@@ -68,14 +68,14 @@ byReading (Refused n place) next = refused n place
 
 -- a trimming's number, place and length, for any file, row number and table, and an output of any length
 unfoldable pub trimmedOf : (s : List ℕ) (k : ℕ) (t : List ℕ) (room : ℕ) → Written
-trimmedOf s k t room = byReading (readingOf s t) (removal (limited s .rows) k (length (newFile s k)) room)
+trimmedOf s k t room = byReading (readingOf s t) (removalOf (limited s .rows) k (length (newFile s k)) room)
 
--- ---- what is lent
+-- ---- the lent buffers at exit
 
--- the output at exit: on success the new file at its start; else as it was
-unfoldable pub outputAfter : (s : List ℕ) (k : ℕ) (t out : List ℕ) → List ℕ
-outputAfter s k t out = leftBy (trimmedOf s k t (length out) .number) (newFile s k) out
+-- the output: on success the new file at its start; else as it was
+unfoldable pub trimmedOutput : (s : List ℕ) (k : ℕ) (t out : List ℕ) → List ℕ
+trimmedOutput s k t out = leftBy (trimmedOf s k t (length out) .number) (newFile s k) out
 
--- the table at exit: on success as a reading of the new file leaves it; else cleared, and left where it has no room (1)
-unfoldable pub tableAfter : (s : List ℕ) (k : ℕ) (t : List ℕ) (room : ℕ) → List ℕ
-tableAfter s k t room = cond (eqb (trimmedOf s k t room .number) 0) (readTable (newFile s k) t) (cleared t)
+-- the table: on success as a reading of the new file leaves it; else cleared, and left where it has no room (1)
+unfoldable pub trimmedTable : (s : List ℕ) (k : ℕ) (t : List ℕ) (room : ℕ) → List ℕ
+trimmedTable s k t room = cond (eqb (trimmedOf s k t room .number) 0) (readTable (newFile s k) t) (cleared t)

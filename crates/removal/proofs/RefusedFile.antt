@@ -13,8 +13,8 @@ use Rattle.reader.specs.Reading.{readingOf}
 use Rattle.reader.specs.Reading.{tableAfter as readTable}
 use Rattle.reader.proofs.Exactly.{in-room}
 use Rattle.emit.specs.Emission.{refused, leftBy}
-use Rattle.removal.specs.Trimmer.{trimmedOf, outputAfter, tableAfter}
-use Rattle.removal.specs.RemovalSequence.{RefusedFiles}
+use Rattle.removal.specs.Trimmer.{trimmedOf, trimmedOutput, trimmedTable}
+use Rattle.removal.specs.RefusedFile.{RefusedFile}
 
 module _ (s t : List ℕ) (n place : ℕ) (r : readingOf s t ≡ Refused (suc n) place) where
   with-room : hasRoom t ≡ true → readTable s t ≡ cleared t
@@ -33,13 +33,13 @@ module _ (s t : List ℕ) (n place : ℕ) (r : readingOf s t ≡ Refused (suc n)
     unfolding trimmedOf
     answer = rw r
 
-    output : outputAfter s k t out ≡ out
-    unfolding outputAfter leftBy
+    output : trimmedOutput s k t out ≡ out
+    unfolding trimmedOutput leftBy
     output = rw (answer, ne-eqb (suc n) 0 (λ z. omega (arith, z)))
 
-    table : tableAfter s k t (length out) ≡ readTable s t
-    unfolding tableAfter
+    table : trimmedTable s k t (length out) ≡ readTable s t
+    unfolding trimmedTable
     table = rw (answer, ne-eqb (suc n) 0 (λ z. omega (arith, z))) (sym table-read)
 
-pub refusedFiles : RefusedFiles
-refusedFiles s t n place k out r = (answer s t n place r k out, output s t n place r k out, table s t n place r k out)
+pub refusedFile : RefusedFile
+refusedFile s t n place k out r = (answer s t n place r k out, output s t n place r k out, table s t n place r k out)
