@@ -138,7 +138,7 @@ startOf all marked i at rs ms place = getD (laidOut at (renumberedFrom all marke
 -- a place among the four bytes, from the header's byte `first` on, of a number that falls in a row that is left
 record Falling (all : List Row) (marked : List Bool) (fall : ℕ → ℕ) (first i at : ℕ) (rs : List Row) (ms : List Bool) (q : ℕ) : Type 0 where
   place : ℕ
-  isUnmarked : getD ms place true ≡ false
+  stays : getD ms place true ≡ false
   falls : fall (i + place) ≡ 0 → ⊥
   from : startOf all marked i at rs ms place + first ≤ q + 24
   before : q + 24 < startOf all marked i at rs ms place + first + 4
@@ -146,7 +146,7 @@ record Falling (all : List Row) (marked : List Bool) (fall : ℕ → ℕ) (first
 module _ {all : List Row} {marked : List Bool} {fall : ℕ → ℕ} {first i at : ℕ} {rs : List Row} {ms : List Bool} {q : ℕ} (r : Row) where
   in-first : (fall i ≡ 0 → ⊥) → at + first ≤ q → q < at + first + 4 → Falling all marked fall first i at (r ∷ rs) (false ∷ ms) q
   unfolding laidOut renumberedFrom unmarked
-  in-first f h k = record { place = 0; isUnmarked = refl; falls = rw (add-zero i) f; from = omega arith; before = omega arith }
+  in-first f h k = record { place = 0; stays = refl; falls = rw (add-zero i) f; from = omega arith; before = omega arith }
 
   in-later : (mark : Bool) → Falling all marked fall first (suc i) (cond mark at (at + ownBytes r)) rs ms q
       → Falling all marked fall first i at (r ∷ rs) (mark ∷ ms) q
@@ -154,7 +154,7 @@ module _ {all : List Row} {marked : List Bool} {fall : ℕ → ℕ} {first i at 
   in-later mark f =
       let n : ℕ = f .place in
       let e = start mark n in
-      record { place = suc n; isUnmarked = f .isUnmarked; falls = rw (onward i n) (f .falls); from = rw e (f .from); before = rw e (f .before) }
+      record { place = suc n; stays = f .stays; falls = rw (onward i n) (f .falls); from = rw e (f .from); before = rw e (f .before) }
     where
       start : (mark : Bool) (n : ℕ)
           → startOf all marked i at (r ∷ rs) (mark ∷ ms) (suc n) ≡ startOf all marked (suc i) (cond mark at (at + ownBytes r)) rs ms n
@@ -215,7 +215,7 @@ in-header first rows marks x related at f =
     record {
       row = f .place;
       marked = m .place;
-      isUnmarked = f .isUnmarked;
+      stays = f .stays;
       isMarked = m .isMarked;
       related = related (f .place) (m .place) (rw (zero-add (m .place)) at (m .counts));
       from = f .from;

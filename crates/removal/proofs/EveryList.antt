@@ -17,11 +17,10 @@ use Rattle.format.proofs.Rows.{length-rows}
 use Rattle.format.proofs.Within.{rows-lie}
 use Rattle.links.specs.Links.{linksOf}
 use Rattle.valid.specs.Valid.{Valid}
-use Rattle.reader.specs.declared.Account.{Account}
 use Rattle.reader.specs.declared.Reading.the-variants.{Accepted}
 use Rattle.reader.specs.Reading.{verdict}
 use Rattle.reader.specs.Reading.{tableAfter as readTable}
-use Rattle.reader.specs.Acceptance.{AnswerOf, facesOf}
+use Rattle.reader.specs.Acceptance.{AnswerOf, rowFaces, facesOf}
 use Rattle.reader.proofs.Exactly.{valid-flags, valid-verdict, verdict-valid, valid-answer, in-room, has-room, answersTheRules}
 use Rattle.removal.specs.Tally.{Tallied, noMarks, fileLeft, tallyStep, answers, marksAfter}
 use Rattle.removal.specs.RemovalSequence.{Trimming, answerTo, fileFrom, answersOf, fileAfter, EachTrimming, fedBy, marksBy, IsRead, Goes, Leaves, IsLeft, HoldsOf, EveryList}
@@ -29,13 +28,15 @@ use Rattle.removal.specs.Left.{unmarkedRows, bytesLeft, movedLink}
 use Rattle.removal.proofs.Marked.{Marked, bare, kept, marks, fresh, bare-fresh, kept-fresh, length-marks}
 use Rattle.removal.proofs.Marking.{marks-fresh}
 use Rattle.removal.proofs.StillValid.{valid-kept, length-file}
-use Rattle.removal.proofs.LeftLinks.{faces-left, owns-left, bodies-left, known-left, unknown-left, only-unknown, links-left}
+use Rattle.removal.proofs.LeftLinks.{faces-left, node-faces-left, owns-left, bodies-left, known-left, unknown-left, only-unknown, links-left, link-rows}
+use Rattle.removal.proofs.KeptRows.{parents-stay}
 use Rattle.removal.proofs.TallyFile.{file-left}
 use Rattle.removal.proofs.Trimmed.{rows-are, rows-same}
 use Rattle.removal.proofs.Bytes.{bytes-left}
 use Rattle.removal.proofs.Differ.{LiesIn, pieces, same-length, differ}
 use Rattle.removal.proofs.Cut.{Tiles, rows-tile, cut}
 use Rattle.removal.proofs.Steps.{accountFor, is-read, step}
+use Rattle.removal.proofs.OneReading.{account-same}
 
 -- ---- along a list
 record Ran (flags : ℕ) (f : Forest) (m : Marked) (list : List Trimming) : Type 0 where
@@ -108,17 +109,19 @@ module _ (flags : ℕ) (m : Marked) (v : Valid flags (bare m)) (bytes : AreBytes
       let faces = faces-left same in
       let links = links-left s left rows (marks m) (rowsOf (kept m)) same are in
       record {
-        bytes = subst AreBytes (sym tally) (bytes-left s bytes rows (marks m));
+        marked = length-marks m ∙ sym (length-rows (bare m) noParent 0 16);
+        onlyUnknown = only-unknown same;
         account = accountFor flags (kept m);
         accepted = subst (λ rs. IsRead left rs (accountFor flags (kept m))) are (is-read flags (kept m) valid);
         flags = valid-flags left flags (kept m) valid refl ∙ sym (valid-flags s flags (bare m) v refl);
+        parents = parents-stay m;
+        bytes = subst AreBytes (sym tally) (bytes-left s bytes rows (marks m));
         isTallyFile = tally;
         sameLength = ap length tally ∙ same-length s rows (marks m) inside ∙ ap length (sym cut-file);
         differ =
             rw (tally, cut-file) (differ s rows (marks m) bytes (omega (arith, length-file flags (bare m))) inside);
         bodies = subst (λ rs. map (bodyOf left) rs ≡ map (bodyOf s) (unmarkedRows rows (marks m))) are (bodies-left same);
-        marked = length-marks m ∙ sym (length-rows (bare m) noParent 0 16);
-        onlyUnknown = only-unknown same;
+        linkRows = link-rows s left rows (marks m) (rowsOf (kept m)) same;
         links = subst (λ rs. linksOf left rs ≡ map (movedLink rows (marks m)) (linksOf s rows)) are links;
         linkCount = new .links ∙ ap length links ∙ length-map (linksOf s rows) (movedLink rows (marks m)) ∙ sym (old .links);
         charges = λ t h.
@@ -127,6 +130,7 @@ module _ (flags : ℕ) (m : Marked) (v : Valid flags (bare m)) (bytes : AreBytes
             ∙ owns-left same;
         known = known-left same;
         unknown = unknown-left 0 same;
+        nodeFaces = subst (λ rs. map (rowFaces left) rs ≡ map (rowFaces s) (unmarkedRows rows (marks m))) are (node-faces-left same);
         faces = subst (λ rs. facesOf left rs ≡ facesOf s rows) are faces;
         faceCount = new .faces ∙ ap length faces ∙ sym (old .faces);
         degenerate = new .degenerates ∙ ap degenerateIn faces ∙ sym (old .degenerates);
@@ -171,9 +175,6 @@ module _ (flags : ℕ) (f : Forest) (v : Valid flags f) (bytes : AreBytes (fileO
     ended = ended list;
     anyOrder = λ other e. ended other .isTallyFile ∙ ap (fileLeft (fileOf flags f) (rowsOf f)) e ∙ sym (ended list .isTallyFile);
   }
-
-account-same : (a b : Account) → Accepted a ≡ Accepted b → b ≡ a
-account-same a b e = cc
 
 -- demand 3
 pub everyList : EveryList

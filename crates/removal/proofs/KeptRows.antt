@@ -2,23 +2,25 @@
 use Prim.Native.Nat.{ℕ, suc, _+_, _-_, _≤_}
 use native.Mathlib.Omega.{arith}
 use mathlib.Core.Path.{_≡_, refl, ap, sym, _∙_}
+use mathlib.Core.Logic.{_⊎_, inl, inr}
 use mathlib.Core.Bool.{Bool, true, false, cond}
 use mathlib.Core.List.{List, [], _∷_, _++_, append-assoc, append-nil}
 use lib.Dec.{eqb}
 use lib.ListN.{length, length-append}
-use lib.Seq.{take-at}
+use lib.Seq.{take-at, getD-append-seam}
 use borrow.Author.Tests.{ne-eqb}
 use Rattle.table.specs.declared.Row.{Row}
 use Rattle.table.specs.Table.{noParent}
 use Rattle.format.specs.Forest.{count, nodes, header, encode, fileHeader, fileOf}
 use Rattle.format.specs.Rows.{nodeRow, rows, rowsOf, ownBytes, allOwnBytes}
-use Rattle.format.specs.Layout.{WellFormed, Few}
+use Rattle.format.specs.Layout.{Each, WellFormed, Few}
+use Rattle.format.proofs.Each.{each-append}
 use Rattle.format.proofs.Headers.{length-header, length-fileHeader}
 use Rattle.format.proofs.Rows.{part, length-rows, own-rows}
 use Rattle.writer.specs.Forest.{movedTo, laidOut}
 use Rattle.writer.proofs.Order.{none-laid}
 use Rattle.removal.specs.Tally.{countFall}
-use Rattle.removal.specs.Left.{unmarked, numberOf, renumbered, renumberedFrom, rowsLeft}
+use Rattle.removal.specs.Left.{unmarked, numberOf, Stays, renumbered, renumberedFrom, rowsLeft}
 use Rattle.removal.proofs.Marked.{Marked, mend, mkn, mun, bare, kept, marks, Falls, SameNode, Left, none, gone, same, length-marks, count-kept}
 use Rattle.removal.proofs.Marking.{unmarked-append, unmarked-marks}
 
@@ -139,12 +141,49 @@ module _ (s : List ℕ) (all : List Row) (marked : List Bool) where
       let tail = laid next p p′ (suc row) (suc row′) (at + 24 + length rest) (at′ + 24 + length rest) b1 q (omega arith) (falls .2) in
       row-left k h ps p p′ row at at′ (length rest) c c _ _ q (omega (arith, falls .1)) tail
 
+all-marks : (m : Marked) → MarksFrom (marks m) (marks m) 0 0
+unfolding unmarked
+all-marks m = record { pre = []; post = []; whole = sym (append-nil (marks m)); long = refl; number = refl }
+
 pub rows-left : (s : List ℕ) (m : Marked) → Few (bare m) → Falls s (rowsOf (bare m)) (marks m) m 0
     → rowsOf (kept m) ≡ rowsLeft (rowsOf (bare m)) (marks m)
-unfolding rowsLeft unmarked
-rows-left s m few falls =
-    let b : MarksFrom (marks m) (marks m) 0 0 = record { pre = []; post = []; whole = sym (append-nil (marks m)); long = refl; number = refl } in
-    laid s (rowsOf (bare m)) (marks m) m noParent noParent 0 0 16 16 b refl (omega arith) falls
+unfolding rowsLeft
+rows-left s m few falls = laid s (rowsOf (bare m)) (marks m) m noParent noParent 0 0 16 16 (all-marks m) refl (omega arith) falls
+
+-- ---- parents stay
+
+own-stays : (marked ms : List Bool) (row row′ : ℕ) → MarksFrom marked (false ∷ ms) row row′ → Stays marked row
+own-stays marked ms row row′ b = rw (b .whole, ← b .long) (getD-append-seam (b .pre) false (ms ++ b .post) true)
+
+abbrev ParentStays : List Bool → (parent : ℕ) → Type 0
+ParentStays marked p = (p ≡ noParent) ⊎ Stays marked p
+
+parents-from : (marked : List Bool) (m : Marked) (p row row′ at : ℕ) → MarksFrom marked (marks m) row row′ → ParentStays marked p
+    → Each (λ r. ParentStays marked (r .parent)) (rows (bare m) p row at)
+unfolding unmarked
+parents-from marked mend p row row′ at b q = tt
+parents-from marked (mkn k h ps body kids next) p row row′ at b q =
+    let here = at + 24 + length body in
+    let to = suc row + nodes (bare kids) in
+    let there = here + length (encode (bare kids)) in
+    let b1 = later-marks marked (false ∷ []) (marks kids ++ marks next) row row′ b (suc row) (suc row′) (omega arith) (omega arith) in
+    let b2 = first-marks marked (marks kids) (marks next) (suc row) (suc row′) b1 in
+    let b3 = later-marks marked (marks kids) (marks next) (suc row) (suc row′) b1 to _ (omega (arith, length-marks kids)) refl in (
+      q,
+      each-append (λ r. ParentStays marked (r .parent)) (rows (bare kids) row (suc row) here) (rows (bare next) p to there) .1 (
+        parents-from marked kids row (suc row) (suc row′) here b2 (inr (own-stays marked (marks kids ++ marks next) row row′ b)),
+        parents-from marked next p to _ there b3 q,
+      ),
+    )
+parents-from marked (mun true k h ps c rest next) p row row′ at b q =
+    let b1 = later-marks marked (true ∷ []) (marks next) row row′ b (suc row) row′ (omega arith) (omega arith) in
+    (q, parents-from marked next p (suc row) row′ (at + 24 + length rest) b1 q)
+parents-from marked (mun false k h ps c rest next) p row row′ at b q =
+    let b1 = later-marks marked (false ∷ []) (marks next) row row′ b (suc row) (suc row′) (omega arith) (omega arith) in
+    (q, parents-from marked next p (suc row) (suc row′) (at + 24 + length rest) b1 q)
+
+pub parents-stay : (m : Marked) → Each (λ r. (r .parent ≡ noParent) ⊎ Stays (marks m) (r .parent)) (rowsOf (bare m))
+parents-stay m = parents-from (marks m) m noParent 0 0 16 (all-marks m) (inl refl)
 
 -- ---- node by node the same
 

@@ -13,14 +13,16 @@ use Rattle.kinds.specs.Kinds.{isKnown}
 use Rattle.table.specs.declared.Row.{Row}
 use Rattle.table.specs.Table.{blank}
 use Rattle.format.specs.Rows.{bodyOf, ownBytes, hashOf}
+use Rattle.format.specs.Layout.{Each}
+use Rattle.format.proofs.Each.{each-append}
 use Rattle.rules.specs.Table.{linkTo}
 use Rattle.rules.specs.Rules.{linesOf}
 use Rattle.judge.specs.Properties.{ruleAt, restAt}
 use Rattle.links.specs.Links.{reached, linksAt, rowLinks, linksFrom, linksOf}
 use Rattle.reader.specs.Reading.{ownKnown, ownUnknown}
-use Rattle.reader.specs.Acceptance.{facesOf}
+use Rattle.reader.specs.Acceptance.{rowFaces, facesOf}
 use Rattle.removal.specs.Tally.{sumOverMarked}
-use Rattle.removal.specs.Left.{unmarked, numberOf, unmarkedRows, rowsLeft, movedLink}
+use Rattle.removal.specs.Left.{unmarked, numberOf, Stays, unmarkedRows, rowsLeft, LinkStays, movedLink}
 use Rattle.removal.proofs.Marked.{Left, none, gone, same}
 use Rattle.removal.proofs.Targets.{target-at, unlike}
 
@@ -45,6 +47,13 @@ module _ {s s′ : List ℕ} where
   bodies-left none = refl
   bodies-left (gone u l) = bodies-left l
   bodies-left (same n l) = rw (n .body, bodies-left l)
+
+  pub node-faces-left : {rows : List Row} {ms : List Bool} {rows′ : List Row} → Left s s′ rows ms rows′
+      → map (rowFaces s′) rows′ ≡ map (rowFaces s) (unmarkedRows rows ms)
+  unfolding unmarkedRows
+  node-faces-left none = refl
+  node-faces-left (gone u l) = node-faces-left l
+  node-faces-left (same n l) = rw (n .kind, n .body, n .properties, node-faces-left l)
 
   pub known-left : {rows : List Row} {ms : List Bool} {rows′ : List Row} → Left s s′ rows ms rows′ → ownKnown rows′ ≡ ownKnown rows
   unfolding ownKnown
@@ -117,6 +126,41 @@ module _ (s s′ : List ℕ) (ms : List Bool) where
       rw (n .kind, n .low, n .high, ih)
       (by-test (eqb (r .kind) kind && eqb (hashOf r) hash) (λ t. rw t) (λ t. rw t))
 
+  -- and it is not marked
+  reached-stay : (kind hash : ℕ) → isKnown kind ≡ true → (i : ℕ) {rs : List Row} {rest : List Bool} {rs′ : List Row}
+      → drop i ms ≡ rest → Left s s′ rs rest rs′ → Each (Stays ms) (reached kind hash i rs)
+  unfolding reached
+  reached-stay kind hash k i e none = tt
+  reached-stay kind hash k i e (gone {r = r} u l) = rw (unlike (r .kind) kind u k) (reached-stay kind hash k (suc i) (onward ms i e) l)
+  reached-stay kind hash k i e (same {r = r} n l) =
+      let later = reached-stay kind hash k (suc i) (onward ms i e) l in
+      by-test (eqb (r .kind) kind && eqb (hashOf r) hash) (λ t. rw t (here ms i true e, later)) (λ t. rw t later)
+
+  module _ (rows rows′ : List Row) (whole : Left s s′ rows ms rows′) where
+    links-stay-at : (kind i start : ℕ) (body starts : List ℕ) → Stays ms i
+        → Each (LinkStays ms) (linksAt rows (linesOf kind) i start body starts)
+    unfolding linksAt
+    links-stay-at kind i start body [] h = tt
+    links-stay-at kind i start body (at ∷ more) h =
+        let l = ruleAt (linesOf kind) body at in
+        let later = links-stay-at kind i start body more h in
+        by-test (eqb (l .held) (linkTo 0 .held))
+        (λ t.
+        let known = target-at kind body at (eqb-true (l .held) (linkTo 0 .held) t) in
+        rw t ((h, reached-stay (l .target) (numberAt 8 (restAt body at) 0) known 0 refl whole), later))
+        (λ t. rw t later)
+
+    links-stay : (i : ℕ) {rs : List Row} {rest : List Bool} {rs′ : List Row} → drop i ms ≡ rest → Left s s′ rs rest rs′
+        → Each (LinkStays ms) (linksFrom s rows i rs)
+    unfolding linksFrom
+    links-stay i e none = tt
+    links-stay i e (gone u l) = rw u (links-stay (suc i) (onward ms i e) l)
+    links-stay i {rs = r ∷ rs} e (same n l) =
+        let later = links-stay (suc i) (onward ms i e) l in
+        let own : Each (LinkStays ms) (rowLinks s rows i r)
+        = by-test (isKnown (r .kind)) (λ t. rw t (links-stay-at (r .kind) i (r .start) (bodyOf s r) _ (here ms i true e))) (λ t. rw t tt) in
+        each-append (LinkStays ms) (rowLinks s rows i r) (linksFrom s rows (suc i) rs) .1 (own, later)
+
   module _ (rows rows′ : List Row) (whole : Left s s′ rows ms rows′) (laid : rows′ ≡ rowsLeft rows ms) where
     -- the links of row i, whose body is the same but starts at another place
     module _ (kind i : ℕ) (r r′ : Row) (from : getD rows i blank ≡ r) (to : getD rows′ (numberOf ms i) blank ≡ r′) (body : List ℕ) where
@@ -156,3 +200,6 @@ pub links-left : (s s′ : List ℕ) (rows : List Row) (ms : List Bool) (rows′
     → linksOf s′ rows′ ≡ map (movedLink rows ms) (linksOf s rows)
 unfolding unmarked
 links-left s s′ rows ms rows′ whole laid = links-from s s′ ms rows rows′ whole laid 0 refl refl refl whole
+
+pub link-rows : (s s′ : List ℕ) (rows : List Row) (ms : List Bool) (rows′ : List Row) → Left s s′ rows ms rows′ → Each (LinkStays ms) (linksOf s rows)
+link-rows s s′ rows ms rows′ whole = links-stay s s′ ms rows rows′ whole 0 refl whole

@@ -13,6 +13,7 @@ pub mod Steps
 pub mod Bytes
 pub mod Differ
 pub mod Cut
+pub mod OneReading
 pub mod EveryList
 pub mod RefusedFile
 pub mod Numbers

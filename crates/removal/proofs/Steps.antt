@@ -8,7 +8,7 @@ use mathlib.Core.Option.{some}
 use mathlib.Core.List.{List}
 use lib.Dec.{leb, ltb}
 use lib.ListN.{length, getD, set, drop}
-use lib.Seq.{take-append-seam, drop-append-seam}
+use lib.Seq.{take-append-seam}
 use borrow.Author.Tests.{ltb-true, ltb-false, leb-false, lt-ltb, le-ltb, le-leb, lt-leb, ne-eqb}
 use Rattle.le.proofs.Tests.{by-test}
 use Rattle.kinds.specs.Kinds.{isKnown}
@@ -35,7 +35,7 @@ use Rattle.removal.proofs.Marking.{At, stands-at, Stands, numbered-at, 
 use Rattle.removal.proofs.Marking.{mark, bare-mark, marks-mark, own-at, length-mark}
 use Rattle.removal.proofs.StillValid.{valid-kept, length-file}
 use Rattle.removal.proofs.TallyFile.{file-left}
-use Rattle.removal.proofs.Trimmed.{new-file}
+use Rattle.removal.proofs.Trimmed.{new-file, one-goes, none-goes}
 
 -- ---- a valid forest's file is read
 abbrev pub accountFor : (flags : ℕ) → Forest → Account
@@ -78,7 +78,7 @@ module _ (s : List ℕ) (c : Trimming) where
   leaves-written : answerTo s c ≡ done (length (newFile s (c .row))) → Leaves s c
   unfolding trimmedOutput leftBy trimmedTable
   leaves-written e = record {
-    output = rw e (drop-append-seam (newFile s (c .row)) _);
+    output = rw (e, take-append-seam (newFile s (c .row)) (drop (length (newFile s (c .row))) (c .output)));
     table = rw (e, take-append-seam (newFile s (c .row)) (drop (length (newFile s (c .row))) (c .output)));
   }
 
@@ -124,6 +124,7 @@ module _ (flags : ℕ) (m : Marked) (v : Valid flags (bare m)) (c : Trimming) wh
       account = accountFor flags (kept m);
       read = is-read flags (kept m) valid;
       exactly = (λ e. absurd (omega (arith, ap (λ (w : Written). w .number) (sym a) ∙ e)), λ r. absurd (stays r));
+      gone = same-file s c n 0 a ∙ rw (a, ne-eqb (suc n) 0 (λ z. omega (arith, z))) (sym (none-goes flags (kept m) valid));
     };
     leaves = leaves-refused s c n 0 a;
   }
@@ -194,12 +195,13 @@ module _ (flags : ℕ) (m : Marked) (v : Valid flags (bare m)) (c : Trimming) wh
           let answer : answerTo s c ≡ done (length (fileOf flags (kept (mark a)))) = answered ∙ rw (there a, kind-new a, t) in
           let both : told ≡ record { answer = done (length (fileOf flags (kept (mark a)))); marks = set (marks m) i true }
           = told-of a ∙ rw (kind-old a, tally-new, t) in
+          let written = written-file s c (answer ∙ ap (λ l. done (length l)) (sym new)) ∙ new in
           record {
             after = mark a;
             same = bare-mark a;
             answer = answer ∙ ap (λ (x : Tallied). x .answer) (sym both);
             marked = ap (λ (x : Tallied). x .marks) both ∙ sym (marks-mark a);
-            file = written-file s c (answer ∙ ap (λ l. done (length l)) (sym new)) ∙ new;
+            file = written;
             goes = record {
               rows = rows;
               account = accountFor flags (kept m);
@@ -213,6 +215,7 @@ module _ (flags : ℕ) (m : Marked) (v : Valid flags (bare m)) (c : Trimming) wh
                 },
                 λ r. ap (λ (w : Written). w .number) answer,
               );
+              gone = written ∙ rw answer (sym (one-goes flags m v a));
             };
             leaves = leaves-written s c (answer ∙ ap (λ l. done (length l)) (sym new));
           }

@@ -6,7 +6,7 @@ use mathlib.Core.List.{List, map}
 use lib.ListN.{set}
 use Rattle.table.specs.declared.Row.{Row}
 use Rattle.table.specs.Table.{noParent}
-use Rattle.format.specs.Forest.{fileOf}
+use Rattle.format.specs.Forest.{Forest, fileOf}
 use Rattle.format.specs.Rows.{rowsOf, bodyOf}
 use Rattle.valid.specs.Valid.{Valid}
 use Rattle.reader.proofs.Exactly.{valid-rows, valid-flags}
@@ -14,9 +14,9 @@ use Rattle.emit.specs.Emission.{fileBytes}
 use Rattle.writer.specs.Forest.{laidOut}
 use Rattle.writer.proofs.RoundTrip.{same-bytes}
 use Rattle.removal.specs.Trimmer.{without, newFile}
-use Rattle.removal.specs.Tally.{noMarks}
+use Rattle.removal.specs.Tally.{noMarks, fileLeft}
 use Rattle.removal.specs.Left.{renumberedFrom, rowsLeft}
-use Rattle.removal.proofs.Marked.{Marked, bare, kept, marks, Left}
+use Rattle.removal.proofs.Marked.{Marked, bare, kept, marks, fresh, bare-fresh, kept-fresh, Left}
 use Rattle.removal.proofs.Marking.{At, at-left, mark, single, bare-single, kept-single, marks-fresh, marks-single}
 use Rattle.removal.proofs.StillValid.{valid-kept}
 use Rattle.removal.proofs.LeftLinks.{bodies-left}
@@ -24,6 +24,7 @@ use Rattle.removal.proofs.Emitting.{file-laid, renumbered-bodies}
 use Rattle.removal.proofs.KeptRows.{rows-left, left-rows}
 use Rattle.removal.proofs.One.{without-one}
 use Rattle.removal.proofs.Falls.{falls}
+use Rattle.removal.proofs.TallyFile.{file-left}
 
 -- a valid forest with marks: the rows that are left emitted over its file give the file that is left
 module _ (flags : ℕ) (m : Marked) (v : Valid flags (bare m)) where
@@ -75,3 +76,18 @@ module _ (flags : ℕ) (m : Marked) (v : Valid flags (bare m)) {k i : ℕ} (a : 
       rw (valid-rows s flags (kept m) valid refl, valid-flags s flags (kept m) valid refl, without-row)
       (ap (λ f. fileBytes flags (fileOf flags f) (renumberedRows flags (single a) one)) (sym (bare-single a))
       ∙ emitted flags (single a) one ∙ ap (fileOf flags) (kept-single a))
+
+  -- and so is the tally's, from what was left so far
+  pub one-goes : fileLeft (fileOf flags (kept m)) (rowsOf (kept m)) (set (noMarks (rowsOf (kept m))) k true) ≡ fileOf flags (kept (mark a))
+  one-goes =
+      ap (fileLeft (fileOf flags (kept m)) (rowsOf (kept m))) (sym one-mark)
+      ∙ ap (λ f. fileLeft (fileOf flags f) (rowsOf f) (marks (single a))) (sym (bare-single a))
+      ∙ file-left (fileOf flags (bare (single a))) flags (single a) (one .wellFormed) (one .placed) (one .few) refl ∙ ap (fileOf flags) (kept-single a)
+
+-- with no mark the tally's file is the first
+pub none-goes : (flags : ℕ) (f : Forest) → Valid flags f → fileLeft (fileOf flags f) (rowsOf f) (noMarks (rowsOf f)) ≡ fileOf flags f
+none-goes flags f v =
+    let w = subst (Valid flags) (sym (bare-fresh f)) v in
+    ap (fileLeft (fileOf flags f) (rowsOf f)) (sym (marks-fresh f noParent 0 16))
+    ∙ ap (λ g. fileLeft (fileOf flags g) (rowsOf g) (marks (fresh f))) (sym (bare-fresh f))
+    ∙ file-left (fileOf flags (bare (fresh f))) flags (fresh f) (w .wellFormed) (w .placed) (w .few) refl ∙ ap (fileOf flags) (kept-fresh f)

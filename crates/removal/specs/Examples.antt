@@ -6,7 +6,7 @@ use mathlib.Core.List.{List, [], _∷_, _++_, map}
 use lib.ListN.{length, take, drop, replicate}
 use Rattle.le.specs.Le.{val, numberAt, le}
 use Rattle.names.specs.Names.{bytesOk, same, decimal, number, numbered}
-use Rattle.kinds.specs.Kinds.{root, model, lineIn, lineOf, isKnown, standsAtTop, standsUnder, mayStand}
+use Rattle.kinds.specs.Kinds.{root, model, mesh, material, lineIn, lineOf, isKnown, standsAtTop, standsUnder, mayStand}
 use Rattle.kinds.specs.Kinds.{lines as kindLines}
 use Rattle.table.specs.declared.Row.{Row}
 use Rattle.table.specs.Table.{noParent, fields, hasRoom, zeroed, cleared, flat, filled}
@@ -18,7 +18,7 @@ use Rattle.rules.specs.Rules.{lists, ruleIn, ofKind, linesOf, isText, inSet, is
 use Rattle.judge.specs.Properties.{lengthOf, valueOf, typesOf, besideOf}
 use Rattle.judge.specs.Judge.{typed, misses, lacks, faultOf, valued, nodeFaces, nodeLinks, verdictAt, judgedAt, judged}
 use Rattle.format.specs.Forest.{header, fileHeader}
-use Rattle.links.specs.Links.{reached, linksAt, linksFrom, resolved, linked}
+use Rattle.links.specs.Links.{Link, reached, linksAt, linksFrom, linksOf, resolved, linked}
 use Rattle.walk.specs.Walk.{headerAt, nodeRefusal, andThen, children, knownNode, nodeBy, node, nodeAt, childrenAt, walkOf, limited}
 use Rattle.reader.specs.Reading.{bonesUnder, judgedWith, ruled, ownKnown, ownUnknown, checked, verdict, readingOf}
 use Rattle.reader.specs.Reading.{tableAfter as readTable}
@@ -28,7 +28,7 @@ use Rattle.emit.specs.Emission.{leftBy as emitLeft}
 use Rattle.writer.specs.Forest.{laidOut}
 use Rattle.removal.specs.Trimmer.{withoutFrom, newFile, trimmedOf, trimmedOutput, trimmedTable}
 use Rattle.removal.specs.Tally.{noMarks, rowNumbered, sumOverMarked, isAround, reducedHeader, nodesLeft, fileLeft, tallyStep, answers, marksAfter}
-use Rattle.removal.specs.Left.{unmarked, renumberedFrom, rowsLeft}
+use Rattle.removal.specs.Left.{unmarked, renumberedFrom, rowsLeft, inMarked, bytesFrom, bytesLeft, movedLink}
 use Rattle.removal.specs.RemovalSequence.{Trimming, answersOf, fileAfter, fedBy}
 
 -- ---- the run, and the tally, of a file with these rows: the answers, and the file after the list
@@ -149,6 +149,11 @@ rows-left : rowsLeft rows (false ∷ false ∷ true ∷ false ∷ true ∷ []) �
 unfolding sumOverMarked unmarked renumberedFrom laidOut rowsLeft rows
 rows-left = refl
 
+-- the first file's bytes without the two: the numbers in them are as they were
+bytes-left : bytesLeft file rows (false ∷ false ∷ true ∷ false ∷ true ∷ []) ≡ cast (head root 126 2 ++ (head model 76 2 ++ (head private 25 0 ++ (2 ∷ []))))
+unfolding inMarked bytesFrom cast head file rows
+bytes-left = refl
+
 -- ---- a Root with a private node before a Model that has one: the Model becomes row 1, and so the other's parent
 before : List ℕ
 before = cast (head root 99 2 ++ (head private 26 0 ++ (1 ∷ 1 ∷ head model 49 1 ++ (head private 25 0 ++ (2 ∷ [])))))
@@ -163,13 +168,48 @@ a-lent : take 33 (left file 2 (replicate 200 9) .table) ≡
 unfolding lentAfter cast head file
 a-lent = refl
 
--- ---- with refusals between: 1 before 30; 30; 31; 32 by one byte; then A with just enough room; 31; 30, as rows have become
--- fewer; then C
+-- ---- a file with a link: a Root with a private node before a Model; below that a Mesh (vp, f, m) and its Material (n, t), hash 7
+linkedBy : (size children : ℕ) → (notes : List ℕ) → List ℕ
+linkedBy size children notes =
+    cast (head root size children ++ (notes ++ (head model 128 2 ++ (header mesh 60 0 3 0 ++ (
+    0x33 ∷ 0x76 ∷ 2 ∷ 0 ∷ 0 ∷ 0 ∷ 0 ∷ 0 ∷ 118 ∷ 112 ∷
+    0x62 ∷ 0 ∷ 1 ∷ 0 ∷ 0 ∷ 0 ∷ 0 ∷ 0 ∷ 102 ∷
+    0x6C ∷ 0 ∷ 1 ∷ 0 ∷ 1 ∷ 0 ∷ 0 ∷ 0 ∷ 109 ∷ 7 ∷ 0 ∷ 0 ∷ 0 ∷ 0 ∷ 0 ∷ 0 ∷ 0 ∷ (header material 44 7 2 0 ++ (
+    0x73 ∷ 0 ∷ 1 ∷ 0 ∷ 1 ∷ 0 ∷ 0 ∷ 0 ∷ 110 ∷ 0 ∷
+    0x73 ∷ 0 ∷ 1 ∷ 0 ∷ 1 ∷ 0 ∷ 0 ∷ 0 ∷ 116 ∷ 0 ∷ [])))))))
+
+noted : List ℕ
+noted = linkedBy 178 2 (head private 26 0 ++ (1 ∷ 1 ∷ []))
+
+notedRows : List Row
+notedRows =
+    row root noParent 40 40 2 ∷ row private 0 64 66 0 ∷ row model 0 90 90 2 ∷
+    record { kind = mesh; low = 0; high = 0; parent = 2; start = 114; end = 150; properties = 3; children = 0 } ∷
+    record { kind = material; low = 7; high = 0; parent = 2; start = 174; end = 194; properties = 2; children = 0 } ∷ []
+
+abbrev link : (row property target : ℕ) → Link
+link row property target = record { row = row; property = property; targets = target ∷ [] }
+
+-- the Mesh and its Material each have a lower row, and the link's property lies 26 bytes before
+link-moves : (byRun noted (trim 1 ∷ []) ≡ record { answers = done 168 ∷ []; file = linkedBy 152 1 [] })
+    × (linksOf noted notedRows ≡ link 3 133 4 ∷ [])
+    × (movedLink notedRows (false ∷ true ∷ false ∷ false ∷ false ∷ []) (link 3 133 4) ≡ link 2 107 3)
+    × (linksOf (linkedBy 152 1 []) (rowsLeft notedRows (false ∷ true ∷ false ∷ false ∷ false ∷ [])) ≡ link 2 107 3 ∷ [])
+unfolding val numberAt bytesOk same decimal number numbered kindLines lineIn lineOf isKnown headerRefusal dataRefusal toZero dataOf nameAt stepAt pass properties lists ruleIn ofKind linesOf letters lines unpacked reached linksAt linksFrom le header sumOverMarked unmarked renumberedFrom laidOut rowsLeft byRun cast head linkedBy noted notedRows
+link-moves = (refl, refl, refl, refl)
+
+-- ---- with refusals between: 1 before 30; 30; 31; 32 by one byte; then A with just enough room; the same four again, as rows
+-- have become fewer and the file shorter; then C with just enough room
+abbrev short : (row : ℕ) → Trimming
+short k = record { row = k; table = replicate 8191 7; output = [] }
+
 abbrev mixed : List Trimming
-mixed = record { row = 9; table = replicate 8191 7; output = [] } ∷ trim 5 ∷ into 0 1 ∷ into 114 2 ∷ into 115 2 ∷ trim 0 ∷ trim 4 ∷ into 89 3 ∷ []
+mixed = short 9 ∷ trim 5 ∷ into 0 1 ∷ into 114 2 ∷ into 115 2 ∷ short 3 ∷ trim 4 ∷ into 0 0 ∷ into 88 3 ∷ into 89 3 ∷ []
 
 abbrev told : List Written
-told = refused 1 0 ∷ refused 30 0 ∷ refused 31 0 ∷ refused 32 0 ∷ done 115 ∷ refused 31 0 ∷ refused 30 0 ∷ done 89 ∷ []
+told =
+    refused 1 0 ∷ refused 30 0 ∷ refused 31 0 ∷ refused 32 0 ∷ done 115 ∷
+    refused 1 0 ∷ refused 30 0 ∷ refused 31 0 ∷ refused 32 0 ∷ done 89 ∷ []
 
 with-refusals : Both mixed told withoutAC
 unfolding byRun byTally cast head file rows withoutAC

@@ -7,6 +7,7 @@ use lib.Dec.{eqb, leb, ltb}
 use lib.ListN.{length, getD, take}
 use Rattle.table.specs.declared.Row.{Row}
 use Rattle.table.specs.Table.{noParent, blank}
+use Rattle.format.specs.Layout.{Each}
 use Rattle.links.specs.Links.{Link}
 use Rattle.writer.specs.Forest.{laidOut}
 use Rattle.removal.specs.Tally.{isAround, countFall}
@@ -21,6 +22,10 @@ unmarked (false ∷ marks) = suc (unmarked marks)
 
 abbrev pub numberOf : List Bool → (i : ℕ) → ℕ
 numberOf marks i = unmarked (take i marks)
+
+-- row i stays: it is there, and unmarked. Only of such a row is `numberOf` the number (Numbers.antt).
+abbrev pub Stays : List Bool → (i : ℕ) → Type 0
+Stays marks i = getD marks i true ≡ false
 
 -- the unmarked ones of some rows
 unfoldable pub unmarkedRows : List Row → List Bool → List Row
@@ -50,7 +55,8 @@ renumberedFrom all marked i (r ∷ rows) (true ∷ marks) = renumberedFrom all m
 renumberedFrom all marked i (r ∷ rows) (false ∷ marks) = renumbered all marked i r ∷ renumberedFrom all marked (suc i) rows marks
 
 -- "the old ones without theirs, renumbered, but for where bodies lie and those child counts": bodies lie one node after the
--- other from place 16 on, each as long as it was
+-- other from place 16 on, each as long as it was. `laidOut` goes by the rows alone: it sets their starts and ends, by their own
+-- bytes.
 unfoldable pub rowsLeft : List Row → List Bool → List Row
 rowsLeft rows marks = laidOut 16 (renumberedFrom rows marks 0 rows marks)
 
@@ -73,11 +79,11 @@ abbrev pub bytesLeft : (s : List ℕ) → List Row → List Bool → List ℕ
 bytesLeft s rows marks = bytesFrom rows marks 0 s
 
 -- a place of the new file in a field of four bytes of an unmarked row's header, where that row is related to some marked row;
--- `first` is the field's offset in the header
+-- `first` is the field's offset in the header, which starts 24 bytes before the row's body
 pub record InHeader (Related : (row marked : ℕ) → Type 0) (first : ℕ) (rows : List Row) (marks : List Bool) (at : ℕ) : Type 0 where
   pub row : ℕ
   pub marked : ℕ
-  pub isUnmarked : getD marks row true ≡ false
+  pub stays : Stays marks row
   pub isMarked : getD marks marked false ≡ true
   pub related : Related row marked
   pub from : getD (rowsLeft rows marks) (numberOf marks row) blank .start + first ≤ at + 24
@@ -91,6 +97,10 @@ abbrev pub InCount : (rows : List Row) (marks : List Bool) (at : ℕ) → Type 0
 InCount rows marks at = InHeader (λ i j. getD rows j blank .parent ≡ i) 20 rows marks at
 
 -- ---- links
+
+-- a link's row and the rows that it reaches stay
+abbrev pub LinkStays : List Bool → Link → Type 0
+LinkStays marks l = Stays marks (l .row) × Each (Stays marks) (l .targets)
 
 -- a link with its rows renumbered, and its property as far into its body as it was
 abbrev pub movedLink : List Row → List Bool → Link → Link

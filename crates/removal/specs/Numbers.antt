@@ -1,19 +1,28 @@
 -- The two ways to number the unmarked rows agree: the tally finds the row that has a number, `numberOf` gives the number of a
--- row; and the row with that number is the same row.
-use Prim.Native.Nat.{ℕ}
+-- row; and among the unmarked rows, the one with that number is the same row.
+use Prim.Native.Nat.{ℕ, _≤_}
 use mathlib.Core.Path.{_≡_}
-use mathlib.Core.Bool.{Bool, true, false}
-use mathlib.Core.Option.{some}
+use mathlib.Core.Bool.{Bool}
+use mathlib.Core.Option.{none, some}
 use mathlib.Core.List.{List}
 use lib.ListN.{length, getD}
 use Rattle.table.specs.declared.Row.{Row}
 use Rattle.table.specs.Table.{blank}
 use Rattle.removal.specs.Tally.{rowNumbered}
-use Rattle.removal.specs.Left.{numberOf, unmarkedRows}
+use Rattle.removal.specs.Left.{unmarked, numberOf, Stays, unmarkedRows}
 
+-- each row that stays has a number
 abbrev pub SameNumber : Type 0
-SameNumber = (marks : List Bool) (i : ℕ) → getD marks i true ≡ false → rowNumbered 0 marks (numberOf marks i) ≡ some i
+SameNumber = (marks : List Bool) (i : ℕ) → Stays marks i → rowNumbered 0 marks (numberOf marks i) ≡ some i
+
+-- a number is that of a row that stays
+abbrev pub OnlyNumber : Type 0
+OnlyNumber = (marks : List Bool) (n i : ℕ) → rowNumbered 0 marks n ≡ some i → Stays marks i × (numberOf marks i ≡ n)
+
+-- there are as many numbers as unmarked rows
+abbrev pub NoNumber : Type 0
+NoNumber = (marks : List Bool) (n : ℕ) → unmarked marks ≤ n → rowNumbered 0 marks n ≡ none
 
 abbrev pub SameRow : Type 0
-SameRow = (rows : List Row) (marks : List Bool) (i : ℕ) → length rows ≡ length marks → getD marks i true ≡ false
+SameRow = (rows : List Row) (marks : List Bool) (i : ℕ) → length rows ≡ length marks → Stays marks i
     → getD (unmarkedRows rows marks) (numberOf marks i) blank ≡ getD rows i blank

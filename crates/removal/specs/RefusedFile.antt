@@ -1,5 +1,5 @@
 -- Document 01's trimmer, "the reader's refusals", of any bytes that a reading refuses and whatever else is lent: the answer is the
--- reader's, the output is untouched, and the table is as the reading leaves it.
+-- reader's, the output is untouched, and the table is as the reading leaves it. (No refusal's number is 0, hence `suc n`.)
 use Prim.Native.Nat.{ℕ, suc}
 use mathlib.Core.Path.{_≡_}
 use mathlib.Core.List.{List}

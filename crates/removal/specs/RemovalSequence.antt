@@ -4,29 +4,30 @@ use Prim.Native.Nat.{ℕ, _+_, _≤_, _<_}
 use mathlib.Core.Path.{_≡_}
 use mathlib.Core.Logic.{_⊎_, _↔_}
 use mathlib.Core.Bool.{Bool, true, false, cond}
-use mathlib.Core.List.{List, [], _∷_, map}
+use mathlib.Core.List.{List, [], _∷_, _++_, map}
 use lib.Dec.{eqb}
-use lib.ListN.{length, getD, take, drop}
+use lib.ListN.{length, getD, set, take, drop}
 use Rattle.le.specs.Le.{AreBytes}
 use Rattle.kinds.specs.Kinds.{isKnown}
 use Rattle.table.specs.declared.Row.{Row}
-use Rattle.table.specs.Table.{blank, hasRoom, rowsAt, cleared, filled}
+use Rattle.table.specs.Table.{noParent, blank, hasRoom, rowsAt, cleared, filled}
 use Rattle.format.specs.Rows.{bodyOf, ownBytes}
+use Rattle.format.specs.Layout.{Each}
 use Rattle.links.specs.Links.{linksOf}
 use Rattle.reader.specs.declared.Account.{Account}
 use Rattle.reader.specs.declared.Reading.the-variants.{Accepted}
 use Rattle.reader.specs.Reading.{readingOf}
 use Rattle.reader.specs.Reading.{tableAfter as readTable}
-use Rattle.reader.specs.Acceptance.{facesOf}
+use Rattle.reader.specs.Acceptance.{rowFaces, facesOf}
 use Rattle.emit.specs.declared.Written.{Written}
 use Rattle.removal.specs.Trimmer.{trimmedOf, trimmedOutput, trimmedTable}
 use Rattle.removal.specs.Tally.{Fed, noMarks, sumOverMarked, fileLeft, answers, marksAfter}
-use Rattle.removal.specs.Left.{unmarkedRows, rowsLeft, bytesLeft, InSize, InCount, movedLink}
+use Rattle.removal.specs.Left.{Stays, unmarkedRows, rowsLeft, bytesLeft, InSize, InCount, LinkStays, movedLink}
 
 -- ---- a list of trimmings
 
--- document 01's "trimming", as it is called for: "Each has any row number, any table and an output apart from the file, whatever
--- these hold."
+-- one trimming of a list, by the mission: "Each has any row number, any table and an output apart from the file, whatever these
+-- hold."
 pub record Trimming : Type 0 where
   pub row : ℕ
   pub table : List ℕ
@@ -70,12 +71,15 @@ marksBy s rows list = marksAfter s rows (noMarks rows) (map fedBy list)
 
 -- ---- accepted, by demand 2's reading
 
--- a file is accepted with this account, and its rows are these, whatever the table held; there is one such account and list
--- of rows
+-- a file is accepted with this account, and its rows are these, whatever the table held
 pub record IsRead (s : List ℕ) (rows : List Row) (a : Account) : Type 0 where
   pub accepts : (t : List ℕ) → hasRoom t ≡ true → readingOf s t ≡ Accepted a
   pub nodes : a .nodes ≡ length rows
   pub table : (t : List ℕ) → hasRoom t ≡ true → readTable s t ≡ filled rows t
+
+-- there is one such account, and one such list of rows
+abbrev pub OneReading : Type 0
+OneReading = (s : List ℕ) (rows rows′ : List Row) (a a′ : Account) → IsRead s rows a → IsRead s rows′ a′ → (rows ≡ rows′) × (a ≡ a′)
 
 -- ---- one trimming of the list
 
@@ -93,33 +97,39 @@ pub record Goes (s : List ℕ) (c : Trimming) : Type 0 where
   pub account : Account
   pub read : IsRead s rows account
   pub exactly : (answerTo s c .number ≡ 0) ↔ Removable s rows c
+  -- then the node of that row goes and no other; else none does
+  pub gone : fileFrom s c ≡ fileLeft s rows (cond (eqb (answerTo s c .number) 0) (set (noMarks rows) (c .row) true) (noMarks rows))
 
 -- document 01: what it leaves in output and table
 pub record Leaves (s : List ℕ) (c : Trimming) : Type 0 where
-  -- "the output past its length stays"; on a refusal that length is 0, and all of the output stays
-  pub output : drop (answerTo s c .length) (outputFrom s c) ≡ drop (answerTo s c .length) (c .output)
+  -- on success the new file, and "the output past its length stays"; else "Output is untouched"
+  pub output : outputFrom s c
+      ≡ cond (eqb (answerTo s c .number) 0) (fileFrom s c ++ drop (answerTo s c .length) (c .output)) (c .output)
   -- "On success the table holds the rows of the new file", as a reading of it leaves them; else it is cleared, and untouched on 1
   pub table : trimmedTable s (c .row) (c .table) (length (c .output))
       ≡ cond (eqb (answerTo s c .number) 0) (readTable (fileFrom s c) (c .table)) (cleared (c .table))
 
 -- ---- the file after a list, given the marks; the first file is s, with these rows and this account
 pub record IsLeft (s : List ℕ) (rows : List Row) (a : Account) (marks : List Bool) (file : List ℕ) : Type 0 where
-  -- "After the list the file is accepted and is the tally's"
-  pub bytes : AreBytes file
+  -- a mark for each row, and only rows of unknown kinds are marked
+  pub marked : length marks ≡ length rows
+  pub onlyUnknown : (i : ℕ) → getD marks i false ≡ true → isKnown (getD rows i blank .kind) ≡ false
+  -- "After the list the file is accepted": with this account, and these rows: "Its rows are the old ones without theirs,
+  -- renumbered, but for where bodies lie and those child counts." A row's parent stays, and so has a number.
   pub account : Account
-  -- "Its rows are the old ones without theirs, renumbered, but for where bodies lie and those child counts."
   pub accepted : IsRead file (rowsLeft rows marks) account
   pub flags : account .flags ≡ a .flags
+  pub parents : Each (λ r. (r .parent ≡ noParent) ⊎ Stays marks (r .parent)) rows
+  -- "and is the tally's"
+  pub bytes : AreBytes file
   pub isTallyFile : file ≡ fileLeft s rows marks
   -- "the first one without the removed nodes, where only the sizes of the nodes around them and their parents' child counts
   -- differ"
   pub sameLength : length file ≡ length (bytesLeft s rows marks)
   pub differ : (at : ℕ) → (getD file at 0 ≡ getD (bytesLeft s rows marks) at 0) ⊎ (InSize rows marks at ⊎ InCount rows marks at)
   pub bodies : map (bodyOf file) (rowsLeft rows marks) ≡ map (bodyOf s) (unmarkedRows rows marks)
-  -- a mark for each row, and only rows of unknown kinds are marked
-  pub marked : length marks ≡ length rows
-  pub onlyUnknown : (i : ℕ) → getD marks i false ≡ true → isKnown (getD rows i blank .kind) ≡ false
-  -- "Every link reaches the same node"
+  -- "Every link reaches the same node": its row and the row that it reaches stay, and the links are the old ones, renumbered
+  pub linkRows : Each (LinkStays marks) (linksOf s rows)
   pub links : linksOf file (rowsLeft rows marks) ≡ map (movedLink rows marks) (linksOf s rows)
   pub linkCount : account .links ≡ a .links
   -- "every other node is charged the same"
@@ -127,7 +137,8 @@ pub record IsLeft (s : List ℕ) (rows : List Row) (a : Account) (marks : List B
       → map ownBytes (rowsAt (readTable file t) 0 (account .nodes)) ≡ map ownBytes (unmarkedRows rows marks)
   pub known : account .known .0 ≡ a .known .0
   pub unknown : a .unknown .0 ≡ sumOverMarked (λ j r. ownBytes r) 0 rows marks + account .unknown .0
-  -- "and the face counts stay"
+  -- "and the face counts stay", of each node and of all
+  pub nodeFaces : map (rowFaces file) (rowsLeft rows marks) ≡ map (rowFaces s) (unmarkedRows rows marks)
   pub faces : facesOf file (rowsLeft rows marks) ≡ facesOf s rows
   pub faceCount : account .faces .0 ≡ a .faces .0
   pub degenerate : account .degenerate ≡ a .degenerate

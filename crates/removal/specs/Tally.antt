@@ -1,5 +1,6 @@
 -- Document 01's tally: "Demand 3's tally is fed each trimming's row number, table length and output length; it starts from an
--- accepted file F, no row marked." F is known by its bytes s and its rows alone.
+-- accepted file F, no row marked." F is known by its bytes s and its rows alone. (`Written` is the record of an answer's number,
+-- place and length.)
 use Prim.Native.Nat.{ℕ, zero, suc, _+_, _-_}
 use mathlib.Core.Bool.{Bool, true, false, cond, not, _&&_, _||_}
 use mathlib.Core.Option.{Option, none, some}
@@ -41,8 +42,8 @@ sumOverMarked x j (r ∷ rows) (mark ∷ marks) = cond mark (x j r) 0 + sumOverM
 -- ---- the file: "The file then is F without the marked nodes; in each node around some of them, parent to root, the size falls
 -- by theirs and the child count by its marked children."
 
--- row i is around row j: it is the parent of row j, or around that parent. Looks at most n levels up; a row has fewer rows
--- around it than there are rows.
+-- row i is around row j, which is there: it is the parent of row j, or around that parent. Looks at most n levels up; a row has
+-- fewer rows around it than there are rows.
 unfoldable pub isAround : List Row → (n i j : ℕ) → Bool
 isAround rows zero i j = false
 isAround rows (suc n) i j =
@@ -92,10 +93,10 @@ pub record Tallied : Type 0 where
 abbrev pub refusal : (number : ℕ) → List Bool → Tallied
 refusal n marks = record { answer = record { number = n; place = 0; length = 0 }; marks = marks }
 
--- 32 where the output is too short; else the new length, and the row is marked: `marks` has it marked, `old` has not
-abbrev pub byRoom : (new room : ℕ) (marks old : List Bool) → Tallied
-byRoom new room marks old =
-    cond (ltb room new) (refusal 32 old) (record { answer = record { number = 0; place = 0; length = new }; marks = marks })
+-- 32 where the output is too short; else the new length, and the row is marked: `marked` has it marked, `marks` has not
+abbrev pub byRoom : (new room : ℕ) (marked marks : List Bool) → Tallied
+byRoom new room marked marks =
+    cond (ltb room new) (refusal 32 marks) (record { answer = record { number = 0; place = 0; length = new }; marks = marked })
 
 -- 30 where there is no such row, 31 where its kind is known
 abbrev pub byRow : Option ℕ → (s : List ℕ) → List Row → List Bool → (room : ℕ) → Tallied

@@ -43,7 +43,7 @@ withoutFrom k above i (r ∷ rs) =
     let later = withoutFrom k above (suc i) rs in
     cond (eqb i k) later (mended k above i r ∷ later)
 
--- a file's rows without row k, their bodies where they lie in the file
+-- a file's rows without row k, where there is one; their bodies where they lie in the file
 abbrev pub without : (k : ℕ) → List Row → List Row
 without k rows = withoutFrom k (getD rows k blank .parent) 0 rows
 
