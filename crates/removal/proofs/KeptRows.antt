@@ -57,7 +57,7 @@ module _ (all : List Row) (marked : List Bool) where
 abbrev parentLeft : List Bool → ℕ → ℕ
 parentLeft marked p = cond (eqb p noParent) noParent (numberOf marked p)
 
--- these marks stand from `row` on, and so many before them are unmarked
+-- these marks stand from `row` on, and of those before them row′ are unmarked
 record MarksFrom (marked ms : List Bool) (row row′ : ℕ) : Type 0 where
   pre : List Bool
   post : List Bool

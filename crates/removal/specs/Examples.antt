@@ -76,7 +76,7 @@ row kind parent start stop children =
 abbrev private : ℕ
 private = 0x6E676177
 
--- a trimming with a table that has room and an output of so many bytes; and with an output that has room
+-- a trimming with a table that has room and an output of `room` bytes; and with an output that has room
 abbrev into : (room row : ℕ) → Trimming
 into room k = record { row = k; table = replicate 8192 7; output = replicate room 9 }
 

@@ -64,7 +64,7 @@ sizeFall s rows marks i = sumOverMarked (λ j r. cond (isAround rows (length row
 abbrev pub countFall : List Row → List Bool → (i : ℕ) → ℕ
 countFall rows marks i = sumOverMarked (λ j r. cond (eqb (r .parent) i) 1 0) 0 rows marks
 
--- a header with its size and its child count less by so much; its other bytes are as they were
+-- a header with its size less by `size` and its child count less by `children`; its other bytes are as they were
 unfoldable pub reducedHeader : (header : List ℕ) (size children : ℕ) → List ℕ
 reducedHeader h size children =
     take 4 h ++ (le 4 (numberAt 4 h 4 - size) ++ (take 12 (drop 8 h) ++ le 4 (numberAt 4 h 20 - children)))
