@@ -20,7 +20,7 @@ use Rattle.format.specs.Layout.{Each}
 use Rattle.format.specs.Rows.{bodyOf, ownBytes}
 use Rattle.writer.specs.Forest.{laidOut}
 use Rattle.removal.specs.Tally.{sumOverMarked, isAround, headerIn, sizeIn, sizeFall, countFall, reducedHeader, nodesLeft, fileLeft}
-use Rattle.removal.specs.Left.{unmarked, unmarkedRows, renumberedFrom, rowsLeft, InHeader, InSize, InCount}
+use Rattle.removal.specs.Left.{Stays, unmarked, unmarkedRows, renumberedFrom, rowsLeft, InHeader, InSize, InCount}
 
 -- a row whose header and body lie in the file
 abbrev pub LiesIn : (s : List ℕ) → Row → Type 0
@@ -138,7 +138,7 @@ startOf all marked i at rs ms place = getD (laidOut at (renumberedFrom all marke
 -- a place among the four bytes, from the header's byte `first` on, of a number that falls in a row that is left
 record Falling (all : List Row) (marked : List Bool) (fall : ℕ → ℕ) (first i at : ℕ) (rs : List Row) (ms : List Bool) (q : ℕ) : Type 0 where
   place : ℕ
-  stays : getD ms place true ≡ false
+  stays : Stays ms place
   falls : fall (i + place) ≡ 0 → ⊥
   from : startOf all marked i at rs ms place + first ≤ q + 24
   before : q + 24 < startOf all marked i at rs ms place + first + 4

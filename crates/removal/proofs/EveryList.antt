@@ -30,7 +30,7 @@ use Rattle.removal.proofs.Marking.{marks-fresh}
 use Rattle.removal.proofs.StillValid.{valid-kept, length-file}
 use Rattle.removal.proofs.LeftLinks.{faces-left, node-faces-left, owns-left, bodies-left, known-left, unknown-left, only-unknown, links-left, link-rows}
 use Rattle.removal.proofs.KeptRows.{parents-stay}
-use Rattle.removal.proofs.TallyFile.{file-left}
+use Rattle.removal.proofs.TallyFile.{tally-left}
 use Rattle.removal.proofs.Trimmed.{rows-are, rows-same}
 use Rattle.removal.proofs.Bytes.{bytes-left}
 use Rattle.removal.proofs.Differ.{LiesIn, pieces, same-length, differ}
@@ -88,7 +88,7 @@ module _ (flags : ℕ) (m : Marked) (v : Valid flags (bare m)) (bytes : AreBytes
   valid = valid-kept flags m v
 
   tally : left ≡ fileLeft s rows (marks m)
-  tally = sym (file-left s flags m (v .wellFormed) (v .placed) (v .few) refl)
+  tally = sym (tally-left flags (bare m) v m (marks m) refl refl)
 
   cut-file : bytesLeft s rows (marks m) ≡ pieces s rows (marks m)
   cut-file =

@@ -20,7 +20,7 @@ use Rattle.format.proofs.Rows.{part, length-rows, own-rows}
 use Rattle.writer.specs.Forest.{movedTo, laidOut}
 use Rattle.writer.proofs.Order.{none-laid}
 use Rattle.removal.specs.Tally.{countFall}
-use Rattle.removal.specs.Left.{unmarked, numberOf, Stays, renumbered, renumberedFrom, rowsLeft}
+use Rattle.removal.specs.Left.{unmarked, numberOf, Stays, ParentStays, renumbered, renumberedFrom, rowsLeft}
 use Rattle.removal.proofs.Marked.{Marked, mend, mkn, mun, bare, kept, marks, Falls, SameNode, Left, none, gone, same, length-marks, count-kept}
 use Rattle.removal.proofs.Marking.{unmarked-append, unmarked-marks}
 
@@ -155,11 +155,8 @@ rows-left s m few falls = laid s (rowsOf (bare m)) (marks m) m noParent noParent
 own-stays : (marked ms : List Bool) (row row′ : ℕ) → MarksFrom marked (false ∷ ms) row row′ → Stays marked row
 own-stays marked ms row row′ b = rw (b .whole, ← b .long) (getD-append-seam (b .pre) false (ms ++ b .post) true)
 
-abbrev ParentStays : List Bool → (parent : ℕ) → Type 0
-ParentStays marked p = (p ≡ noParent) ⊎ Stays marked p
-
-parents-from : (marked : List Bool) (m : Marked) (p row row′ at : ℕ) → MarksFrom marked (marks m) row row′ → ParentStays marked p
-    → Each (λ r. ParentStays marked (r .parent)) (rows (bare m) p row at)
+parents-from : (marked : List Bool) (m : Marked) (p row row′ at : ℕ) → MarksFrom marked (marks m) row row′
+    → (p ≡ noParent) ⊎ Stays marked p → Each (ParentStays marked) (rows (bare m) p row at)
 unfolding unmarked
 parents-from marked mend p row row′ at b q = tt
 parents-from marked (mkn k h ps body kids next) p row row′ at b q =
@@ -170,7 +167,7 @@ parents-from marked (mkn k h ps body kids next) p row row′ at b q =
     let b2 = first-marks marked (marks kids) (marks next) (suc row) (suc row′) b1 in
     let b3 = later-marks marked (marks kids) (marks next) (suc row) (suc row′) b1 to _ (omega (arith, length-marks kids)) refl in (
       q,
-      each-append (λ r. ParentStays marked (r .parent)) (rows (bare kids) row (suc row) here) (rows (bare next) p to there) .1 (
+      each-append (ParentStays marked) (rows (bare kids) row (suc row) here) (rows (bare next) p to there) .1 (
         parents-from marked kids row (suc row) (suc row′) here b2 (inr (own-stays marked (marks kids ++ marks next) row row′ b)),
         parents-from marked next p to _ there b3 q,
       ),
@@ -182,7 +179,7 @@ parents-from marked (mun false k h ps c rest next) p row row′ at b q =
     let b1 = later-marks marked (false ∷ []) (marks next) row row′ b (suc row) (suc row′) (omega arith) (omega arith) in
     (q, parents-from marked next p (suc row) (suc row′) (at + 24 + length rest) b1 q)
 
-pub parents-stay : (m : Marked) → Each (λ r. (r .parent ≡ noParent) ⊎ Stays (marks m) (r .parent)) (rowsOf (bare m))
+pub parents-stay : (m : Marked) → Each (ParentStays (marks m)) (rowsOf (bare m))
 parents-stay m = parents-from (marks m) m noParent 0 0 16 (all-marks m) (inl refl)
 
 -- ---- node by node the same

@@ -1,7 +1,7 @@
 -- One trimming and one answer of the tally, from the same marks: they answer the same, and go on from the same marks.
 use Prim.Native.Nat.{ℕ, suc, _+_, _≤_}
 use native.Mathlib.Omega.{arith}
-use mathlib.Core.Path.{_≡_, refl, ap, sym, subst, _∙_}
+use mathlib.Core.Path.{_≡_, refl, ap, sym, _∙_}
 use mathlib.Core.Logic.{_⊎_, inl, inr}
 use mathlib.Core.Bool.{Bool, true, false, true≢false}
 use mathlib.Core.Option.{some}
@@ -34,7 +34,7 @@ use Rattle.removal.proofs.Marked.{Marked, bare, kept, marks}
 use Rattle.removal.proofs.Marking.{At, stands-at, Stands, numbered-at, numbered-none, unmarked-marks, at-left, kind-at, kind-left}
 use Rattle.removal.proofs.Marking.{mark, bare-mark, marks-mark, own-at, length-mark}
 use Rattle.removal.proofs.StillValid.{valid-kept, length-file}
-use Rattle.removal.proofs.TallyFile.{file-left}
+use Rattle.removal.proofs.TallyFile.{tally-left}
 use Rattle.removal.proofs.Trimmed.{new-file, one-goes, none-goes}
 
 -- ---- a valid forest's file is read
@@ -172,11 +172,7 @@ module _ (flags : ℕ) (m : Marked) (v : Valid flags (bare m)) (c : Trimming) wh
 
       -- the tally's file with the mark
       tally-new : fileLeft (fileOf flags (bare m)) (rowsOf (bare m)) (set (marks m) i true) ≡ fileOf flags (kept (mark a))
-      tally-new =
-          let w = subst (Valid flags) (sym (bare-mark a)) v in
-          ap (fileLeft (fileOf flags (bare m)) (rowsOf (bare m))) (sym (marks-mark a))
-          ∙ ap (λ f. fileLeft (fileOf flags f) (rowsOf f) (marks (mark a))) (sym (bare-mark a))
-          ∙ file-left (fileOf flags (bare (mark a))) flags (mark a) (w .wellFormed) (w .placed) (w .few) refl
+      tally-new = tally-left flags (bare m) v (mark a) _ (bare-mark a) (marks-mark a)
 
       -- the length without the node's own bytes
       shorter : length (fileOf flags (kept (mark a))) + ownBytes (getD rows k blank) ≡ length s

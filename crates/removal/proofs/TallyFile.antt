@@ -2,7 +2,7 @@
 use Prim.Native.Nat.{ℕ, suc, _+_, _-_}
 use native.Mathlib.Omega.{arith}
 use native.Mathlib.Nat.{sub-zero}
-use mathlib.Core.Path.{_≡_, refl, ap, sym, _∙_}
+use mathlib.Core.Path.{_≡_, refl, ap, sym, subst, _∙_}
 use mathlib.Core.Bool.{Bool, true, false, true≢false}
 use mathlib.Core.List.{List, [], _∷_, _++_, append-assoc, append-nil}
 use lib.ListN.{length, take, drop}
@@ -14,11 +14,12 @@ use Rattle.kinds.specs.Kinds.{root, lines, lineIn, lineOf, isKnown, mayStand}
 use Rattle.kinds.proofs.Tops.{top-root}
 use Rattle.table.specs.declared.Row.{Row}
 use Rattle.table.specs.Table.{noParent}
-use Rattle.format.specs.Forest.{count, nodes, header, encode, fileHeader, fileOf}
+use Rattle.format.specs.Forest.{Forest, count, nodes, header, encode, fileHeader, fileOf}
 use Rattle.format.specs.Rows.{rows, rowsOf}
 use Rattle.format.specs.Layout.{Fits, WellFormed, WellFormedFile, Placed, Few}
 use Rattle.format.proofs.Headers.{length-fileHeader, fileHeader-drop}
 use Rattle.format.proofs.Rows.{length-rows}
+use Rattle.valid.specs.Valid.{Valid}
 use Rattle.removal.specs.Tally.{reducedHeader, nodesLeft, fileLeft}
 use Rattle.removal.proofs.Marked.{Marked, mend, mkn, mun, bare, kept, marks, lost, goneTop, Falls, length-marks, length-kept, count-kept}
 use Rattle.removal.proofs.Falls.{falls, size-in, known-header, known-body, known-kids, known-next}
@@ -117,7 +118,7 @@ module _ (s : List ℕ) (all : List Row) (marked : List Bool) where
 
 -- ---- the file
 
-pub file-left : (s : List ℕ) (flags : ℕ) (m : Marked) → WellFormedFile flags (bare m) → Placed None (bare m) → Few (bare m)
+file-left : (s : List ℕ) (flags : ℕ) (m : Marked) → WellFormedFile flags (bare m) → Placed None (bare m) → Few (bare m)
     → s ≡ fileOf flags (bare m) → fileLeft s (rowsOf (bare m)) (marks m) ≡ fileOf flags (kept m)
 unfolding fileLeft fileOf
 file-left s flags m w p few e =
@@ -127,3 +128,11 @@ file-left s flags m w p few e =
     let top : take 16 s ≡ fileHeader (count (kept m)) flags
     = rw (e, same) (take-at (fileHeader (count (kept m)) flags) (encode (bare m)) 16 (length-fileHeader (count (kept m)) flags)) in
     rw (top, nodes-left s (rowsOf (bare m)) (marks m) m noParent 0 16 [] (w .2) f bytes)
+
+-- the tally's file of a valid forest f by some marks, where m is f with these marks
+pub tally-left : (flags : ℕ) (f : Forest) → Valid flags f → (m : Marked) (ms : List Bool) → bare m ≡ f → marks m ≡ ms
+    → fileLeft (fileOf flags f) (rowsOf f) ms ≡ fileOf flags (kept m)
+tally-left flags f v m ms b e =
+    let w = subst (Valid flags) (sym b) v in
+    ap (fileLeft (fileOf flags f) (rowsOf f)) (sym e) ∙ ap (λ g. fileLeft (fileOf flags g) (rowsOf g) (marks m)) (sym b)
+    ∙ file-left (fileOf flags (bare m)) flags m (w .wellFormed) (w .placed) (w .few) refl

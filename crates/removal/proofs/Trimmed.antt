@@ -24,7 +24,7 @@ use Rattle.removal.proofs.Emitting.{file-laid, renumbered-bodies}
 use Rattle.removal.proofs.KeptRows.{rows-left, left-rows}
 use Rattle.removal.proofs.One.{without-one}
 use Rattle.removal.proofs.Falls.{falls}
-use Rattle.removal.proofs.TallyFile.{file-left}
+use Rattle.removal.proofs.TallyFile.{tally-left}
 
 -- a valid forest with marks: the rows that are left emitted over its file give the file that is left
 module _ (flags : ℕ) (m : Marked) (v : Valid flags (bare m)) where
@@ -79,15 +79,8 @@ module _ (flags : ℕ) (m : Marked) (v : Valid flags (bare m)) {k i : ℕ} (a : 
 
   -- and so is the tally's, from what was left so far
   pub one-goes : fileLeft (fileOf flags (kept m)) (rowsOf (kept m)) (set (noMarks (rowsOf (kept m))) k true) ≡ fileOf flags (kept (mark a))
-  one-goes =
-      ap (fileLeft (fileOf flags (kept m)) (rowsOf (kept m))) (sym one-mark)
-      ∙ ap (λ f. fileLeft (fileOf flags f) (rowsOf f) (marks (single a))) (sym (bare-single a))
-      ∙ file-left (fileOf flags (bare (single a))) flags (single a) (one .wellFormed) (one .placed) (one .few) refl ∙ ap (fileOf flags) (kept-single a)
+  one-goes = tally-left flags (kept m) (valid-kept flags m v) (single a) _ (bare-single a) one-mark ∙ ap (fileOf flags) (kept-single a)
 
 -- with no mark the tally's file is the first
 pub none-goes : (flags : ℕ) (f : Forest) → Valid flags f → fileLeft (fileOf flags f) (rowsOf f) (noMarks (rowsOf f)) ≡ fileOf flags f
-none-goes flags f v =
-    let w = subst (Valid flags) (sym (bare-fresh f)) v in
-    ap (fileLeft (fileOf flags f) (rowsOf f)) (sym (marks-fresh f noParent 0 16))
-    ∙ ap (λ g. fileLeft (fileOf flags g) (rowsOf g) (marks (fresh f))) (sym (bare-fresh f))
-    ∙ file-left (fileOf flags (bare (fresh f))) flags (fresh f) (w .wellFormed) (w .placed) (w .few) refl ∙ ap (fileOf flags) (kept-fresh f)
+none-goes flags f v = tally-left flags f v (fresh f) _ (bare-fresh f) (marks-fresh f noParent 0 16) ∙ ap (fileOf flags) (kept-fresh f)

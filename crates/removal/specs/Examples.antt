@@ -190,7 +190,7 @@ notedRows =
 abbrev link : (row property target : ℕ) → Link
 link row property target = record { row = row; property = property; targets = target ∷ [] }
 
--- the Mesh and its Material each have a lower row, and the link's property lies 26 bytes before
+-- the Mesh and its Material each have a lower row, and the link's property lies 26 bytes earlier
 link-moves : (byRun noted (trim 1 ∷ []) ≡ record { answers = done 168 ∷ []; file = linkedBy 152 1 [] })
     × (linksOf noted notedRows ≡ link 3 133 4 ∷ [])
     × (movedLink notedRows (false ∷ true ∷ false ∷ false ∷ false ∷ []) (link 3 133 4) ≡ link 2 107 3)

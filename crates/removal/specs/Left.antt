@@ -1,6 +1,7 @@
 -- What is left of a file's rows, bytes and links when some of its rows are marked.
 use Prim.Native.Nat.{ℕ, suc, _+_, _-_, _≤_, _<_}
 use mathlib.Core.Path.{_≡_}
+use mathlib.Core.Logic.{_⊎_}
 use mathlib.Core.Bool.{Bool, true, false, cond, _&&_, _||_}
 use mathlib.Core.List.{List, [], _∷_, map}
 use lib.Dec.{eqb, leb, ltb}
@@ -26,6 +27,10 @@ numberOf marks i = unmarked (take i marks)
 -- row i stays: it is there, and unmarked. Only of such a row is `numberOf` the number (Numbers.antt).
 abbrev pub Stays : List Bool → (i : ℕ) → Type 0
 Stays marks i = getD marks i true ≡ false
+
+-- a row's parent, where it has one, stays
+abbrev pub ParentStays : List Bool → Row → Type 0
+ParentStays marks r = (r .parent ≡ noParent) ⊎ Stays marks (r .parent)
 
 -- the unmarked ones of some rows
 unfoldable pub unmarkedRows : List Row → List Bool → List Row

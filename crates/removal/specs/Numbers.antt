@@ -19,10 +19,11 @@ SameNumber = (marks : List Bool) (i : ℕ) → Stays marks i → rowNumbered 0 m
 abbrev pub OnlyNumber : Type 0
 OnlyNumber = (marks : List Bool) (n i : ℕ) → rowNumbered 0 marks n ≡ some i → Stays marks i × (numberOf marks i ≡ n)
 
--- there are as many numbers as unmarked rows
+-- from the number of the unmarked rows on, no number is a row's
 abbrev pub NoNumber : Type 0
 NoNumber = (marks : List Bool) (n : ℕ) → unmarked marks ≤ n → rowNumbered 0 marks n ≡ none
 
+-- the unmarked row with a row's number is that row
 abbrev pub SameRow : Type 0
 SameRow = (rows : List Row) (marks : List Bool) (i : ℕ) → length rows ≡ length marks → Stays marks i
     → getD (unmarkedRows rows marks) (numberOf marks i) blank ≡ getD rows i blank

@@ -10,7 +10,7 @@ use lib.ListN.{length, getD, set, take, drop}
 use Rattle.le.specs.Le.{AreBytes}
 use Rattle.kinds.specs.Kinds.{isKnown}
 use Rattle.table.specs.declared.Row.{Row}
-use Rattle.table.specs.Table.{noParent, blank, hasRoom, rowsAt, cleared, filled}
+use Rattle.table.specs.Table.{blank, hasRoom, rowsAt, cleared, filled}
 use Rattle.format.specs.Rows.{bodyOf, ownBytes}
 use Rattle.format.specs.Layout.{Each}
 use Rattle.links.specs.Links.{linksOf}
@@ -22,7 +22,7 @@ use Rattle.reader.specs.Acceptance.{rowFaces, facesOf}
 use Rattle.emit.specs.declared.Written.{Written}
 use Rattle.removal.specs.Trimmer.{trimmedOf, trimmedOutput, trimmedTable}
 use Rattle.removal.specs.Tally.{Fed, noMarks, sumOverMarked, fileLeft, answers, marksAfter}
-use Rattle.removal.specs.Left.{Stays, unmarkedRows, rowsLeft, bytesLeft, InSize, InCount, LinkStays, movedLink}
+use Rattle.removal.specs.Left.{ParentStays, unmarkedRows, rowsLeft, bytesLeft, InSize, InCount, LinkStays, movedLink}
 
 -- ---- a list of trimmings
 
@@ -119,7 +119,7 @@ pub record IsLeft (s : List ℕ) (rows : List Row) (a : Account) (marks : List B
   pub account : Account
   pub accepted : IsRead file (rowsLeft rows marks) account
   pub flags : account .flags ≡ a .flags
-  pub parents : Each (λ r. (r .parent ≡ noParent) ⊎ Stays marks (r .parent)) rows
+  pub parents : Each (ParentStays marks) rows
   -- "and is the tally's"
   pub bytes : AreBytes file
   pub isTallyFile : file ≡ fileLeft s rows marks
