@@ -1,5 +1,5 @@
 /*
- * Reader and writer of Cast model files.
+ * Reader, writer and trimmer of Cast model files.
  *
  * Every function answers for any contents of its buffers and any numbers. Of a buffer it takes for granted what C does of
  * an array: that its bytes can be read, are fewer than 2^63, and lie aligned for their type. A pointer with length 0 must
@@ -83,7 +83,8 @@ struct cast_found cast_lookup(const uint8_t *bytes, size_t len, const uint32_t *
                               size_t row, const uint8_t *name, size_t name_len);
 
 /*
- * What a writing answers. The number is 0 where a file is written; else it is the first that holds of
+ * What a writing or a trimming answers. The number is 0 where a file is written. Else it is, of a writing, the first that
+ * holds of
  *
  *   20  the plan's length is not a multiple of 8, or the plan has over 1,024 rows
  *   21  a row's parent is wrong
@@ -93,8 +94,14 @@ struct cast_found cast_lookup(const uint8_t *bytes, size_t len, const uint32_t *
  *   25  the file is over 16,777,216 bytes
  *   26  the output is shorter than the file
  *
- * where 21 to 24 are judged for one row before the next. The place is the row for 21 to 24, else 0. The length is that of
- * the file, and 0 on refusal.
+ * where 21 to 24 are judged for one row before the next, and the place is the row for these, else 0. Of a trimming it is
+ * that of the file's reading, 1 to 17, with its place, or where that is accepted the first that holds of
+ *
+ *   30  the file has no such row
+ *   31  the row's kind is known
+ *   32  the output is shorter than the new file
+ *
+ * with the place 0. The length is that of the file that is written, and 0 on refusal.
  */
 struct cast_written {
     uint32_t number, place, length;
@@ -115,6 +122,22 @@ struct cast_written {
  */
 struct cast_written cast_write(const uint32_t *plan, size_t plan_len, const uint8_t *source, size_t source_len,
                                uint32_t flags, uint8_t *out, size_t out_len);
+
+/*
+ * Takes one node of an unknown kind out of a file: writes the new file at the output's start, and its rows into the table.
+ * Rows count from 0, in the order in which a reading puts them. The lengths count bytes, numbers and bytes. In the new file
+ * the sizes of the nodes around the removed one are less by its size, and its parent's child count is less by one; nothing
+ * else changes. After a trimming the first 8,192 numbers of the table are
+ *
+ *   on 0                       the rows of the new file's nodes, then zeros
+ *   on 1                       what they were, and so is the whole table
+ *   on 2 to 17 and 30 to 32    zeros
+ *
+ * Numbers past 8,192 never change. What the table held before does not matter. On success the output past the length is
+ * what it was, on refusal the whole output.
+ */
+struct cast_written cast_trim(const uint8_t *file, size_t file_len, size_t row, uint32_t *table, size_t table_len,
+                              uint8_t *out, size_t out_len);
 
 #ifdef __cplusplus
 }

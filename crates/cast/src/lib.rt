@@ -5,6 +5,7 @@ ghost use lib.ListN.{length};
 ghost use Rattle.cast.specs.Cast.{answerOf, foundOf, writtenAs};
 ghost use Rattle.lookup.specs.Lookup.{lookupOf};
 ghost use Rattle.reader.specs.Reading.{readingOf, tableAfter};
+ghost use Rattle.removal.specs.Trimmer.{trimmedOf, trimmedOutput, trimmedTable};
 ghost use Rattle.writer.specs.Writer.{writtenOf, outputAfter};
 
 #[repr(C)]
@@ -98,15 +99,33 @@ pub struct CastWritten {
     pub length: u32,
 }
 
-// Writes a plan's rows, with their bodies out of the source, as a file.
-#[no_mangle]
-pub extern "C" fn cast_write(plan: &[u32], source: &[u8], flags: u32, out: &mut [u8]) -> CastWritten
-    ensures { λ r. ⌜ (r ≡ writtenAs (writtenOf (now (plan .entry)) (now (source .entry)) flags (length (now (out .entry))))) × (now (out .exit) ≡ outputAfter (now (plan .entry)) (now (source .entry)) flags (now (out .entry))) ⌝ }
+fn numbers_of(written: emit::Written) -> CastWritten
+    ensures { λ r. ⌜ r ≡ writtenAs written ⌝ }
 {
-    let written = writer::write(plan, source, flags, out);
     CastWritten {
         number: written.number,
         place: written.place,
         length: written.length,
     }
+}
+
+// Writes a plan's rows, with their bodies out of the source, as a file.
+#[no_mangle]
+pub extern "C" fn cast_write(plan: &[u32], source: &[u8], flags: u32, out: &mut [u8]) -> CastWritten
+    ensures { λ r. ⌜ (r ≡ writtenAs (writtenOf (now (plan .entry)) (now (source .entry)) flags (length (now (out .entry))))) × (now (out .exit) ≡ outputAfter (now (plan .entry)) (now (source .entry)) flags (now (out .entry))) ⌝ }
+{
+    numbers_of(writer::write(plan, source, flags, out))
+}
+
+// Writes a file without the node of a row, whose kind must be unknown, and puts the new file's rows into the table.
+#[no_mangle]
+pub extern "C" fn cast_trim(
+    file: &[u8],
+    row: usize,
+    table: &mut [u32],
+    out: &mut [u8],
+) -> CastWritten
+    ensures { λ r. ⌜ (r ≡ writtenAs (trimmedOf (now (file .entry)) row (now (table .entry)) (length (now (out .entry))))) × (now (out .exit) ≡ trimmedOutput (now (file .entry)) row (now (table .entry)) (now (out .entry))) × (now (table .exit) ≡ trimmedTable (now (file .entry)) row (now (table .entry)) (length (now (out .entry)))) ⌝ }
+{
+    numbers_of(trimmer::trim(file, row, table, out))
 }

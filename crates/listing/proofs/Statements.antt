@@ -25,7 +25,8 @@ use Rattle.listing.specs.Statements.{NoLonger, AddsUp}
 use Rattle.listing.proofs.Laws.{parent-none, parent-some}
 use Rattle.listing.proofs.Lengths.{summary-length, node-length, header-length, faces-length, total-length, refusal-length, too-long-length}
 use Rattle.listing.proofs.Whole.{printed-none, printed-more}
-use Rattle.listing.proofs.Listed.{few, own-are, total-is, listing-long, listing-refused, listing-accepted}
+use Rattle.reader.proofs.Accepted.{few}
+use Rattle.listing.proofs.Listed.{own-are, total-is, listing-long, listing-refused, listing-accepted}
 
 parent-short : (p : ℕ) → length (parentText p) ≤ 20
 unfolding letters
@@ -67,7 +68,7 @@ noLonger s bytes =
     (λ e. omega (arith, ap length (listing-long s (leb-false (length s) 32768 e)), line-short TooLong))
   where
     by-reading : length s ≤ 32768 → (r : Reading) → verdict s ≡ r → length (listingOf s) ≤ 98304
-    by-reading h (Accepted a) e = omega (arith, ap length (listing-accepted s h a e), file-short (length s) a (limited s .rows) (few s bytes e))
+    by-reading h (Accepted a) e = omega (arith, ap length (listing-accepted s h a e), file-short (length s) a (limited s .rows) (few s e bytes))
     by-reading h (Refused n place) e = omega (arith, ap length (listing-refused s h n place e), line-short (Refusal n place))
 
 pub addsUp : AddsUp

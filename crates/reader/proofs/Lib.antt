@@ -9,3 +9,4 @@ pub mod Bounds
 pub mod Sizes
 pub mod Whole
 pub mod Numbers
+pub mod Accepted

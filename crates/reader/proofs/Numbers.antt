@@ -1,4 +1,4 @@
--- The numbers that a file which was walked can be refused with: 13 to 17.
+-- The numbers that a file which was walked can be refused with: 13 to 17; and that no refusal's number is 0.
 use Prim.Native.Nat.{ℕ, zero, suc, _≤_}
 use native.Mathlib.Omega.{arith}
 use mathlib.Core.Path.{_≡_, refl, ap, subst}
@@ -7,6 +7,7 @@ use mathlib.Core.List.{List, [], _∷_}
 use Rattle.le.proofs.Tests.{by-test}
 use Rattle.kinds.specs.Kinds.{isKnown}
 use Rattle.table.specs.declared.Row.{Row}
+use Rattle.table.specs.Table.{hasRoom}
 use Rattle.judge.specs.declared.Judged.{Judged}
 use Rattle.judge.proofs.Numbers.{Among, judged-number}
 use Rattle.format.specs.Rows.{bodyOf}
@@ -15,7 +16,8 @@ use Rattle.links.proofs.Numbers.{linked-number}
 use Rattle.reader.specs.declared.Reading.{Reading}
 use Rattle.reader.specs.declared.Reading.the-variants.{Accepted, Refused}
 use Rattle.reader.specs.declared.Ruled.{Ruled}
-use Rattle.reader.specs.Reading.{bonesUnder, judgedWith, judgedRow, ruledBy, ruled, byNumber, checked}
+use Rattle.walk.specs.Walk.{limited}
+use Rattle.reader.specs.Reading.{bonesUnder, judgedWith, judgedRow, ruledBy, ruled, byNumber, checked, verdict, readingOf}
 
 with-number : (s : List ℕ) (r : Row) (bones : ℕ) → Among 13 15 (judgedWith s r bones .number)
 unfolding judgedWith
@@ -53,3 +55,21 @@ checked-told s rows n place =
     refuses : Reading → Bool
     refuses (Accepted a) = false
     refuses (Refused n place) = true
+
+-- ---- no refusal's number is 0
+by-some : (n place : ℕ) (next : Reading) {m at : ℕ} → (next ≡ Refused m at → m ≡ 0 → ⊥) → byNumber n place next ≡ Refused m at → m ≡ 0 → ⊥
+by-some zero place next on r z = on r z
+by-some (suc n) place next on r z = let e = ap numberOf r in omega arith
+
+verdict-some : (s : List ℕ) (n place : ℕ) → verdict s ≡ Refused n place → n ≡ 0 → ⊥
+unfolding verdict
+verdict-some s n place =
+    by-some (limited s .number) (limited s .at) (checked s (limited s .rows))
+    (λ r z. let told = checked-told s (limited s .rows) n place r in omega arith)
+
+pub refused-some : (s t : List ℕ) (n place : ℕ) → readingOf s t ≡ Refused n place → n ≡ 0 → ⊥
+unfolding readingOf
+refused-some s t n place r z =
+    by-test (hasRoom t)
+    (λ h. verdict-some s n place (rw h at r) z)
+    (λ h. let e = ap numberOf (rw h at r) in omega arith)

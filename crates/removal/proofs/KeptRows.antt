@@ -32,7 +32,7 @@ laidOut-append at (x ∷ xs) ys =
     let n : at + ownBytes x + allOwnBytes xs ≡ at + (ownBytes x + allOwnBytes xs) = omega arith in
     ap (λ z. movedTo at x ∷ z) (laidOut-append (at + ownBytes x) xs ys ∙ ap (λ n. laidOut (at + ownBytes x) xs ++ laidOut n ys) n)
 
-own-laid : (at : ℕ) (xs : List Row) → allOwnBytes (laidOut at xs) ≡ allOwnBytes xs
+pub own-laid : (at : ℕ) (xs : List Row) → allOwnBytes (laidOut at xs) ≡ allOwnBytes xs
 unfolding laidOut
 own-laid at [] = refl
 own-laid at (x ∷ xs) = omega (arith, own-laid (at + ownBytes x) xs)

@@ -10,6 +10,7 @@ pub mod Falls
 pub mod TallyFile
 pub mod Trimmed
 pub mod Steps
+pub mod NewFile
 pub mod Bytes
 pub mod Differ
 pub mod Cut

@@ -1,6 +1,5 @@
 -- A file that is not accepted.
-use Prim.Native.Nat.{ℕ, suc}
-use native.Mathlib.Omega.{arith}
+use Prim.Native.Nat.{ℕ}
 use mathlib.Core.Path.{_≡_, sym, _∙_}
 use mathlib.Core.Bool.{true, false}
 use mathlib.Core.List.{List}
@@ -11,12 +10,13 @@ use Rattle.table.specs.Table.{hasRoom, cleared}
 use Rattle.reader.specs.declared.Reading.the-variants.{Refused}
 use Rattle.reader.specs.Reading.{readingOf}
 use Rattle.reader.specs.Reading.{tableAfter as readTable}
+use Rattle.reader.proofs.Numbers.{refused-some}
 use Rattle.reader.proofs.Exactly.{in-room}
 use Rattle.emit.specs.Emission.{refused, leftBy}
 use Rattle.removal.specs.Trimmer.{trimmedOf, trimmedOutput, trimmedTable}
 use Rattle.removal.specs.RefusedFile.{RefusedFile}
 
-module _ (s t : List ℕ) (n place : ℕ) (r : readingOf s t ≡ Refused (suc n) place) where
+module _ (s t : List ℕ) (n place : ℕ) (r : readingOf s t ≡ Refused n place) where
   with-room : hasRoom t ≡ true → readTable s t ≡ cleared t
   unfolding readTable
   with-room h = rw (h, sym (in-room s t h) ∙ r)
@@ -29,17 +29,17 @@ module _ (s t : List ℕ) (n place : ℕ) (r : readingOf s t ≡ Refused (suc n)
   table-read = by-test (hasRoom t) with-room without-room
 
   module _ (k : ℕ) (out : List ℕ) where
-    answer : trimmedOf s k t (length out) ≡ refused (suc n) place
+    answer : trimmedOf s k t (length out) ≡ refused n place
     unfolding trimmedOf
     answer = rw r
 
     output : trimmedOutput s k t out ≡ out
     unfolding trimmedOutput leftBy
-    output = rw (answer, ne-eqb (suc n) 0 (λ z. omega (arith, z)))
+    output = rw (answer, ne-eqb n 0 (refused-some s t n place r))
 
     table : trimmedTable s k t (length out) ≡ readTable s t
     unfolding trimmedTable
-    table = rw (answer, ne-eqb (suc n) 0 (λ z. omega (arith, z))) (sym table-read)
+    table = rw (answer, ne-eqb n 0 (refused-some s t n place r)) (sym table-read)
 
 pub refusedFile : RefusedFile
 refusedFile s t n place k out r = (answer s t n place r k out, output s t n place r k out, table s t n place r k out)

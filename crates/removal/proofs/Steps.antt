@@ -82,6 +82,11 @@ module _ (s : List ℕ) (c : Trimming) where
     table = rw (e, take-append-seam (newFile s (c .row)) (drop (length (newFile s (c .row))) (c .output)));
   }
 
+-- ---- the length without a node's own bytes
+pub shorter : (flags : ℕ) (m : Marked) {k i : ℕ} (a : At m false k i)
+    → length (fileOf flags (kept (mark a))) + ownBytes (getD (rowsOf (kept m)) k blank) ≡ length (fileOf flags (kept m))
+shorter flags m a = omega (arith, length-mark a, own-at a noParent 0 16 refl, length-file flags (kept (mark a)), length-file flags (kept m))
+
 -- ---- one step of both
 pub record Step (flags : ℕ) (m : Marked) (c : Trimming) : Type 0 where
   pub after : Marked
@@ -174,17 +179,13 @@ module _ (flags : ℕ) (m : Marked) (v : Valid flags (bare m)) (c : Trimming) wh
       tally-new : fileLeft (fileOf flags (bare m)) (rowsOf (bare m)) (set (marks m) i true) ≡ fileOf flags (kept (mark a))
       tally-new = tally-left flags (bare m) v (mark a) _ (bare-mark a) (marks-mark a)
 
-      -- the length without the node's own bytes
-      shorter : length (fileOf flags (kept (mark a))) + ownBytes (getD rows k blank) ≡ length s
-      shorter = omega (arith, length-mark a, own-at a noParent 0 16 refl, length-file flags (kept (mark a)), length-file flags (kept m))
-
       answered : answerTo s c ≡ removalOf rows k (length (fileOf flags (kept (mark a)))) (length (c .output))
       answered = trimmed ∙ ap (λ l. removalOf rows k (length l) (length (c .output))) new
 
       no-output : ltb (length (c .output)) (length (fileOf flags (kept (mark a)))) ≡ true → Step flags m c
       no-output t =
           refuse 31 (answered ∙ rw (there a, kind-new a, t)) (told-of a ∙ rw (kind-old a, tally-new, t))
-          (λ r. omega (arith, r .output, shorter, ltb-true (length (c .output)) (length (fileOf flags (kept (mark a)))) t))
+          (λ r. omega (arith, r .output, shorter flags m a, ltb-true (length (c .output)) (length (fileOf flags (kept (mark a)))) t))
 
       removed : ltb (length (c .output)) (length (fileOf flags (kept (mark a)))) ≡ false → Step flags m c
       removed t =
@@ -207,7 +208,7 @@ module _ (flags : ℕ) (m : Marked) (v : Valid flags (bare m)) (c : Trimming) wh
                   there = omega (arith, at-left a, length-left);
                   unknown = kind-new a;
                   table = hasRoom-fits (c .table) h;
-                  output = omega (arith, shorter, ltb-false (length (c .output)) (length (fileOf flags (kept (mark a)))) t);
+                  output = omega (arith, shorter flags m a, ltb-false (length (c .output)) (length (fileOf flags (kept (mark a)))) t);
                 },
                 λ r. ap (λ (w : Written). w .number) answer,
               );

@@ -77,6 +77,10 @@ module _ (flags : ℕ) (m : Marked) (v : Valid flags (bare m)) {k i : ℕ} (a : 
       (ap (λ f. fileBytes flags (fileOf flags f) (renumberedRows flags (single a) one)) (sym (bare-single a))
       ∙ emitted flags (single a) one ∙ ap (fileOf flags) (kept-single a))
 
+  -- whose rows are those that stay, laid out
+  pub new-rows : rowsOf (kept (mark a)) ≡ laidOut 16 (without k (rowsOf (kept m)))
+  new-rows = ap rowsOf (sym (kept-single a)) ∙ laid flags (single a) one ∙ ap (laidOut 16) (sym without-row)
+
   -- and so is the tally's, from what was left so far
   pub one-goes : fileLeft (fileOf flags (kept m)) (rowsOf (kept m)) (set (noMarks (rowsOf (kept m))) k true) ≡ fileOf flags (kept (mark a))
   one-goes = tally-left flags (kept m) (valid-kept flags m v) (single a) _ (bare-single a) one-mark ∙ ap (fileOf flags) (kept-single a)

@@ -1,6 +1,6 @@
 -- Document 01's trimmer, "the reader's refusals", of any bytes that a reading refuses and whatever else is lent: the answer is the
--- reader's, the output is untouched, and the table is as the reading leaves it. (No refusal's number is 0, hence `suc n`.)
-use Prim.Native.Nat.{ℕ, suc}
+-- reader's, the output is untouched, and the table is as the reading leaves it.
+use Prim.Native.Nat.{ℕ}
 use mathlib.Core.Path.{_≡_}
 use mathlib.Core.List.{List}
 use lib.ListN.{length}
@@ -10,6 +10,6 @@ use Rattle.reader.specs.Reading.{tableAfter as readTable}
 use Rattle.removal.specs.Trimmer.{trimmedOf, trimmedOutput, trimmedTable}
 
 abbrev pub RefusedFile : Type 0
-RefusedFile = (s t : List ℕ) (n place k : ℕ) (out : List ℕ) → readingOf s t ≡ Refused (suc n) place
-    → (trimmedOf s k t (length out) ≡ record { number = suc n; place = place; length = 0 }) × (trimmedOutput s k t out ≡ out)
+RefusedFile = (s t : List ℕ) (n place k : ℕ) (out : List ℕ) → readingOf s t ≡ Refused n place
+    → (trimmedOf s k t (length out) ≡ record { number = n; place = place; length = 0 }) × (trimmedOutput s k t out ≡ out)
     × (trimmedTable s k t (length out) ≡ readTable s t)

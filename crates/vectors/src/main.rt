@@ -10,6 +10,7 @@ mod parts;
 mod print;
 mod reads;
 mod rows;
+mod trims;
 mod walks;
 mod writes;
 
@@ -74,7 +75,7 @@ fn dispatch(f: Frame, first: &[u8], second: &[u8]) {
         files::one(f, first);
         return;
     }
-    if f.function < 36 {
+    if f.function < 37 {
         outputs::one(f, first, second);
     }
 }

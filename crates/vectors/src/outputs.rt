@@ -1,11 +1,12 @@
-// What puts bytes into a lent output: the listing and the writer.
+// What puts bytes into a lent output: the listing, the writer and the trimmer.
 use crate::buffers;
 use crate::frame::Frame;
 use crate::listings;
 use crate::print;
+use crate::trims;
 use crate::writes;
 
-// 32 to 35. The output has y bytes, filled by the seed.
+// 32 to 36. The output has y bytes, filled by the seed.
 pub fn one(f: Frame, first: &[u8], second: &[u8]) {
     let n = f.y as usize;
     if 98304 < n {
@@ -34,5 +35,9 @@ fn answer(f: Frame, out: &mut [u8], first: &[u8], second: &[u8]) {
         listings::one(f, out, first, second);
         return;
     }
-    writes::one(f, out, first, second);
+    if f.function < 36 {
+        writes::one(f, out, first, second);
+        return;
+    }
+    trims::one(f, out, first, second);
 }

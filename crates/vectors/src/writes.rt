@@ -52,7 +52,7 @@ fn parts(f: Frame, out: &mut [u8], source: &[u8], plan: &[u32]) {
     show(emit::emit(plan, rows, source, f.seed, out));
 }
 
-fn show(w: emit::Written) {
+pub fn show(w: emit::Written) {
     print::pair(w.number as u64, w.place as u64);
     print::next(w.length as u64);
 }

@@ -34,15 +34,15 @@ pub struct Found {
     pub end: usize,
 }
 
-/// What a writing answers.
+/// What a writing or a trimming answers.
 #[repr(C)]
 #[derive(Clone, Copy, Debug, Default, PartialEq, Eq)]
 pub struct Written {
-    /// 0 where a file is written, else 20 to 26.
+    /// 0 where a file is written, else 20 to 26; of a trimming else 1 to 17 or 30 to 32.
     pub number: u32,
-    /// The row on 21 to 24, else 0.
+    /// The row on 21 to 24, the reading's place on 1 to 17, else 0.
     pub place: u32,
-    /// Of the file; 0 on refusal.
+    /// Of the file that is written; 0 on refusal.
     pub length: u32,
 }
 
@@ -73,6 +73,16 @@ mod raw {
             source: *const u8,
             source_len: usize,
             flags: u32,
+            out: *mut u8,
+            out_len: usize,
+        ) -> Written;
+
+        pub fn cast_trim(
+            file: *const u8,
+            file_len: usize,
+            row: usize,
+            table: *mut u32,
+            table_len: usize,
             out: *mut u8,
             out_len: usize,
         ) -> Written;
@@ -136,6 +146,26 @@ pub fn write(plan: &[u32], source: &[u8], flags: u32, out: &mut [u8]) -> Written
             source.as_ptr(),
             source.len(),
             flags,
+            out.as_mut_ptr(),
+            out.len(),
+        )
+    }
+}
+
+/// Writes a file without the unknown node of one row at the output's start, and the rows of the new
+/// file into the table's first 8,192 numbers, then zeros. On refusal these are zeros alone, but a shorter
+/// table stays as it is. What lies past the new file stays, and on refusal the whole output.
+pub fn trim(file: &[u8], row: usize, table: &mut [u32], out: &mut [u8]) -> Written {
+    // SAFETY: each pointer and length are those of a live slice: aligned, not null even where it is
+    // empty, and of at most isize::MAX bytes; being lent for writing, the table and the output overlap
+    // no other. The function reads and writes inside them and keeps no pointer.
+    unsafe {
+        raw::cast_trim(
+            file.as_ptr(),
+            file.len(),
+            row,
+            table.as_mut_ptr(),
+            table.len(),
             out.as_mut_ptr(),
             out.len(),
         )

@@ -1,4 +1,4 @@
-/* Reads and writes files and looks names up through the header, and prints each answer on a line. */
+/* Reads, writes and trims files and looks names up through the header, and prints each answer on a line. */
 
 #include "cast.h"
 
@@ -48,20 +48,32 @@ static const uint8_t file[] = {
 enum { ROOM = 8192, MORE = 8200 };
 static uint32_t rows[MORE];
 
-/* Prints the answer, then how many numbers of the table are zero, and how many are as they were. */
-static void read_file(size_t len, size_t table_len)
+static void fill_table(void)
 {
     for (size_t i = 0; i < MORE; i++)
         rows[i] = 0xA5A5A5A5;
-    struct cast_reading r = cast_read(file, len, rows, table_len);
+}
+
+/* Prints how many numbers of the table are zero, and how many are as they were. */
+static void print_table(void)
+{
     size_t zero = 0, kept = 0;
     for (size_t i = 0; i < MORE; i++) {
         zero += rows[i] == 0;
         kept += rows[i] == 0xA5A5A5A5;
     }
+    printf(" table %zu %zu", zero, kept);
+}
+
+/* Prints the answer, and what the table then is. */
+static void read_file(size_t len, size_t table_len)
+{
+    fill_table();
+    struct cast_reading r = cast_read(file, len, rows, table_len);
     printf("%" PRIu32 " %" PRIu32 " %" PRIu32 " %" PRIu32 " %" PRIu32 " %" PRIu32 " %" PRIu32 " %" PRIu32 " %" PRIu32,
            r.number, r.place, r.nodes, r.flags, r.own_known, r.own_unknown, r.faces, r.degenerate, r.links);
-    printf(" table %zu %zu\n", zero, kept);
+    print_table();
+    printf("\n");
 }
 
 static void print_row(size_t row)
@@ -72,19 +84,44 @@ static void print_row(size_t row)
 
 static uint8_t out[sizeof file + 8];
 
-/* Writes numbers of the table that was read last. Prints the answer, then how many bytes at the output's start are the
-   file's, and how many at its end are as they were. */
-static void write_file(size_t plan_len, size_t source_len, size_t out_len)
+static void fill_output(void)
 {
     for (size_t i = 0; i < sizeof out; i++)
         out[i] = 0xA5;
-    struct cast_written w = cast_write(rows, plan_len, file, source_len, 0x01020304, out, out_len);
+}
+
+static void print_written(struct cast_written w)
+{
+    printf("%" PRIu32 " %" PRIu32 " %" PRIu32, w.number, w.place, w.length);
+}
+
+/* Prints how many bytes at the output's start are the file's, and how many at its end are as they were. */
+static void print_output(void)
+{
     size_t same = 0, kept = 0;
     while (same < sizeof file && out[same] == file[same])
         same++;
     while (kept < sizeof out && out[sizeof out - 1 - kept] == 0xA5)
         kept++;
-    printf("%" PRIu32 " %" PRIu32 " %" PRIu32 " output %zu %zu\n", w.number, w.place, w.length, same, kept);
+    printf(" output %zu %zu\n", same, kept);
+}
+
+/* Writes numbers of the table that was read last. Prints the answer, and what the output then is. */
+static void write_file(size_t plan_len, size_t source_len, size_t out_len)
+{
+    fill_output();
+    print_written(cast_write(rows, plan_len, file, source_len, 0x01020304, out, out_len));
+    print_output();
+}
+
+/* Prints the answer, and what the table and the output then are. */
+static void trim_file(size_t len, size_t row, size_t table_len, size_t out_len)
+{
+    fill_table();
+    fill_output();
+    print_written(cast_trim(file, len, row, rows, table_len, out, out_len));
+    print_table();
+    print_output();
 }
 
 /* Two properties named n: the string ab, then the byte 7. */
@@ -117,6 +154,23 @@ int main(void)
     write_file(MORE, sizeof file, sizeof out);
     write_file(0, 0, sizeof out);
     write_file(0, 0, 0);
+
+    trim_file(sizeof file, 4, ROOM - 1, sizeof out);
+    trim_file(sizeof file - 1, 4, ROOM, sizeof out);
+    trim_file(0, SIZE_MAX, MORE, 0);
+    trim_file(sizeof file, 5, ROOM, 0);
+    trim_file(sizeof file, SIZE_MAX, MORE, sizeof out);
+    trim_file(sizeof file, 3, MORE, sizeof out);
+    trim_file(sizeof file, 4, MORE, sizeof file - 28);
+    trim_file(sizeof file, 4, ROOM, sizeof file - 27);
+    trim_file(sizeof file, 4, MORE, sizeof out);
+    for (size_t row = 0; row < 5; row++)
+        print_row(row);
+    /* The root's size and child count, and how many bytes of the new file are not the old one's. */
+    size_t changed = 0;
+    for (size_t i = 0; i < sizeof file - 27; i++)
+        changed += out[i] != file[i];
+    printf("%d %d %zu\n", out[20], out[36], changed);
 
     ask(sizeof bytes, 8, 0, "n", 1);
     ask(sizeof bytes, 7, 0, "n", 1);

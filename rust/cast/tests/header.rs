@@ -23,6 +23,21 @@ const ANSWERS: &str = "\
 20 0 0 output 0 270
 0 0 16 output 8 254
 26 0 0 output 0 270
+1 0 0 table 0 8200 output 0 270
+5 16 0 table 8192 8 output 0 270
+3 0 0 table 8192 8 output 0 270
+30 0 0 table 8192 8 output 0 270
+30 0 0 table 8192 8 output 0 270
+31 0 0 table 8192 8 output 0 270
+32 0 0 table 8192 8 output 0 270
+0 0 235 table 8170 8 output 20 35
+0 0 235 table 8170 8 output 20 35
+1953460082 0 0 4294967295 40 40 0 1
+1818521453 0 0 0 64 64 0 2
+1752393069 9 0 1 88 166 3 0
+1819566445 7 8 1 190 235 4 0
+0 0 0 0 0 0 0 0
+219 1 2
 0 0 10 13
 40 0 0 0
 40 0 0 0

@@ -18,6 +18,7 @@ mod properties;
 mod reads;
 pub mod samples;
 mod table;
+mod trims;
 mod types;
 mod walks;
 mod writes;
@@ -52,6 +53,7 @@ pub mod function {
     pub const LINE: u32 = 33;
     pub const WRITE: u32 = 34;
     pub const WRITE_PARTS: u32 = 35;
+    pub const TRIM: u32 = 36;
 }
 
 /// The whole of standard input, the whole of standard output, and the number of cases.
@@ -75,5 +77,6 @@ pub fn make() -> Vectors {
     reads::add(&mut cases);
     listings::add(&mut cases);
     writes::add(&mut cases);
+    trims::add(&mut cases);
     cases.finish()
 }

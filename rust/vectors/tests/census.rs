@@ -1,7 +1,9 @@
 //! How often each function and each answer of it is among the cases.
 
 use std::collections::BTreeMap;
-use vectors::function::{EXACT, INDEX, LINE, LIST, LOOKUP, READ, STEP, WALK, WRITE, WRITE_PARTS};
+use vectors::function::{
+    EXACT, INDEX, LINE, LIST, LOOKUP, READ, STEP, TRIM, WALK, WRITE, WRITE_PARTS,
+};
 
 #[test]
 fn every_answer_is_among_the_cases() {
@@ -48,6 +50,9 @@ fn every_answer_is_among_the_cases() {
         // So is a plan of a file over 16 MiB.
         (WRITE, &[25], 2),
         (WRITE_PARTS, &[25], 1),
+        (TRIM, &[0], 250),
+        (TRIM, &[1, 30, 31, 32], 70),
+        (TRIM, &[3, 4, 5, 6, 10, 11, 12, 13, 14, 15, 16, 17], 5),
     ] {
         for answer in answers {
             let count = census[&function].get(answer).copied().unwrap_or(0);

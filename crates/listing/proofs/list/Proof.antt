@@ -12,7 +12,8 @@ use Rattle.reader.specs.declared.Reading.{Reading}
 use Rattle.reader.specs.Reading.{verdict}
 use Rattle.reader.specs.Contract.{Small}
 use Rattle.reader.proofs.Exactly.{in-room}
-use Rattle.listing.proofs.Listed.{table-rows, listing-long, listing-refused, listing-accepted}
+use Rattle.reader.proofs.Accepted.{table-rows}
+use Rattle.listing.proofs.Listed.{listing-long, listing-refused, listing-accepted}
 use borrow.Author.Needs.{needs}
 use Rattle.listing.proofs.list.Statement.{statement}
 use Rattle.listing.proofs.list.Tie as tie
@@ -82,7 +83,7 @@ returns-2 c =
     let given = c .before .before .before .before .before .before .reading .given in
     let a = given .0 .0 in
     let e = told r (given .1) in
-    let rows = ap (λ t. rowsAt t 0 (a .nodes)) (r .read .ensures .1) ∙ table-rows (input r) (bytes r) e (table r) (room r) in
+    let rows = ap (λ t. rowsAt t 0 (a .nodes)) (r .read .ensures .1) ∙ table-rows (input r) e (bytes r) (table r) (room r) in
     rw (listing-accepted (input r) (short r) a e) (rw rows at (c .before .before .accepted .ensures))
 
 same-length-3 : tie.Need-same-length-3

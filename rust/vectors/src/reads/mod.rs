@@ -11,7 +11,7 @@ mod links;
 mod meshes;
 mod names;
 mod order;
-mod placed;
+pub mod placed;
 mod twice;
 mod unknown;
 mod values;

@@ -1,0 +1,6 @@
+pub mod Filled
+pub mod Loops
+pub mod Mending
+pub mod Without
+pub mod Answers
+pub mod Trimming

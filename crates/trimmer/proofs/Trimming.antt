@@ -1,0 +1,64 @@
+-- One trimming by its reading: what is lent to the removal, and what becomes of its answer.
+use Prim.Native.Nat.{ℕ, _≤_}
+use mathlib.Core.Path.{_≡_, refl, ap, sym, subst, _∙_}
+use mathlib.Core.Bool.{true}
+use mathlib.Core.List.{List}
+use lib.ListN.{length}
+use Rattle.le.specs.Le.{AreBytes}
+use Rattle.table.specs.Table.{hasRoom, cleared, filled}
+use Rattle.walk.specs.Walk.{limited}
+use Rattle.reader.specs.declared.Account.{Account}
+use Rattle.reader.specs.declared.Reading.the-variants.{Accepted, Refused}
+use Rattle.reader.specs.Reading.{verdict, readingOf}
+use Rattle.reader.specs.Reading.{tableAfter as readTable}
+use Rattle.reader.proofs.Exactly.{in-room, has-room}
+use Rattle.reader.proofs.Accepted.{nodes-are, flags-are, table-left, few}
+use Rattle.emit.specs.declared.Written.{Written}
+use Rattle.emit.specs.Emission.{refused, leftBy}
+use Rattle.removal.specs.Trimmer.{newFile, trimmedOf, trimmedOutput, trimmedTable}
+use Rattle.removal.proofs.RefusedFile.{refusedFile}
+use Rattle.trimmer.specs.Contract.{Read, leftWithout}
+use Rattle.trimmer.proofs.Filled.{room-filled, filled-again, cleared-filled, read-filled}
+use Rattle.trimmer.proofs.Answers.{Ends}
+
+module _ (s t : List ℕ) (bytes : AreBytes s) (a : Account) (r : readingOf s t ≡ Accepted a) where
+  room : hasRoom t ≡ true
+  room = has-room s t r
+
+  accepted : verdict s ≡ Accepted a
+  accepted = sym (in-room s t room) ∙ r
+
+  left : readTable s t ≡ filled (limited s .rows) t
+  left = table-left s accepted t room
+
+  few-rows : length (limited s .rows) ≤ 1024
+  few-rows = few s accepted bytes
+
+  pub is-read : Read s (readTable s t) (a .nodes) (a .flags)
+  is-read = record {
+    account = a;
+    accepted = accepted;
+    room = ap hasRoom left ∙ room-filled t (limited s .rows) room few-rows;
+    rows = left ∙ sym (filled-again t (limited s .rows) room few-rows (limited s .rows)) ∙ ap (filled (limited s .rows)) (sym left);
+    nodes = nodes-are s accepted;
+    flags = flags-are s accepted;
+  }
+
+  module _ (k : ℕ) (out u : List ℕ) (q : u ≡ readTable s t) (w : Written) (o t′ : List ℕ) (e : Ends s k u out w o t′) where
+    answer : w ≡ trimmedOf s k t (length out)
+    unfolding trimmedOf
+    answer = e .0 ∙ rw r
+
+    table : leftWithout (w .number) s k u ≡ leftWithout (w .number) s k t
+    table = ap (leftWithout (w .number) s k) (q ∙ left) ∙ rw (read-filled t (limited s .rows) room few-rows (newFile s k), cleared-filled t (limited s .rows) room few-rows)
+
+    pub trimmed : (w ≡ trimmedOf s k t (length out)) × (o ≡ trimmedOutput s k t out) × (t′ ≡ trimmedTable s k t (length out))
+    unfolding trimmedOutput trimmedTable
+    trimmed = (answer, e .1 ∙ rw answer, e .2 ∙ table ∙ rw answer)
+
+-- a file that is refused
+pub trimmed-refused : (s t : List ℕ) (n place k : ℕ) (out : List ℕ) (t′ : List ℕ) → readingOf s t ≡ Refused n place → t′ ≡ readTable s t
+    → (refused n place ≡ trimmedOf s k t (length out)) × (out ≡ trimmedOutput s k t out) × (t′ ≡ trimmedTable s k t (length out))
+trimmed-refused s t n place k out t′ r e =
+    let is = refusedFile s t n place k out r in
+    (sym (is .0), sym (is .1), e ∙ sym (is .2))
