@@ -2,3 +2,4 @@ pub mod Rows
 pub mod Clearing
 pub mod Plans
 pub mod Rests
+pub mod Filled

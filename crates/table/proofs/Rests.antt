@@ -7,12 +7,19 @@ use mathlib.Core.Path.{_≡_, refl, ap}
 use mathlib.Core.List.{List, [], _∷_}
 use lib.ListN.{length}
 use Rattle.table.specs.declared.Row.{Row}
-use Rattle.table.specs.Table.{rowAt, rowsAt}
+use Rattle.table.specs.Table.{rowAt, rowsAt, withRow}
+use Rattle.table.proofs.Rows.{rowAt-withRow-other}
 
 pub length-rowsAt : (t : List ℕ) (k n : ℕ) → n ≡ length (rowsAt t k n)
 unfolding rowsAt
 length-rowsAt t k zero = refl
 length-rowsAt t k (suc n) = ap suc (length-rowsAt t (suc k) n)
+
+-- a row that is put leaves later ones
+pub rowsAt-withRow : (t : List ℕ) (to : ℕ) (r : Row) (k n : ℕ) → to < k → rowsAt (withRow t to r) k n ≡ rowsAt t k n
+unfolding rowsAt
+rowsAt-withRow t to r k zero h = refl
+rowsAt-withRow t to r k (suc n) h = rw (rowAt-withRow-other t to r k (λ e. omega arith), rowsAt-withRow t to r (suc k) n (omega arith))
 
 -- of n rows, those from row i on
 abbrev pub rest : (t : List ℕ) (n i : ℕ) → List Row

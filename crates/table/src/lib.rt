@@ -3,7 +3,7 @@ ghost use mathlib.Core.Path.{_≡_};
 ghost use Prim.Native.Nat.{_+_, _*_, _≤_};
 ghost use lib.ListN.{length};
 ghost use lib.Seq.{sets};
-ghost use Rattle.table.specs.Table.{hasRow, rowFrom, rowAt, fields, withRow, hasRoom, zeroed, cleared, rowCount, isPlan};
+ghost use Rattle.table.specs.Table.{blank, hasRow, rowFrom, rowAt, fields, withRow, hasRoom, zeroed, cleared, rowCount, isPlan};
 
 // A node: its kind, the halves of its hash, its parent's row (0xFFFFFFFF for none), where its body starts and ends, its
 // property count and its child count.
@@ -16,6 +16,22 @@ pub struct Row {
     pub end: u32,
     pub properties: u32,
     pub children: u32,
+}
+
+// A row of zeros.
+pub fn blank() -> Row
+    ensures { λ r. ⌜ r ≡ blank ⌝ }
+{
+    Row {
+        kind: 0,
+        low: 0,
+        high: 0,
+        parent: 0,
+        start: 0,
+        end: 0,
+        properties: 0,
+        children: 0,
+    }
 }
 
 // Whether a row lies wholly in the table.
@@ -56,16 +72,7 @@ pub fn row_at(table: &[u32], row: usize) -> Row
     ensures { λ r. ⌜ r ≡ rowAt (now (table .entry)) row ⌝ }
 {
     if !has_row(table, row) {
-        return Row {
-            kind: 0,
-            low: 0,
-            high: 0,
-            parent: 0,
-            start: 0,
-            end: 0,
-            properties: 0,
-            children: 0,
-        };
+        return blank();
     }
     read_row(table, row)
 }

@@ -1,4 +1,3 @@
-pub mod Filled
 pub mod Loops
 pub mod Mending
 pub mod Without

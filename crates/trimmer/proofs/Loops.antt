@@ -9,17 +9,10 @@ use lib.ListN.{length}
 use borrow.Author.Tests.{eq-eqb, ne-eqb}
 use Rattle.table.specs.declared.Row.{Row}
 use Rattle.table.specs.Table.{rowAt, rowsAt, withRow, putRows}
-use Rattle.table.proofs.Rows.{rowAt-withRow-other}
-use Rattle.table.proofs.Rests.{rest, rest-all, rest-next, rest-none}
+use Rattle.table.proofs.Rests.{rest, rest-all, rest-next, rest-none, rowsAt-withRow}
 use Rattle.format.specs.Rows.{ownBytes, allOwnBytes}
 use Rattle.writer.specs.Forest.{movedTo, laidOut}
 use Rattle.removal.specs.Trimmer.{mended, withoutFrom}
-
--- a row that is put leaves later ones
-rowsAt-withRow : (t : List ℕ) (to : ℕ) (r : Row) (i m : ℕ) → to < i → rowsAt (withRow t to r) i m ≡ rowsAt t i m
-unfolding rowsAt
-rowsAt-withRow t to r i zero h = refl
-rowsAt-withRow t to r i (suc m) h = rw (rowAt-withRow-other t to r i (λ e. omega arith), rowsAt-withRow t to r (suc i) m (omega arith))
 
 -- ---- rows moved up
 module _ (first : List ℕ) (n k above : ℕ) where

@@ -5,11 +5,15 @@ use mathlib.Core.Bool.{true}
 use mathlib.Core.List.{List}
 use lib.ListN.{length}
 use Rattle.le.specs.Le.{AreBytes}
+use Rattle.table.specs.declared.Row.{Row}
 use Rattle.table.specs.Table.{hasRoom, cleared, filled}
+use Rattle.table.proofs.Filled.{room-filled, filled-again, cleared-filled}
 use Rattle.walk.specs.Walk.{limited}
 use Rattle.reader.specs.declared.Account.{Account}
+use Rattle.reader.specs.declared.Reading.{Reading}
 use Rattle.reader.specs.declared.Reading.the-variants.{Accepted, Refused}
 use Rattle.reader.specs.Reading.{verdict, readingOf}
+use Rattle.reader.specs.Reading.{leftBy as readLeft}
 use Rattle.reader.specs.Reading.{tableAfter as readTable}
 use Rattle.reader.proofs.Exactly.{in-room, has-room}
 use Rattle.reader.proofs.Accepted.{nodes-are, flags-are, table-left, few}
@@ -18,9 +22,18 @@ use Rattle.emit.specs.Emission.{refused, leftBy}
 use Rattle.removal.specs.Trimmer.{newFile, trimmedOf, trimmedOutput, trimmedTable}
 use Rattle.removal.proofs.RefusedFile.{refusedFile}
 use Rattle.trimmer.specs.Contract.{Read, leftWithout}
-use Rattle.trimmer.proofs.Filled.{room-filled, filled-again, cleared-filled, read-filled}
 use Rattle.trimmer.proofs.Answers.{Ends}
 
+-- a reading into a filled table
+read-filled : (t : List ℕ) (rs : List Row) → hasRoom t ≡ true → length rs ≤ 1024 → (s : List ℕ) → readTable s (filled rs t) ≡ readTable s t
+unfolding readTable
+read-filled t rs h few s = rw (room-filled t rs h few, h) (by-verdict (verdict s))
+  where
+    by-verdict : (v : Reading) → readLeft v (limited s .rows) (filled rs t) ≡ readLeft v (limited s .rows) t
+    by-verdict (Accepted a) = filled-again t rs h few (limited s .rows)
+    by-verdict (Refused n place) = cleared-filled t rs h few
+
+-- a file that is accepted
 module _ (s t : List ℕ) (bytes : AreBytes s) (a : Account) (r : readingOf s t ≡ Accepted a) where
   room : hasRoom t ≡ true
   room = has-room s t r

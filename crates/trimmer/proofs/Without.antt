@@ -12,6 +12,7 @@ use Rattle.table.specs.Table.{blank, rowAt, rowsAt, withRow, putRows, hasRoom, 
 use Rattle.table.proofs.Clearing.{rowAt-filled}
 use Rattle.table.proofs.Plans.{rows-filled}
 use Rattle.table.proofs.Rests.{length-rowsAt}
+use Rattle.table.proofs.Filled.{put-filled, fewer-filled}
 use Rattle.format.specs.Rows.{ownBytes, allOwnBytes}
 use Rattle.walk.specs.Walk.{limited}
 use Rattle.reader.specs.Reading.{tableAfter as readTable}
@@ -19,15 +20,10 @@ use Rattle.reader.proofs.Accepted.{few}
 use Rattle.emit.specs.declared.Written.{Written}
 use Rattle.emit.specs.Emission.{fileBytes, done, emission, leftBy, outputOf}
 use Rattle.writer.specs.Forest.{laidOut}
+use Rattle.writer.proofs.Plans.{length-laid}
 use Rattle.removal.specs.Trimmer.{withoutFrom, without, newFile}
 use Rattle.removal.proofs.NewFile.{NewFile, new-file-of, length-from}
 use Rattle.trimmer.specs.Contract.{Read, Removes}
-use Rattle.trimmer.proofs.Filled.{put-filled, fewer-filled}
-
-length-laid : (at : ℕ) (rs : List Row) → length (laidOut at rs) ≡ length rs
-unfolding laidOut
-length-laid at [] = refl
-length-laid at (r ∷ rs) = ap suc (length-laid (at + ownBytes r) rs)
 
 -- ---- a row taken out of any rows
 pub taken-out : (t : List ℕ) (k p n : ℕ) → k < n → n ≤ 1024 → hasRoom t ≡ true → t ≡ filled (rowsAt t 0 n) t

@@ -1,13 +1,13 @@
 // The trimmer: a file without one node of an unknown kind, or a refusal: the reader's, or 30 to 32.
 ghost use mathlib.Core.Path.{_≡_};
 ghost use mathlib.Core.Bool.{true};
-ghost use Prim.Native.Nat.{_+_, _-_, _≤_, _<_};
+ghost use Prim.Native.Nat.{_+_, _-_, _≤_, _<_, min};
 ghost use lib.ListN.{length};
 ghost use Rattle.table.specs.Table.{rowsAt, putRows, hasRoom, cleared, filled};
 ghost use Rattle.format.specs.Rows.{ownBytes, allOwnBytes};
 ghost use Rattle.walk.specs.Walk.{limited};
 ghost use Rattle.reader.specs.Reading.{tableAfter};
-ghost use Rattle.emit.specs.Emission.{refused, done, leftBy};
+ghost use Rattle.emit.specs.Emission.{refused, done, emission, leftBy, outputOf};
 ghost use Rattle.writer.specs.Forest.{movedTo, laidOut};
 ghost use Rattle.removal.specs.Trimmer.{lowered, mended, withoutFrom, newFile, removalOf, trimmedOf, trimmedOutput, trimmedTable};
 ghost use Rattle.trimmer.specs.Contract.{Read, Removes, leftWithout};
@@ -83,20 +83,7 @@ fn take_out(table: &mut [u32], nodes: usize, k: usize, above: u32)
     ensures { λ _. ⌜ now (table .exit) ≡ filled (withoutFrom k above 0 (rowsAt (now (table .entry)) 0 nodes)) (now (table .entry)) ⌝ }
 {
     move_up(table, nodes, k, above);
-    table::put_row(
-        table,
-        nodes - 1,
-        table::Row {
-            kind: 0,
-            low: 0,
-            high: 0,
-            parent: 0,
-            start: 0,
-            end: 0,
-            properties: 0,
-            children: 0,
-        },
-    );
+    table::put_row(table, nodes - 1, table::blank());
 }
 
 // ---- bodies placed anew
@@ -149,8 +136,24 @@ fn refuse(number: u32, table: &mut [u32]) -> emit::Written
     }
 }
 
-// Writes the file without row k, which is under row `above`, the output having room. The rows are emitted while they tell
-// where their bodies lie in the file, and only then placed anew.
+// Writes the file of a table's first rows while they tell where their bodies lie in the source, and only then places the
+// bodies anew.
+fn emit_and_place(
+    table: &mut [u32],
+    rows: usize,
+    source: &[u8],
+    flags: u32,
+    out: &mut [u8],
+) -> emit::Written
+    requires { ⌜ (rows ≤ 1024) × (16 + allOwnBytes (rowsAt (now table) 0 rows) ≤ 16777216) ⌝ }
+    ensures { λ r. ⌜ (r ≡ emission flags (now (source .entry)) (rowsAt (now (table .entry)) 0 (min rows 1024)) (length (now (out .entry)))) × (now (out .exit) ≡ outputOf flags (now (source .entry)) (rowsAt (now (table .entry)) 0 (min rows 1024)) (now (out .entry))) × (now (table .exit) ≡ putRows (now (table .entry)) 0 (laidOut 16 (rowsAt (now (table .entry)) 0 rows))) ⌝ }
+{
+    let written = emit::emit(table, rows, source, flags, out);
+    lay_out(table, rows);
+    written
+}
+
+// Writes the file without row k, which is under row `above`. The output has room for it.
 fn rewrite(
     file: &[u8],
     k: usize,
@@ -163,11 +166,17 @@ fn rewrite(
     requires { ⌜ Removes (now file) (now table) k above nodes flags (length (now out)) ⌝ }
     ensures { λ r. ⌜ (r ≡ done (length (newFile (now (file .entry)) k))) × (now (out .exit) ≡ leftBy 0 (newFile (now (file .entry)) k) (now (out .entry))) × (now (table .exit) ≡ tableAfter (newFile (now (file .entry)) k) (now (table .entry))) ⌝ }
 {
-    let left = nodes - 1;
     take_out(table, nodes, k, above);
-    let written = emit::emit(table, left, file, flags, out);
-    lay_out(table, left);
-    written
+    emit_and_place(table, nodes - 1, file, flags, out)
+}
+
+// A file's length without the own bytes of a row.
+fn length_without(length: usize, row: table::Row) -> usize
+    requires { ⌜ ownBytes row ≤ length ⌝ }
+    ensures { λ r. ⌜ r ≡ length - ownBytes row ⌝ }
+{
+    let own = format::own_bytes(row);
+    length - own.0 as usize
 }
 
 // 30 to 32 of a file that was read, its rows being the first of the table; or the file without row k.
@@ -190,9 +199,7 @@ fn remove(
     if kinds::known(row.kind) {
         return refuse(31, table);
     }
-    let own = format::own_bytes(row);
-    let new = file.len() - own.0 as usize;
-    if out.len() < new {
+    if out.len() < length_without(file.len(), row) {
         return refuse(32, table);
     }
     rewrite(file, k, row.parent, table, n, flags, out)

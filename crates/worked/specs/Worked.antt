@@ -1,5 +1,5 @@
--- Document 01, "Small files, worked": E1 to E12 in one table, each with the whole answer, the rows and the listing, computed
--- from the definitions. "Hashes and flags are 0."
+-- Document 01, "Small files, worked": E1 to E12 in one table, each with the whole answer, the rows, the listing, and a trimming at
+-- row 1, computed from the definitions. "Hashes and flags are 0."
 use Prim.Native.Nat.{ℕ}
 use mathlib.Core.Path.{_≡_, refl}
 use Prim.Native.String.{String}
@@ -11,7 +11,7 @@ use Rattle.text.specs.Text.{glyph, digits, sizeIn}
 use Rattle.kinds.specs.Kinds.{root, model, mesh, lineIn, lineOf, isKnown, standsAtTop, standsUnder, mayStand}
 use Rattle.kinds.specs.Kinds.{lines as kindLines}
 use Rattle.table.specs.declared.Row.{Row}
-use Rattle.table.specs.Table.{noParent}
+use Rattle.table.specs.Table.{noParent, hasRoom}
 use Rattle.props.specs.Step.{headerRefusal, dataRefusal, toZero, dataOf, nameAt, stepAt}
 use Rattle.body.specs.Body.{pass, properties, firstNamed}
 use Rattle.faces.specs.Faces.{widthOf, facesIn, below, degenerate}
@@ -24,22 +24,42 @@ use Rattle.links.specs.Links.{reached, linksAt, linksFrom, resolved, linked}
 use Rattle.walk.specs.Walk.{headerAt, nodeRefusal, andThen, children, knownNode, nodeBy, node, nodeAt, childrenAt, walkOf, limited}
 use Rattle.reader.specs.declared.Reading.{Reading}
 use Rattle.reader.specs.declared.Reading.the-variants.{Accepted, Refused}
-use Rattle.reader.specs.Reading.{Numbers, numbersOf, bonesUnder, judgedWith, ruled, ownKnown, ownUnknown, checked, verdict}
+use Rattle.reader.specs.Reading.{Numbers, numbersOf, bonesUnder, judgedWith, ruled, ownKnown, ownUnknown, checked, verdict, readingOf}
+use Rattle.emit.specs.declared.Written.{Written}
+use Rattle.emit.specs.Emission.{under, sizes, nodesBytes, roots, fileBytes}
+use Rattle.emit.specs.Emission.{leftBy as emitLeft}
+use Rattle.removal.specs.Trimmer.{withoutFrom, newFile, trimmedOf, trimmedOutput}
 use Rattle.listing.specs.Listing.{parentText, wordsOf, textOf, nodeLines, fileLines, printed, listingOf}
 
--- a reading's numbers, its rows where the file is accepted, and what is printed
+-- a reading's numbers, its rows where the file is accepted, and what is printed; and of a trimming at row 1 the answer and the
+-- output at exit
 pub record Answer : Type 0 where
   pub numbers : Numbers
   pub rows : List Row
   pub text : List ℕ
+  pub trimmed : Written
+  pub output : List ℕ
+
+-- what a trimming is lent: a table that has room, and an output that has room for E3
+abbrev pub lentTable : List ℕ
+lentTable = replicate 8192 7
+
+abbrev pub lentOutput : List ℕ
+lentOutput = replicate 40 9
 
 abbrev pub rowsBy : Reading → List Row → List Row
 rowsBy (Accepted a) rows = rows
 rowsBy (Refused n place) rows = []
 
 unfoldable pub read : List ℕ → Answer
-unfolding val numberAt bytesOk same decimal number numbered kindLines lineIn lineOf isKnown standsAtTop standsUnder mayStand headerRefusal dataRefusal toZero dataOf nameAt stepAt pass properties firstNamed widthOf facesIn below degenerate letters lines unpacked texts lists ruleIn ofKind linesOf isText inSet isOneOf le lengthOf valueOf typesOf besideOf typed misses lacks faultOf valued nodeFaces nodeLinks verdictAt judgedAt judged reached linksAt linksFrom resolved linked headerAt nodeRefusal andThen children knownNode nodeBy node nodeAt childrenAt walkOf limited bonesUnder judgedWith ruled ownKnown ownUnknown checked verdict glyph digits sizeIn parentText wordsOf textOf nodeLines fileLines flatMap printed listingOf
-read s = record { numbers = numbersOf (verdict s); rows = rowsBy (verdict s) (limited s .rows); text = listingOf s }
+unfolding val numberAt bytesOk same decimal number numbered kindLines lineIn lineOf isKnown standsAtTop standsUnder mayStand headerRefusal dataRefusal toZero dataOf nameAt stepAt pass properties firstNamed widthOf facesIn below degenerate letters lines unpacked texts lists ruleIn ofKind linesOf isText inSet isOneOf le lengthOf valueOf typesOf besideOf typed misses lacks faultOf valued nodeFaces nodeLinks verdictAt judgedAt judged reached linksAt linksFrom resolved linked headerAt nodeRefusal andThen children knownNode nodeBy node nodeAt childrenAt walkOf limited bonesUnder judgedWith ruled ownKnown ownUnknown checked verdict glyph digits sizeIn parentText wordsOf textOf nodeLines fileLines flatMap printed listingOf header fileHeader hasRoom readingOf under sizes nodesBytes roots fileBytes emitLeft withoutFrom newFile trimmedOf trimmedOutput
+read s = record {
+  numbers = numbersOf (verdict s);
+  rows = rowsBy (verdict s) (limited s .rows);
+  text = listingOf s;
+  trimmed = trimmedOf s 1 lentTable (length lentOutput);
+  output = trimmedOutput s 1 lentTable lentOutput;
+}
 
 -- a file of so many roots, and a node's header alone
 unfoldable pub cast : ℕ → List ℕ → List ℕ
@@ -73,10 +93,12 @@ refused n place line = record {
   numbers = record { number = n; place = place; nodes = 0; flags = 0; ownKnown = 0; ownUnknown = 0; faces = 0; degenerate = 0; links = 0 };
   rows = [];
   text = lined (line ∷ []);
+  trimmed = record { number = n; place = place; length = 0 };
+  output = lentOutput;
 }
 
-abbrev pub accepted : (ownKnown ownUnknown faces degenerate links : ℕ) → List Row → List String → Answer
-accepted known unknown faces degenerate links rows lines = record {
+abbrev pub accepted : (ownKnown ownUnknown faces degenerate links : ℕ) → List Row → List String → (trimmed : Written) (output : List ℕ) → Answer
+accepted known unknown faces degenerate links rows lines trimmed output = record {
   numbers = record {
     number = 0;
     place = 0;
@@ -90,7 +112,13 @@ accepted known unknown faces degenerate links rows lines = record {
   };
   rows = rows;
   text = lined lines;
+  trimmed = trimmed;
+  output = output;
 }
+
+-- a trimming that is refused, with a number of 30 to 32
+abbrev pub stays : (number : ℕ) → Written
+stays n = record { number = n; place = 0; length = 0 }
 
 -- "Listing of E10, whole"
 abbrev pub tenLines : List String
@@ -123,13 +151,14 @@ Line = List ℕ × Answer
 abbrev pub table : List Line
 table =
     -- E1: no roots. E2: no bytes
-    (cast 0 [], accepted 0 0 0 0 0 [] ("cast 1 flags 0 nodes 0 bytes 16" ∷ "header 16" ∷ "faces 0 degenerate 0" ∷ "total 16" ∷ [])) ∷
+    (cast 0 [], accepted 0 0 0 0 0 [] ("cast 1 flags 0 nodes 0 bytes 16" ∷ "header 16" ∷ "faces 0 degenerate 0" ∷ "total 16" ∷ []) (stays 30) lentOutput) ∷
     ([], refused 3 0 "refused 3 at 0") ∷
     -- E3: one bare root. E4: cut to 39. E5: one more byte. E6: root size 25. E7: 23. E8: Mesh at the top. E9: version 2
     (
       bare,
       accepted 24 0 0 0 0 (row root noParent 40 40 0 0 ∷ [])
-          ("cast 1 flags 0 nodes 1 bytes 40" ∷ "row 0 kind 746F6F72 parent - own 24" ∷ "header 16" ∷ "faces 0 degenerate 0" ∷ "total 40" ∷ []),
+          ("cast 1 flags 0 nodes 1 bytes 40" ∷ "row 0 kind 746F6F72 parent - own 24" ∷ "header 16" ∷ "faces 0 degenerate 0" ∷ "total 40" ∷ [])
+          (stays 30) lentOutput,
     ) ∷
     (take 39 bare, refused 5 16 "refused 5 at 16") ∷
     (bare ++ (0 ∷ []), refused 12 40 "refused 12 at 40") ∷
@@ -137,18 +166,19 @@ table =
     (cast 1 (head root 23 0 0), refused 5 16 "refused 5 at 16") ∷
     (cast 1 (head mesh 24 0 0), refused 6 16 "refused 6 at 16") ∷
     (take 4 bare ++ (2 ∷ drop 5 bare), refused 4 4 "refused 4 at 4") ∷
-    -- E10: a root with one unknown child
+    -- E10: a root with one unknown child; "trimming row 1 gives E3"
     (
       cast 1 (head root 51 0 1 ++ (head 0x6E676177 27 0 0 ++ (0x61 ∷ 0x62 ∷ 0x63 ∷ []))),
-      accepted 24 27 0 0 0 (row root noParent 40 40 0 1 ∷ row 0x6E676177 0 64 67 0 0 ∷ []) tenLines,
+      accepted 24 27 0 0 0 (row root noParent 40 40 0 1 ∷ row 0x6E676177 0 64 67 0 0 ∷ []) tenLines
+          record { number = 0; place = 0; length = 40 } bare,
     ) ∷
     -- E11: one face; and one that is degenerate. E12: a value that is no vertex
     (
       meshed (0 ∷ 1 ∷ 2 ∷ []),
-      accepted 130 0 1 0 0 meshRows (meshLines "faces 1 degenerate 0"),
+      accepted 130 0 1 0 0 meshRows (meshLines "faces 1 degenerate 0") (stays 31) lentOutput,
     ) ∷ (
       meshed (0 ∷ 1 ∷ 1 ∷ []),
-      accepted 130 0 1 1 0 meshRows (meshLines "faces 1 degenerate 1"),
+      accepted 130 0 1 1 0 meshRows (meshLines "faces 1 degenerate 1") (stays 31) lentOutput,
     ) ∷
     (meshed (0 ∷ 1 ∷ 3 ∷ []), refused 15 134 "refused 15 at 134") ∷ []
 

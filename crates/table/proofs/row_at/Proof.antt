@@ -10,11 +10,14 @@ use Rattle.table.proofs.row_at.Tie as tie
 has-row-requires : tie.Need-has-row-requires
 has-row-requires c κs = search needs
 
+blank-requires : tie.Need-blank-requires
+blank-requires c κs = search needs
+
 returns : tie.Need-returns
 unfolding rowAt
 returns c =
-    let h = c .before .has-row in
-    rw (← h .ensures, not-true (h .result) (c .if1 .taken))
+    let h = c .before .before .has-row in
+    rw (← h .ensures, not-true (h .result) (c .before .if1 .taken)) (c .blank .ensures)
 
 read-row-requires : tie.Need-read-row-requires
 read-row-requires c κs = hasRow-fits _ _ (sym (c .before .has-row .ensures) ∙ not-false _ (c .if1 .left))
@@ -26,4 +29,4 @@ returns-2 c =
     rw (← h .ensures, not-false (h .result) (c .before .if1 .left)) (c .read-row .ensures)
 
 pub row-at-spec : {M : Type 1} → statement M
-row-at-spec = tie.close (tie.spec has-row-requires returns read-row-requires returns-2)
+row-at-spec = tie.close (tie.spec has-row-requires blank-requires returns read-row-requires returns-2)

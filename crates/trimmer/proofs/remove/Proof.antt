@@ -68,25 +68,23 @@ returns-2 c =
     let s = start k in
     ends-31 (s .args .file .now) (s .args .k) (s .args .table .now) (s .args .out .now) (there k) (sym (kind-is k) ∙ i .if2 .taken) (f .refuse2 .ensures .0) (f .refuse2 .ensures .1)
 
-own-bytes-requires : tie.Need-own-bytes-requires
-own-bytes-requires c κs = search needs
-
--- once the own bytes are: the new file's length
-module _ (c : tie.After-own-bytes) where
+-- once it is known to be unknown: the new file's length
+module _ (c : tie.Else2) where
   abbrev told : tie.After-known
-  told = c .before .before
+  told = c .before
 
   unknown : isKnown (getD (limited (start told .args .file .now) .rows) (start told .args .k) blank .kind) ≡ false
-  unknown = sym (kind-is told) ∙ c .before .if2 .left
+  unknown = sym (kind-is told) ∙ c .if2 .left
 
   new : NewFile (start told .args .file .now) (start told .args .k)
   new = new-file-of (start told .args .file .now) (bytes told) (start told .pre .accepted) (start told .args .k) (there told) unknown
 
-  shorter : length (newFile (start told .args .file .now) (start told .args .k)) + c .own-bytes .result .0 ≡ length (start told .args .file .now)
-  shorter = ap (λ n. length (newFile (start told .args .file .now) (start told .args .k)) + n) (c .own-bytes .ensures .0 ∙ ap ownBytes (row-is told)) ∙ new .shorter
+  shorter : length (newFile (start told .args .file .now) (start told .args .k)) + ownBytes (told .before .row-at .result)
+      ≡ length (start told .args .file .now)
+  shorter = ap (λ r. length (newFile (start told .args .file .now) (start told .args .k)) + ownBytes r) (row-is told) ∙ new .shorter
 
-sub-new : tie.Need-sub-new
-sub-new c = omega (arith, shorter c)
+length-without-requires : tie.Need-length-without-requires
+length-without-requires c κs = omega (arith, shorter c)
 
 refuse-requires-3 : tie.Need-refuse-requires-3
 refuse-requires-3 c κs = search needs
@@ -98,21 +96,23 @@ returns-3 : tie.Need-returns-3
 returns-3 c =
     let f = c .before .before in
     let i = f .before .before in
-    let o = i .before in
+    let l = i .before .length-without .ensures in
+    let o = i .before .before in
     let s = start (told o) in
-    ends-32 (s .args .file .now) (s .args .k) (s .args .table .now) (s .args .out .now) (there (told o)) (unknown o) (omega (arith, shorter o, i .if3 .taken)) (f .refuse3 .ensures .0) (f .refuse3 .ensures .1)
+    ends-32 (s .args .file .now) (s .args .k) (s .args .table .now) (s .args .out .now) (there (told o)) (unknown o) (omega (arith, shorter o, l, i .if3 .taken)) (f .refuse3 .ensures .0) (f .refuse3 .ensures .1)
 
 rewrite-requires : tie.Need-rewrite-requires
 rewrite-requires c κs =
     let i = c .before .before in
-    let o = i .before in
+    let l = i .before .length-without .ensures in
+    let o = i .before .before in
     let s = start (told o) in
     record {
       read = s .pre;
       there = omega (arith, there (told o), s .pre .nodes);
       unknown = unknown o;
       above = ap (λ (r : Row). r .parent) (row-is (told o));
-      fits = omega (arith, shorter o, i .if3 .left);
+      fits = omega (arith, shorter o, l, i .if3 .left);
     }
 
 same-length-4 : tie.Need-same-length-4
@@ -125,9 +125,10 @@ returns-4 : tie.Need-returns-4
 returns-4 c =
     let w = c .before .before .before .before in
     let i = w .before .before .before in
-    let o = i .before in
+    let l = i .before .length-without .ensures in
+    let o = i .before .before in
     let s = start (told o) in
-    ends-done (s .args .file .now) (s .args .k) (s .args .table .now) (s .args .out .now) (there (told o)) (unknown o) (omega (arith, shorter o, i .if3 .left)) (w .rewrite .ensures .0) (w .rewrite .ensures .1) (w .rewrite .ensures .2)
+    ends-done (s .args .file .now) (s .args .k) (s .args .table .now) (s .args .out .now) (there (told o)) (unknown o) (omega (arith, shorter o, l, i .if3 .left)) (w .rewrite .ensures .0) (w .rewrite .ensures .1) (w .rewrite .ensures .2)
 
 pub remove-spec : {M : Type 1} → statement M
 remove-spec =
@@ -141,8 +142,7 @@ remove-spec =
     refuse-requires-2
     same-length-2
     returns-2
-    own-bytes-requires
-    sub-new
+    length-without-requires
     refuse-requires-3
     same-length-3
     returns-3

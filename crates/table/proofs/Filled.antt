@@ -1,20 +1,15 @@
 -- A table that is filled with rows: others put in their place, fewer of them, and filled anew.
-use Prim.Native.Nat.{ℕ, suc, _+_, _-_, _*_, _≤_, _<_}
+use Prim.Native.Nat.{ℕ, _+_, _-_, _*_, _≤_, _<_}
 use native.Mathlib.Omega.{arith}
 use mathlib.Core.Path.{_≡_, refl, ap, sym, _∙_}
 use mathlib.Core.Bool.{true}
-use mathlib.Core.List.{List, [], _∷_, _++_, append-assoc, append-nil}
+use mathlib.Core.List.{List, [], _∷_, _++_, append-assoc}
 use lib.ListN.{length, drop, replicate, length-replicate, replicate-append-replicate, length-append}
-use lib.Seq.{sets, sets-eq, drop-at}
+use lib.Seq.{sets-eq, drop-at}
 use Rattle.table.specs.declared.Row.{Row}
 use Rattle.table.specs.Table.{fields, blank, withRow, putRows, hasRoom, cleared, flat, filled}
-use Rattle.walk.specs.Walk.{limited}
-use Rattle.reader.specs.declared.Reading.{Reading}
-use Rattle.reader.specs.declared.Reading.the-variants.{Accepted, Refused}
-use Rattle.reader.specs.Reading.{leftBy, verdict}
-use Rattle.reader.specs.Reading.{tableAfter as readTable}
 use Rattle.table.proofs.Rows.{putRows-sets, putRows-append, length-flat}
 use Rattle.table.proofs.Clearing.{hasRoom-fits, hasRoom-length, cleared-again, filled-putRows, length-filled}
 
 -- the zeros after n rows
 abbrev zeros : ℕ → List ℕ
@@ -37,7 +32,7 @@ put-filled t rs qs h few e =
     ∙ ap (λ n. flat qs ++ (zeros n ++ drop 8192 t)) (sym e)
     ∙ sym (filled-is t qs)
 
--- a table filled, or read into, anew: only what is after its rows matters
+-- a table filled or cleared anew: only what is after its rows matters
 module _ (t : List ℕ) (rs : List Row) (h : hasRoom t ≡ true) (few : length rs ≤ 1024) where
   after-filled : drop 8192 (filled rs t) ≡ drop 8192 t
   unfolding filled
@@ -52,14 +47,6 @@ module _ (t : List ℕ) (rs : List Row) (h : hasRoom t ≡ true) (few : length r
 
   pub cleared-filled : cleared (filled rs t) ≡ cleared t
   cleared-filled = ap cleared (sym (filled-putRows t rs h few)) ∙ cleared-again t rs h few
-
-  pub read-filled : (s : List ℕ) → readTable s (filled rs t) ≡ readTable s t
-  unfolding readTable
-  read-filled s = rw (room-filled, h) (by-verdict (verdict s))
-    where
-      by-verdict : (v : Reading) → leftBy v (limited s .rows) (filled rs t) ≡ leftBy v (limited s .rows) t
-      by-verdict (Accepted a) = filled-again (limited s .rows)
-      by-verdict (Refused n place) = cleared-filled
 
 flat-append : (xs ys : List Row) → flat (xs ++ ys) ≡ flat xs ++ flat ys
 unfolding flat
