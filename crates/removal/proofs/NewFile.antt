@@ -4,7 +4,7 @@ use Prim.Native.Nat.{ℕ, suc, _+_, _≤_, _<_}
 use native.Mathlib.Omega.{arith}
 use mathlib.Core.Path.{_≡_, refl, ap, sym, subst, _∙_}
 use mathlib.Core.Logic.{_⊎_, inl, inr}
-use mathlib.Core.Bool.{Bool, true, false, true≢false}
+use mathlib.Core.Bool.{true, false}
 use mathlib.Core.List.{List, [], _∷_}
 use lib.Dec.{eqb, ltb}
 use lib.ListN.{length, getD}
@@ -27,9 +27,8 @@ use Rattle.reader.specs.Reading.{tableAfter as readTable}
 use Rattle.reader.proofs.Exactly.{valid-rows, verdict-valid}
 use Rattle.writer.specs.Forest.{laidOut}
 use Rattle.removal.specs.Trimmer.{withoutFrom, without, newFile}
-use Rattle.removal.specs.RemovalSequence.{IsRead}
 use Rattle.removal.proofs.Marked.{Marked, bare, kept, fresh, bare-fresh, kept-fresh}
-use Rattle.removal.proofs.Marking.{At, Stands, stands-at, kind-left, at-left, mark, bare-mark, own-at, length-mark}
+use Rattle.removal.proofs.Marking.{At, Stands, stands-at, kind-left, mark, bare-mark}
 use Rattle.removal.proofs.StillValid.{valid-kept, length-file}
 use Rattle.removal.proofs.KeptRows.{own-laid}
 use Rattle.removal.proofs.Trimmed.{new-file, new-rows}

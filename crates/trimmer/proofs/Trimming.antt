@@ -1,12 +1,12 @@
 -- One trimming by its reading: what is lent to the removal, and what becomes of its answer.
 use Prim.Native.Nat.{ℕ, _≤_}
-use mathlib.Core.Path.{_≡_, refl, ap, sym, subst, _∙_}
+use mathlib.Core.Path.{_≡_, ap, sym, _∙_}
 use mathlib.Core.Bool.{true}
 use mathlib.Core.List.{List}
 use lib.ListN.{length}
 use Rattle.le.specs.Le.{AreBytes}
 use Rattle.table.specs.declared.Row.{Row}
-use Rattle.table.specs.Table.{hasRoom, cleared, filled}
+use Rattle.table.specs.Table.{hasRoom, filled}
 use Rattle.table.proofs.Filled.{room-filled, filled-again, cleared-filled}
 use Rattle.walk.specs.Walk.{limited}
 use Rattle.reader.specs.declared.Account.{Account}
@@ -18,7 +18,7 @@ use Rattle.reader.specs.Reading.{tableAfter as readTable}
 use Rattle.reader.proofs.Exactly.{in-room, has-room}
 use Rattle.reader.proofs.Accepted.{nodes-are, flags-are, table-left, few}
 use Rattle.emit.specs.declared.Written.{Written}
-use Rattle.emit.specs.Emission.{refused, leftBy}
+use Rattle.emit.specs.Emission.{refused}
 use Rattle.removal.specs.Trimmer.{newFile, trimmedOf, trimmedOutput, trimmedTable}
 use Rattle.removal.proofs.RefusedFile.{refusedFile}
 use Rattle.trimmer.specs.Contract.{Read, leftWithout}

@@ -1,9 +1,9 @@
 -- What is left of a file that was read once a row is taken out: the emission of the rows, and the table laid out anew.
-use Prim.Native.Nat.{ℕ, suc, _+_, _-_, _≤_, _<_, min}
+use Prim.Native.Nat.{ℕ, _+_, _-_, _≤_, _<_, min}
 use native.Mathlib.Omega.{arith}
-use mathlib.Core.Path.{_≡_, refl, ap, sym, subst, _∙_}
-use mathlib.Core.Bool.{true, false}
-use mathlib.Core.List.{List, [], _∷_}
+use mathlib.Core.Path.{_≡_, refl, ap, sym, _∙_}
+use mathlib.Core.Bool.{true}
+use mathlib.Core.List.{List}
 use lib.ListN.{length, getD}
 use borrow.Author.Tests.{le-ltb}
 use Rattle.le.specs.Le.{AreBytes}
@@ -13,7 +13,7 @@ use Rattle.table.proofs.Clearing.{rowAt-filled}
 use Rattle.table.proofs.Plans.{rows-filled}
 use Rattle.table.proofs.Rests.{length-rowsAt}
 use Rattle.table.proofs.Filled.{put-filled, fewer-filled}
-use Rattle.format.specs.Rows.{ownBytes, allOwnBytes}
+use Rattle.format.specs.Rows.{allOwnBytes}
 use Rattle.walk.specs.Walk.{limited}
 use Rattle.reader.specs.Reading.{tableAfter as readTable}
 use Rattle.reader.proofs.Accepted.{few}

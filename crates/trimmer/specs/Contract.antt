@@ -6,7 +6,6 @@ use mathlib.Core.List.{List}
 use lib.Dec.{eqb}
 use lib.ListN.{length, getD}
 use Rattle.kinds.specs.Kinds.{isKnown}
-use Rattle.table.specs.declared.Row.{Row}
 use Rattle.table.specs.Table.{blank, hasRoom, cleared, filled}
 use Rattle.walk.specs.Walk.{limited, flagsOf}
 use Rattle.reader.specs.declared.Account.{Account}

@@ -206,7 +206,7 @@ fn remove(
 }
 
 // Writes a file without the node of a row, whose kind must be unknown. On success the table has the rows of the new file;
-// a refusal clears it, and leaves the output.
+// a refusal but 1 clears it, and each leaves the output.
 pub fn trim(file: &[u8], row: usize, table: &mut [u32], out: &mut [u8]) -> emit::Written
     ensures { λ r. ⌜ (r ≡ trimmedOf (now (file .entry)) row (now (table .entry)) (length (now (out .entry)))) × (now (out .exit) ≡ trimmedOutput (now (file .entry)) row (now (table .entry)) (now (out .entry))) × (now (table .exit) ≡ trimmedTable (now (file .entry)) row (now (table .entry)) (length (now (out .entry)))) ⌝ }
 {

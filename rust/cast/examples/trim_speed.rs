@@ -1,7 +1,11 @@
 //! Time of a trimming, proved against independent and against a reading of the file and a copy.
+//!
+//! With the argument `--write` the table becomes `docs/BENCHMARKS.md`.
 
 use std::hint::black_box;
+use std::path::Path;
 use std::time::{Duration, Instant};
+use std::{env, fs};
 
 use corpus::format::{B, MAX_FILE, MAX_NODES, MESH, MODEL, ROOT, V3};
 use corpus::tree::{File, Node, Property};
@@ -62,7 +66,8 @@ fn median(mut times: Vec<Duration>, repeats: usize) -> f64 {
     times[times.len() / 2].as_secs_f64() * 1e6 / repeats as f64
 }
 
-fn measure(title: &str, file: &File, row: usize) {
+/// The table's line of a trimming.
+fn measure(title: &str, file: &File, row: usize) -> String {
     let case = &Case {
         file: file.bytes(),
         row,
@@ -98,9 +103,11 @@ fn measure(title: &str, file: &File, row: usize) {
     let nodes = file.nodes().len();
     let a_node = first * 1e3 / nodes as f64;
     let a_kib = first * 1e3 / (bytes as f64 / 1024.0);
-    println!(
-        "{title:36} {bytes:>9} {first:>9.2} {second:>10.2} {third:>11.2} {to_read:>7.2} {ratio:>6.2} {nodes:>6} {a_node:>10.1} {a_kib:>9.1}"
+    let line = format!(
+        "| {title:35} | {bytes:>8} | {nodes:>5} | {first:>8.2} | {second:>12.2} | {third:>11.2} | {to_read:>7.2} | {ratio:>5.2} | {a_node:>9.1} | {a_kib:>8.1} |"
     );
+    println!("{line}");
+    line
 }
 
 fn note(body: usize) -> Node {
@@ -136,16 +143,38 @@ fn mesh(mebibytes: usize) -> File {
     ))
 }
 
+/// What the figures are, above their table.
+const HEAD: &str = "\
+# Benchmarks
+
+Written by `cargo run --release --offline -p cast --example trim_speed -- --write` (in `rust/`).
+
+## Trimming
+
+Microseconds of one trimming, each the median of 31 rounds in which the trimmers take turns, in one run. Beside the
+proved trimmer: a proved reading of the file and a copy (memcpy) of as many bytes as the new file has; and the
+independent trimmer, which copies the file and mends it. The output is just as long as the new file, and holds it or its
+like already.
+";
+
 fn main() {
-    println!("Medians of {ROUNDS} rounds, in microseconds a trimming; the trimmers take turns.");
-    println!("Beside them a proved reading of the file and a copy of as many bytes as are left.");
-    println!("The output is just as long as the new file, and holds it or its like already.");
-    let heads = ["read, copy", "independent", "to read", "ratio", "nodes"];
-    let [second, third, to_read, ratio, nodes] = heads;
-    println!(
-        "{:36} {:>9} {:>9} {second:>10} {third:>11} {to_read:>7} {ratio:>6} {nodes:>6} {:>10} {:>9}",
-        "file", "bytes", "proved", "ns a node", "ns a KiB"
-    );
+    let mut lines = vec![
+        format!(
+            "| {:35} | {:>8} | {:>5} | {:>8} | {:>12} | {:>11} | {:>7} | {:>5} | {:>9} | {:>8} |",
+            "file",
+            "bytes",
+            "nodes",
+            "proved",
+            "read and copy",
+            "independent",
+            "to read",
+            "ratio",
+            "ns a node",
+            "ns a KiB"
+        ),
+        "|---|--:|--:|--:|--:|--:|--:|--:|--:|--:|".to_string(),
+    ];
+    println!("{HEAD}\n{}", lines.join("\n"));
     let files: [large::Maker; 6] = [
         ("one node of 16 MiB of f in i", large::many_wide_faces),
         ("one of a mesh of 200,000 vertices", large::many_vertices),
@@ -155,21 +184,27 @@ fn main() {
         ("one beside one face (E11)", |_| worked::e11()),
     ];
     for (title, make) in files {
-        measure(title, &noted(make(&mut Rng::new(60))), 1);
+        lines.push(measure(title, &noted(make(&mut Rng::new(60))), 1));
     }
-    measure("tiny: one of two nodes (E10)", &worked::e10(), 1);
+    lines.push(measure("tiny: one of two nodes (E10)", &worked::e10(), 1));
     let full = notes(NOTES, MAX_FILE / NOTES - 30);
     let bare = notes(NOTES, 0);
     for (which, row) in [("first", 1), ("middle", NOTES / 2), ("last", NOTES)] {
-        measure(&format!("{which} of 1,023 in 16 MiB"), &full, row);
-        measure(&format!("{which} of 1,023 bare ones"), &bare, row);
+        let title = |nodes: &str| format!("{which} of 1,023 {nodes}");
+        lines.push(measure(&title("in 16 MiB"), &full, row));
+        lines.push(measure(&title("bare ones"), &bare, row));
     }
     for count in [128, 256, 512, NOTES] {
         let title = format!("one of {count} with 16 bytes each");
-        measure(&title, &notes(count, 16), count / 2);
+        lines.push(measure(&title, &notes(count, 16), count / 2));
     }
     for mebibytes in [2, 4, 8, 16] {
         let title = format!("one of a mesh of {mebibytes} MiB of vertices");
-        measure(&title, &mesh(mebibytes), 1);
+        lines.push(measure(&title, &mesh(mebibytes), 1));
+    }
+    if env::args().any(|argument| argument == "--write") {
+        let path = Path::new(env!("CARGO_MANIFEST_DIR")).join("../../docs/BENCHMARKS.md");
+        let text = format!("{HEAD}\n{}\n", lines.join("\n"));
+        fs::write(path, text).expect("the folder docs is there");
     }
 }

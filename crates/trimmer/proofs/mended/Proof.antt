@@ -1,5 +1,4 @@
 -- `trimmer::mended`: the row above the one that goes, and any other.
-use mathlib.Core.Path.{refl}
 use borrow.Author.Needs.{needs}
 use Rattle.trimmer.proofs.Mending.{mended-above, mended-other}
 use Rattle.trimmer.proofs.mended.Statement.{statement}

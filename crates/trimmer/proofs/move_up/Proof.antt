@@ -1,11 +1,10 @@
 -- `trimmer::move_up`: with the rest of the rows, what was put so far is what all of them give.
 use Prim.Native.Nat.{_-_, _≤_}
 use native.Mathlib.Omega.{arith}
-use mathlib.Core.Path.{_≡_, refl, ap, sym, _∙_}
+use mathlib.Core.Path.{_≡_, refl, ap, _∙_}
 use mathlib.Core.Logic.{⊎-elim}
 use lib.ListN.{length}
 use borrow.Author.Needs.{needs}
-use borrow.Author.Tests.{not-true, not-false}
 use Rattle.table.specs.Table.{withRow}
 use Rattle.table.proofs.Rows.{length-withRow}
 use Rattle.removal.specs.Trimmer.{mended}

@@ -1,5 +1,4 @@
 -- `trimmer::moved`.
-use mathlib.Core.Path.{refl}
 use borrow.Author.Needs.{needs}
 use Rattle.trimmer.proofs.moved.Statement.{statement}
 use Rattle.trimmer.proofs.moved.Tie as tie

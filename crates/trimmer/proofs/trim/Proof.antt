@@ -1,6 +1,6 @@
 -- `trimmer::trim`: what the reading refuses, or what is removed of what it accepts.
 use native.Mathlib.Omega.{arith}
-use mathlib.Core.Path.{ap, sym, subst, _∙_}
+use mathlib.Core.Path.{sym, subst, _∙_}
 use borrow.Author.Needs.{needs}
 use Rattle.le.specs.Le.{AreBytes}
 use Rattle.trimmer.specs.Contract.{Read}
