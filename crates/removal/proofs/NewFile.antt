@@ -6,9 +6,10 @@ use mathlib.Core.Path.{_≡_, refl, ap, sym, subst, _∙_}
 use mathlib.Core.Logic.{_⊎_, inl, inr}
 use mathlib.Core.Bool.{true, false}
 use mathlib.Core.List.{List, [], _∷_}
-use lib.Dec.{eqb, ltb}
+use lib.Arith.{lt-of-le-ne}
+use lib.Dec.{eqb}
 use lib.ListN.{length, getD}
-use borrow.Author.Tests.{ne-eqb, eqb-true, eqb-false, ltb-true, ltb-false}
+use borrow.Author.Tests.{ne-eqb, eqb-true, eqb-false}
 use Rattle.le.proofs.Tests.{by-test}
 use Rattle.le.specs.Le.{AreBytes}
 use Rattle.kinds.specs.Kinds.{isKnown}
@@ -35,9 +36,6 @@ use Rattle.removal.proofs.Trimmed.{new-file, new-rows}
 use Rattle.removal.proofs.Steps.{is-read, shorter}
 
 -- ---- a row fewer
-below : (i k : ℕ) → i ≤ k → (i ≡ k → ⊥) → suc i ≤ k
-below i k l n = by-test (ltb i k) (λ t. ltb-true i k t) (λ t. absurd (n (omega (arith, ltb-false i k t))))
-
 length-after : (k above i : ℕ) (rs : List Row) → k < i → length (withoutFrom k above i rs) ≡ length rs
 unfolding withoutFrom
 length-after k above i [] h = refl
@@ -49,7 +47,7 @@ length-from k above i [] l h = absurd (omega arith)
 length-from k above i (r ∷ rs) l h =
     by-test (eqb i k)
     (λ t. rw t (omega (arith, length-after k above (suc i) rs (omega (arith, eqb-true i k t)))))
-    (λ t. rw t (omega (arith, length-from k above (suc i) rs (below i k l (eqb-false i k t)) (omega arith))))
+    (λ t. rw t (omega (arith, length-from k above (suc i) rs (lt-of-le-ne l (eqb-false i k t)) (omega arith))))
 
 -- what is said of it
 pub record NewFile (s : List ℕ) (k : ℕ) : Type 0 where

@@ -1,5 +1,5 @@
 -- Demand 3, whole, as one statement: `EveryList`. One trimming is `trimmedOf`, `trimmedOutput` and `trimmedTable` (Trimmer.antt), the
--- contract that a trimmer has to meet; the tally is Tally.antt's; "accepted", rows, links, faces and charges are demand 2's.
+-- trimmer's contract; the tally is Tally.antt's; "accepted", rows, links, faces and charges are demand 2's.
 use Prim.Native.Nat.{ℕ, _+_, _≤_, _<_}
 use mathlib.Core.Path.{_≡_}
 use mathlib.Core.Logic.{_⊎_, _↔_}

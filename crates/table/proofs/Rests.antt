@@ -1,4 +1,4 @@
--- So many rows of a table, and of these the ones from a row on: what is left to a loop over them.
+-- The rows of a table from a row on, and those of them that are left to a loop.
 use Prim.Native.Nat.{ℕ, zero, suc, _+_, _-_, _≤_, _<_}
 use native.Mathlib.Numerals.{add-one}
 use native.Mathlib.Nat.{sub-zero}

@@ -45,7 +45,7 @@ module _ {s t : List ℕ} {n f : ℕ} (bytes : AreBytes s) (read : Read s t n f)
   pub few-nodes : n ≤ 1024
   few-nodes = omega (arith, read .nodes, few-rows)
 
-  pub rows-there : rowsAt t 0 n ≡ limited s .rows
+  rows-there : rowsAt t 0 n ≡ limited s .rows
   rows-there =
       ap (rowsAt t 0) (read .nodes) ∙ ap (λ u. rowsAt u 0 (length (limited s .rows))) (read .rows)
       ∙ rows-filled t (limited s .rows) (read .room) few-rows
@@ -81,7 +81,7 @@ module _ {s t : List ℕ} {k p n f room : ℕ} (bytes : AreBytes s) (r : Removes
     rows-stay : (m : ℕ) → m ≡ length stay → rowsAt t′ 0 m ≡ stay
     rows-stay m h = ap (rowsAt t′ 0) h ∙ ap (λ u. rowsAt u 0 (length stay)) taken ∙ rows-filled t stay (r .read .room) few-stay
 
-    pub rows-left : rowsAt t′ 0 (n - 1) ≡ stay
+    rows-left : rowsAt t′ 0 (n - 1) ≡ stay
     rows-left = rows-stay (n - 1) (omega (arith, length-stay))
 
     rows-put : rowsAt t′ 0 (min (n - 1) 1024) ≡ stay

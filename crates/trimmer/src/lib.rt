@@ -60,7 +60,8 @@ fn mended(k: usize, above: u32, i: usize, row: table::Row) -> table::Row
     }
 }
 
-// Moves the rows after row k up by one, and mends each row that stays. The last row is left as it was.
+// Moves the rows after row k up by one, and mends each row that stays. Where row k is one of them, the last
+// place is left as it was.
 fn move_up(table: &mut [u32], nodes: usize, k: usize, above: u32)
     requires { ⌜ nodes ≤ 1024 ⌝ }
     ensures { λ _. ⌜ now (table .exit) ≡ putRows (now (table .entry)) 0 (withoutFrom k above 0 (rowsAt (now (table .entry)) 0 nodes)) ⌝ }

@@ -51,9 +51,9 @@ abbrev pub rowsBy : Reading → List Row → List Row
 rowsBy (Accepted a) rows = rows
 rowsBy (Refused n place) rows = []
 
-unfoldable pub read : List ℕ → Answer
+unfoldable pub computed : List ℕ → Answer
 unfolding val numberAt bytesOk same decimal number numbered kindLines lineIn lineOf isKnown standsAtTop standsUnder mayStand headerRefusal dataRefusal toZero dataOf nameAt stepAt pass properties firstNamed widthOf facesIn below degenerate letters lines unpacked texts lists ruleIn ofKind linesOf isText inSet isOneOf le lengthOf valueOf typesOf besideOf typed misses lacks faultOf valued nodeFaces nodeLinks verdictAt judgedAt judged reached linksAt linksFrom resolved linked headerAt nodeRefusal andThen children knownNode nodeBy node nodeAt childrenAt walkOf limited bonesUnder judgedWith ruled ownKnown ownUnknown checked verdict glyph digits sizeIn parentText wordsOf textOf nodeLines fileLines flatMap printed listingOf header fileHeader hasRoom readingOf under sizes nodesBytes roots fileBytes emitLeft withoutFrom newFile trimmedOf trimmedOutput
-read s = record {
+computed s = record {
   numbers = numbersOf (verdict s);
   rows = rowsBy (verdict s) (limited s .rows);
   text = listingOf s;
@@ -61,7 +61,7 @@ read s = record {
   output = trimmedOutput s 1 lentTable lentOutput;
 }
 
--- a file of so many roots, and a node's header alone
+-- a file with this root count, and a node's header alone
 unfoldable pub cast : ℕ → List ℕ → List ℕ
 unfolding le fileHeader
 cast roots bs = fileHeader roots 0 ++ bs
@@ -83,7 +83,7 @@ abbrev pub row : (kind parent start end properties children : ℕ) → Row
 row kind parent start stop properties children =
     record { kind = kind; low = 0; high = 0; parent = parent; start = start; end = stop; properties = properties; children = children }
 
--- lines, each with the byte 10 behind it
+-- lines, each with the byte 10 after it
 abbrev pub lined : List String → List ℕ
 lined [] = []
 lined (l ∷ ls) = letters l ++ ((10 ∷ []) ++ lined ls)
@@ -182,11 +182,11 @@ table =
     ) ∷
     (meshed (0 ∷ 1 ∷ 3 ∷ []), refused 15 134 "refused 15 at 134") ∷ []
 
-pub worked : map (λ l. read (l .0)) table ≡ map (λ l. l .1) table
-unfolding read cast head
+pub worked : map (λ l. computed (l .0)) table ≡ map (λ l. l .1) table
+unfolding computed cast head
 worked = refl
 
 -- "input over 32,768 bytes prints `too long`"
-pub long : (read (replicate 32769 0) .text ≡ lined ("too long" ∷ [])) × (read (replicate 32768 0) .text ≡ lined ("refused 3 at 0" ∷ []))
-unfolding read
+pub long : (computed (replicate 32769 0) .text ≡ lined ("too long" ∷ [])) × (computed (replicate 32768 0) .text ≡ lined ("refused 3 at 0" ∷ []))
+unfolding computed
 long = (refl, refl)

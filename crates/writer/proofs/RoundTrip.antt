@@ -3,7 +3,6 @@ use Prim.Native.Nat.{ℕ, zero, suc, _+_, _-_, _≤_, _<_}
 use native.Mathlib.Omega.{arith}
 use mathlib.Core.Path.{_≡_, refl, ap, sym, subst, _∙_}
 use mathlib.Core.Logic.{_⊎_, inl, inr}
-use mathlib.Core.Bool.{true}
 use mathlib.Core.List.{List, [], _∷_, _++_, map, append-nil}
 use lib.ListN.{length, take, drop}
 use lib.Seq.{take-at}
@@ -31,7 +30,8 @@ use Rattle.reader.specs.declared.Reading.{Reading}
 use Rattle.reader.specs.declared.Reading.the-variants.{Accepted, Refused}
 use Rattle.reader.specs.Reading.{readingOf, tableAfter, verdict, checked}
 use Rattle.reader.specs.Reading.{byNumber as byNumberOf}
-use Rattle.reader.proofs.Exactly.{verdict-valid, in-room, has-room, accepted-parts, checked-parts, answersTheRules}
+use Rattle.reader.proofs.Accepted.{nodes-are, flags-are, table-left}
+use Rattle.reader.proofs.Exactly.{verdict-valid, in-room, has-room, accepted-parts, answersTheRules}
 use Rattle.reader.proofs.Numbers.{numberOf, checked-told}
 use Rattle.table.proofs.Rests.{length-rowsAt}
 use Rattle.reader.proofs.Whole.{short-table}
@@ -95,10 +95,6 @@ pub writtenEncodes : WrittenEncodes
 writtenEncodes plan s flags file w = encodes plan s flags file w
 
 -- ---- read after write
-abbrev accountIn : Reading → Account → Account
-accountIn (Accepted a) other = a
-accountIn (Refused n place) other = other
-
 module _ (plan s : List ℕ) (flags : ℕ) (file t : List ℕ) (w : Wrote plan s flags file) where
   abbrev f : Forest
   f = forestOf s (planRows plan)
@@ -118,24 +114,19 @@ module _ (plan s : List ℕ) (flags : ℕ) (file t : List ℕ) (w : Wrote plan s
   walk-rows e =
       ap (λ b. walkOf b .rows) (enc .encoding) ∙ walked-back flags f (enc .wellFormed) (ap (λ b. walkOf b .number) (sym (enc .encoding)) ∙ e)
 
-  table-is : {a : Account} → hasRoom t ≡ true → verdict file ≡ Accepted a → tableAfter file t ≡ filled (limited file .rows) t
-  unfolding tableAfter
-  table-is h e = rw (h, e)
-
   pub reads-back : (a : Account) → readingOf file t ≡ Accepted a → ReadsBack plan s flags file t a
   reads-back a r =
       let room = has-room file t r in
       let v : verdict file ≡ Accepted a = sym (in-room file t room) ∙ r in
       let parts = accepted-parts file v in
       let walked : limited file .rows ≡ rowsOf f = ap (λ x. x .rows) is-walk ∙ walk-rows (ap (λ x. x .number) (sym is-walk) ∙ parts .0) in
-      let account = checked-parts file (limited file .rows) (parts .1) .2 in
-      let n : a .nodes ≡ length (limited file .rows) = ap (λ x. accountIn x a .nodes) (sym account) in
+      let n = nodes-are file v in
       let all : rowsAt (tableAfter file t) 0 (a .nodes) ≡ laidOut 16 (planRows plan)
-      = ap (λ u. rowsAt u 0 (a .nodes)) (table-is room v) ∙ ap (rowsAt (filled (limited file .rows) t) 0) n
+      = ap (λ u. rowsAt u 0 (a .nodes)) (table-left file v t room) ∙ ap (rowsAt (filled (limited file .rows) t) 0) n
       ∙ ap (λ l. rowsAt (filled l t) 0 (length l)) walked
       ∙ rows-filled t (rowsOf f) room (omega (arith, length-rows f noParent 0 16, enc .few)) ∙ enc .rows in
       record {
-        flagsBack = ap (λ x. accountIn x a .flags) (sym account) ∙ file-flags;
+        flagsBack = flags-are file v ∙ file-flags;
         nodes = n ∙ ap length (walked ∙ enc .rows) ∙ length-laid 16 (planRows plan) ∙ sym (length-rowsAt plan 0 (rowCount plan));
         rows = all;
         bodies = ap (map (bodyOf file)) all ∙ enc .bodies;

@@ -5,7 +5,7 @@
 use std::hint::black_box;
 use std::path::Path;
 use std::time::{Duration, Instant};
-use std::{env, fs};
+use std::{env, fs, thread};
 
 use corpus::format::{B, MAX_FILE, MAX_NODES, MESH, MODEL, ROOT, V3};
 use corpus::tree::{File, Node, Property};
@@ -14,7 +14,7 @@ use corpus::{large, Rng};
 
 /// Rounds of which the medians are taken; the trimmers take turns in each.
 const ROUNDS: usize = 31;
-/// A round trims the file as often as takes about so long.
+/// A round trims the file as often as takes about this long.
 const ROUND: Duration = Duration::from_millis(4);
 /// As many unknown nodes as a file may have.
 const NOTES: usize = MAX_NODES - 1;
@@ -45,7 +45,7 @@ fn read_and_copy(case: &Case, table: &mut [u32], out: &mut [u8]) -> (u32, u32) {
     (reading.number, out.len() as u32)
 }
 
-/// The time of so many trimmings.
+/// The time of `repeats` trimmings.
 fn time(
     trimmer: Trimmer,
     case: &Case,
@@ -104,7 +104,7 @@ fn measure(title: &str, file: &File, row: usize) -> String {
     let a_node = first * 1e3 / nodes as f64;
     let a_kib = first * 1e3 / (bytes as f64 / 1024.0);
     let line = format!(
-        "| {title:35} | {bytes:>8} | {nodes:>5} | {first:>8.2} | {second:>12.2} | {third:>11.2} | {to_read:>7.2} | {ratio:>5.2} | {a_node:>9.1} | {a_kib:>8.1} |"
+        "| {title:35} | {bytes:>8} | {nodes:>5} | {first:>8.2} | {second:>13.2} | {third:>11.2} | {to_read:>7.2} | {ratio:>9.2} | {a_node:>9.1} | {a_kib:>8.1} |"
     );
     println!("{line}");
     line
@@ -122,7 +122,7 @@ fn noted(mut file: File) -> File {
     file
 }
 
-/// So many unknown nodes in one root, each with a body of this length.
+/// `count` unknown nodes in one root, each with a body of this length.
 fn notes(count: usize, body: usize) -> File {
     let notes = vec![note(body); count];
     File::new(0, vec![Node::with(ROOT, Vec::new(), notes)])
@@ -144,37 +144,57 @@ fn mesh(mebibytes: usize) -> File {
 }
 
 /// What the figures are, above their table.
-const HEAD: &str = "\
+fn head() -> String {
+    format!(
+        "\
 # Benchmarks
 
-Written by `cargo run --release --offline -p cast --example trim_speed -- --write` (in `rust/`).
+Written by `cargo run --release --offline -p cast --example trim_speed -- --write` (in `rust/`), on {}.
 
 ## Trimming
 
-Microseconds of one trimming, each the median of 31 rounds in which the trimmers take turns, in one run. Beside the
+Microseconds of one trimming, each the median of {ROUNDS} rounds in which the trimmers take turns, in one run. Beside the
 proved trimmer: a proved reading of the file and a copy (memcpy) of as many bytes as the new file has; and the
-independent trimmer, which copies the file and mends it. The output is just as long as the new file, and holds it or its
-like already.
-";
+independent trimmer, which copies the file and mends it. `by read` and `by indep.` are the proved time divided by these
+two. The output is just as long as the new file, and holds it, or as many bytes of the old one, already.
+",
+        machine()
+    )
+}
+
+/// The processor's name, where the system tells it, and how many cores there are.
+fn machine() -> String {
+    let told = fs::read_to_string("/proc/cpuinfo").unwrap_or_default();
+    let mut names = told.lines().filter_map(|line| {
+        let (key, name) = line.split_once(':')?;
+        (key.trim() == "model name").then(|| name.trim().to_string())
+    });
+    let name = names
+        .next()
+        .unwrap_or_else(|| "an unknown processor".into());
+    let cores = thread::available_parallelism().map_or(1, usize::from);
+    format!("{name}, {cores} cores")
+}
 
 fn main() {
+    let head = head();
     let mut lines = vec![
         format!(
-            "| {:35} | {:>8} | {:>5} | {:>8} | {:>12} | {:>11} | {:>7} | {:>5} | {:>9} | {:>8} |",
+            "| {:35} | {:>8} | {:>5} | {:>8} | {:>13} | {:>11} | {:>7} | {:>9} | {:>9} | {:>8} |",
             "file",
             "bytes",
             "nodes",
             "proved",
             "read and copy",
             "independent",
-            "to read",
-            "ratio",
+            "by read",
+            "by indep.",
             "ns a node",
             "ns a KiB"
         ),
         "|---|--:|--:|--:|--:|--:|--:|--:|--:|--:|".to_string(),
     ];
-    println!("{HEAD}\n{}", lines.join("\n"));
+    println!("{head}\n{}", lines.join("\n"));
     let files: [large::Maker; 6] = [
         ("one node of 16 MiB of f in i", large::many_wide_faces),
         ("one of a mesh of 200,000 vertices", large::many_vertices),
@@ -194,8 +214,8 @@ fn main() {
         lines.push(measure(&title("in 16 MiB"), &full, row));
         lines.push(measure(&title("bare ones"), &bare, row));
     }
-    for count in [128, 256, 512, NOTES] {
-        let title = format!("one of {count} with 16 bytes each");
+    for (count, shown) in [(128, "128"), (256, "256"), (512, "512"), (NOTES, "1,023")] {
+        let title = format!("one of {shown} with 16 bytes each");
         lines.push(measure(&title, &notes(count, 16), count / 2));
     }
     for mebibytes in [2, 4, 8, 16] {
@@ -204,7 +224,7 @@ fn main() {
     }
     if env::args().any(|argument| argument == "--write") {
         let path = Path::new(env!("CARGO_MANIFEST_DIR")).join("../../docs/BENCHMARKS.md");
-        let text = format!("{HEAD}\n{}\n", lines.join("\n"));
+        let text = format!("{head}\n{}\n", lines.join("\n"));
         fs::write(path, text).expect("the folder docs is there");
     }
 }

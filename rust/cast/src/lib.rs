@@ -152,9 +152,10 @@ pub fn write(plan: &[u32], source: &[u8], flags: u32, out: &mut [u8]) -> Written
     }
 }
 
-/// Writes a file without the unknown node of one row at the output's start, and the rows of the new
-/// file into the table's first 8,192 numbers, then zeros. On refusal these are zeros alone, but a shorter
-/// table stays as it is. What lies past the new file stays, and on refusal the whole output.
+/// Writes a file at the output's start without the node of one row, whose kind must be unknown. The
+/// table's first 8,192 numbers become the new file's rows, then zeros; on refusal zeros alone. Later
+/// numbers stay, and a shorter table stays whole. Past the new file the output stays, and on refusal
+/// all of it.
 pub fn trim(file: &[u8], row: usize, table: &mut [u32], out: &mut [u8]) -> Written {
     // SAFETY: each pointer and length are those of a live slice: aligned, not null even where it is
     // empty, and of at most isize::MAX bytes; being lent for writing, the table and the output overlap

@@ -4,6 +4,21 @@ use crate::format::{MAX_NODES, TABLE};
 use crate::rng::Rng;
 use crate::rows::rows;
 
+/// Rows that no file has. Of some the lowest bits are a small number, or become one times eight.
+pub const FAR: [usize; 11] = [
+    MAX_NODES,
+    TABLE,
+    u32::MAX as usize,
+    1 << 32,
+    1 << 32 | 1,
+    usize::MAX / 8,
+    usize::MAX / 8 + 1,
+    usize::MAX / 8 + 2,
+    1 << 63,
+    1 << 63 | 1,
+    usize::MAX,
+];
+
 /// What one trimming is given beside the file.
 #[derive(Clone, Copy, Debug, PartialEq, Eq)]
 pub struct Trimming {

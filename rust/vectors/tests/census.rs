@@ -53,6 +53,8 @@ fn every_answer_is_among_the_cases() {
         (TRIM, &[0], 250),
         (TRIM, &[1, 30, 31, 32], 70),
         (TRIM, &[3, 4, 5, 6, 10, 11, 12, 13, 14, 15, 16, 17], 5),
+        (TRIM, &[9], 3),
+        (TRIM, &[7], 1),
     ] {
         for answer in answers {
             let count = census[&function].get(answer).copied().unwrap_or(0);

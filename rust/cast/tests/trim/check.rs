@@ -3,28 +3,12 @@
 use std::collections::BTreeMap;
 
 use cast::{read, trim, Reading, Written, TABLE_NUMBERS};
-use corpus::format::MAX_NODES;
 use corpus::rows::rows;
 use corpus::tree::{File, Node};
-use corpus::trims::Trimming;
+use corpus::trims::{Trimming, FAR};
 use corpus::valid::{file, mixed, unknown, Profile};
 use corpus::Rng;
 use reference::Tally;
-
-/// Rows that no file has. Of some the lowest bits are a small number, or become one times eight.
-pub const FAR: [usize; 11] = [
-    MAX_NODES,
-    TABLE_NUMBERS,
-    u32::MAX as usize,
-    1 << 32,
-    1 << 32 | 1,
-    usize::MAX / 8,
-    usize::MAX / 8 + 1,
-    usize::MAX / 8 + 2,
-    1 << 63,
-    1 << 63 | 1,
-    usize::MAX,
-];
 
 /// How often each answer came.
 pub type Census = BTreeMap<u32, usize>;

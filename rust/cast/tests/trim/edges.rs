@@ -1,9 +1,10 @@
-//! One trimming with buffers of every length, of files that are refused, of long ones, and of any bytes.
+//! One trimming with buffers of many lengths, of files that are refused, of long ones, and of any bytes.
 
-use crate::check::{given, note, noted, notes, Check, FAR};
+use crate::check::{given, note, noted, notes, Check};
 use cast::TABLE_NUMBERS;
 use corpus::format::{B, MAX_FILE, MAX_NODES, MESH, MODEL, ROOT, V3};
 use corpus::tree::{File, Node, Property};
+use corpus::trims::FAR;
 use corpus::valid::{file, Profile};
 use corpus::{large, mutate, worked};
 
@@ -14,8 +15,8 @@ const DAMAGED: usize = 60_000;
 const LEAST_DAMAGED: usize = 150;
 const LEAST_LONG: usize = 10;
 
-/// Every row of small files, with outputs just long enough, a byte short, empty and longer, and tables of every length
-/// about 8,192.
+/// Every row of small files, with outputs just long enough, a byte short, empty and longer, and tables of 0, 1, 8 and
+/// about 8,192 numbers.
 #[test]
 fn buffers() {
     let mut check = Check::new(92);

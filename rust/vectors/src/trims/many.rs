@@ -1,4 +1,4 @@
-//! Files of as many nodes as there may be.
+//! Files of as many nodes as there may be, and of one more.
 
 use super::Trims;
 use corpus::format::{MAX_NODES, METADATA, ROOT, TABLE};
@@ -16,6 +16,11 @@ pub fn add(trims: &mut Trims) {
     let notes = vec![Node::new(WAGON); MAX_NODES - 1];
     let file = File::new(0, vec![Node::with(ROOT, Vec::new(), notes)]);
     assert!(trims.valid(&file, given(MAX_NODES - 1)).is_some());
+    // One more, which is refused at its header.
+    let notes = vec![Node::new(WAGON); MAX_NODES];
+    let file = File::new(0, vec![Node::with(ROOT, Vec::new(), notes)]).bytes();
+    let place = 16 + 24 * MAX_NODES as u32;
+    trims.refused(&file, given(MAX_NODES), 7, place);
     // The first child in 512 roots: the parents of all later ones are renumbered.
     let mut roots = vec![Node::with(ROOT, Vec::new(), vec![Node::new(METADATA)]); MAX_NODES / 2];
     roots[0].children[0].kind = WAGON;

@@ -1,4 +1,4 @@
-//! Trimmings of whole files: all refusals but 2 and 7, whose files are too long for a case, and 8, which no file reaches.
+//! Trimmings of whole files: all refusals but 2, whose files are too long for a case, and 8, which no file reaches.
 //!
 //! A trimming made for one answer comes with that answer, by the rules, and that of a valid tree with the tree that is
 //! left; the maker stops where `reference` gives another.

@@ -3,24 +3,9 @@
 use super::{Trims, LONGEST, LONGEST_OUTPUT};
 use corpus::format::TABLE;
 use corpus::tree::File;
-use corpus::trims::Trimming;
+use corpus::trims::{Trimming, FAR};
 use corpus::worked::{changed, e1, e10, e11, e3, e4, e5, e6, e7, e8, e9, triangle};
 
-/// Rows that no file has. Of some the lowest bits are a row of E10, or those of its place in the table.
-const FAR: [usize; 12] = [
-    3,
-    1_023,
-    1_024,
-    8_192,
-    u32::MAX as usize,
-    1 << 32,
-    1 << 32 | 1,
-    usize::MAX / 8,
-    usize::MAX / 8 + 1,
-    usize::MAX / 8 + 2,
-    1 << 63 | 1,
-    usize::MAX,
-];
 /// Lengths of tables without room for 1,024 rows, and with it.
 const SHORT: [usize; 7] = [0, 1, 8, 16, 8_184, 8_190, 8_191];
 const ENOUGH: [usize; 5] = [TABLE, TABLE + 1, TABLE + 7, TABLE + 8, LONGEST];
@@ -46,7 +31,7 @@ fn add_wagon(trims: &mut Trims) {
     for room in [0, 1, 15, 16, 24, 27, 38, 39] {
         trims.valid(&wagon, given(1, TABLE, room));
     }
-    for row in [0, 2].into_iter().chain(FAR) {
+    for row in [0, 2, 3, 1_023].into_iter().chain(FAR) {
         for room in [0, 39, 67] {
             trims.valid(&wagon, given(row, TABLE, room));
         }
@@ -86,6 +71,8 @@ fn add_refused(trims: &mut Trims) {
     let mut version = e10();
     version.version = 0;
     let no_roots = changed(|file| file.root_count = Some(0));
+    let mut properties = e10();
+    properties.roots[0].claimed.properties = Some(65);
     let files = [
         (Vec::new(), 3, 0),
         (e10().bytes()[..15].to_vec(), 3, 0),
@@ -101,6 +88,7 @@ fn add_refused(trims: &mut Trims) {
         (more.bytes(), 12, 67),
         (version.bytes(), 4, 4),
         (no_roots.bytes(), 12, 16),
+        (properties.bytes(), 9, 16),
     ];
     for (file, number, place) in &files {
         for (row, room) in [(1, 200), (0, 0), (usize::MAX, 39)] {
