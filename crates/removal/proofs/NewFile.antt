@@ -25,7 +25,8 @@ use Rattle.reader.specs.declared.Reading.the-variants.{Accepted}
 use Rattle.reader.specs.Reading.{verdict}
 use Rattle.reader.specs.Acceptance.{IsValid}
 use Rattle.reader.specs.Reading.{tableAfter as readTable}
-use Rattle.reader.proofs.Exactly.{valid-rows, verdict-valid}
+use Rattle.reader.proofs.Exactly.{valid-rows}
+use Rattle.reader.proofs.Accepted.{seen, rows-are}
 use Rattle.writer.specs.Forest.{laidOut}
 use Rattle.removal.specs.Trimmer.{withoutFrom, without, newFile}
 use Rattle.removal.proofs.Marked.{Marked, bare, kept, fresh, bare-fresh, kept-fresh}
@@ -49,7 +50,7 @@ length-from k above i (r ∷ rs) l h =
     (λ t. rw t (omega (arith, length-after k above (suc i) rs (omega (arith, eqb-true i k t)))))
     (λ t. rw t (omega (arith, length-from k above (suc i) rs (lt-of-le-ne l (eqb-false i k t)) (omega arith))))
 
--- what is said of it
+-- what is said of the new file
 pub record NewFile (s : List ℕ) (k : ℕ) : Type 0 where
   pub shorter : length (newFile s k) + ownBytes (getD (limited s .rows) k blank) ≡ length s
   pub own : 16 + allOwnBytes (without k (limited s .rows)) ≡ length (newFile s k)
@@ -88,26 +89,26 @@ module _ (flags : ℕ) (m : Marked) (v : Valid flags (bare m)) {k i : ℕ} (a : 
 
 -- row k of an accepted file, of an unknown kind
 module _ (s : List ℕ) (bytes : AreBytes s) {acc : Account} (v : verdict s ≡ Accepted acc) (k : ℕ) (there : k < length (limited s .rows)) where
-  is-valid : IsValid s
-  is-valid = verdict-valid s bytes v
+  abbrev file : IsValid s
+  file = seen s v bytes
 
   abbrev flags : ℕ
-  flags = is-valid .flags
+  flags = file .flags
 
   abbrev f : Forest
-  f = is-valid .forest
+  f = file .forest
 
   abbrev m : Marked
   m = fresh f
 
   valid-bare : Valid flags (bare m)
-  valid-bare = subst (Valid flags) (sym (bare-fresh f)) (is-valid .valid)
+  valid-bare = subst (Valid flags) (sym (bare-fresh f)) (file .valid)
 
   rows-read : limited s .rows ≡ rowsOf (kept m)
-  rows-read = valid-rows s flags f (is-valid .valid) (is-valid .bytes) ∙ ap rowsOf (sym (kept-fresh f))
+  rows-read = rows-are s v bytes ∙ ap rowsOf (sym (kept-fresh f))
 
   same-file : fileOf flags (kept m) ≡ s
-  same-file = ap (fileOf flags) (kept-fresh f) ∙ sym (is-valid .bytes)
+  same-file = ap (fileOf flags) (kept-fresh f) ∙ sym (file .bytes)
 
   at-row : isKnown (getD (limited s .rows) k blank .kind) ≡ false → Stands m k ⊎ (nodes (kept m) ≤ k) → NewFile s k
   at-row u (inl st) =

@@ -1,4 +1,4 @@
--- The answer and the lent buffers by each case: 30, 31, 32, a row taken out, and what the reading refuses.
+-- The answer and the lent buffers of an accepted file by each case: 30, 31, 32, and a row taken out.
 use Prim.Native.Nat.{ℕ, suc, _≤_, _<_}
 use native.Mathlib.Omega.{arith}
 use mathlib.Core.Path.{_≡_, ap, sym, _∙_}
@@ -47,7 +47,7 @@ module _ (s : List ℕ) (k : ℕ) (t out : List ℕ) where
   Ends w o t′ =
       (w ≡ removalOf rows k new room) × (o ≡ leftBy (w .number) (newFile s k) out) × (t′ ≡ leftWithout (w .number) s k t)
 
-  -- where the answer is a refusal, or the new file's length
+  -- a refusal, and then each of them
   refusal-ends : (n : ℕ) {w : Written} {t′ : List ℕ} → removalOf rows k new room ≡ refused (suc n) 0
       → w ≡ refused (suc n) 0 → t′ ≡ cleared t → Ends w out t′
   unfolding leftBy
