@@ -13,7 +13,8 @@ use Rattle.le.proofs.Tests.{by-test}
 use Rattle.table.specs.declared.Row.{Row}
 use Rattle.table.specs.Table.{noParent, hasRoom}
 use Rattle.body.specs.Body.{properties}
-use Rattle.rules.specs.Rules.{linesOf, ruleOf}
+use Rattle.rules.specs.Table.{lines}
+use Rattle.rules.specs.Rules.{linesOf}
 use Rattle.judge.specs.Judge.{judged}
 use Rattle.format.specs.Forest.{Forest, end, known, unknown, nodes, encode, count, fileHeader, fileOf}
 use Rattle.format.specs.Rows.{rows, rowsOf, bodyOf}
@@ -28,9 +29,9 @@ use Rattle.walk.specs.Statements.{Holds}
 use Rattle.walk.proofs.Laws.{limited-is}
 use Rattle.walk.proofs.Sound.{sound}
 use Rattle.walk.proofs.Complete.{complete}
-use Rattle.valid.specs.Valid.{bones, reaches, EachKnown, NodeRuled, NodeLinked, Valid}
+use Rattle.valid.specs.Valid.{bones, reaches, EachKnown, NodeRuled, Links, NodeLinked, Valid}
 use Rattle.valid.proofs.Rules.{obeyed, accepted}
-use Rattle.valid.proofs.Links.{links-reach, links-good}
+use Rattle.valid.proofs.Links.{Reaches, links-reach, links-good}
 use Rattle.reader.specs.declared.Account.{Account}
 use Rattle.reader.specs.declared.Reading.{Reading}
 use Rattle.reader.specs.declared.Reading.the-variants.{Accepted, Refused}
@@ -67,9 +68,14 @@ module _ (s : List ℕ) (f : Forest) where
   abbrev P : NodeP
   P b k n body = NodeRuled b k n body × NodeLinked f b k n body
 
-  reach-here : (kind : ℕ) (p : Property) → length (reached (ruleOf kind (p .name) .target) (val (p .content)) 0 all)
-      ≡ reaches (ruleOf kind (p .name) .target) (val (p .content)) f
-  reach-here kind p = reached-nodes (ruleOf kind (p .name) .target) (val (p .content)) f 0 noParent 0 16
+  reach-here : (target : ℕ) (p : Property) → length (reached target (val (p .content)) 0 all) ≡ reaches target (val (p .content)) f
+  reach-here target p = reached-nodes target (val (p .content)) f 0 noParent 0 16
+
+  reach-nodes : (kind : ℕ) (p : Property) → Reaches all kind p ↔ Links f kind p
+  reach-nodes kind p = (
+    each-map (λ l h k n e. sym (reach-here (l .target) p) ∙ h k n e) lines,
+    each-map (λ l h k n e. reach-here (l .target) p ∙ h k n e) lines,
+  )
 
   known-row : KnownRow s all Q P
   known-row r beside body good here under k =
@@ -82,13 +88,13 @@ module _ (s : List ℕ) (f : Forest) where
             let obeys : NodeRuled beside kind n body = λ g. obeyed kind n body beside g (ap (λ j. j .number) (sym judge) ∙ q .0) in (
               obeys,
               λ g.
-                  each-map (λ p reach h. sym (reach-here kind p) ∙ reach h) (g .properties)
+                  each-map (λ p. reach-nodes kind p .0) (g .properties)
                   (links-reach all kind 0 (r .start) n 0 body g (obeys g .fits) (sym links ∙ q .1 k)),
             ),
         λ p. (
           ap (λ j. j .number) judge ∙ accepted kind n body beside good (p .0 good),
           λ _. links ∙ links-good all kind 0 (r .start) n 0 body good (p .0 good .fits)
-              (each-map (λ q reach h. reach-here kind q ∙ reach h) (good .properties) (p .1 good)),
+              (each-map (λ q. reach-nodes kind q .1) (good .properties) (p .1 good)),
         ),
       )
 

@@ -11,8 +11,10 @@ use Rattle.rules.specs.Rules.{ruleOf}
 use Rattle.judge.specs.declared.Beside.{Beside}
 use Rattle.judge.specs.Properties.{restAt, valueAt, lengthOf, valueOf, keyTypes, typesOf, besideOf}
 use Rattle.format.specs.Layout.{Each, Property}
-use Rattle.valid.specs.Obeys.{FitsLine, value, elementsOf, firstValueOf, wanted, vertexCount}
-use Rattle.valid.proofs.Described.{Described, each-map}
+use Rattle.valid.specs.Obeys.{value, elementsOf, firstValueOf, vertexCount}
+use Rattle.valid.proofs.Ruled.{FitsRule, wanted}
+use Rattle.valid.proofs.Described.{Described}
+use Rattle.format.proofs.Each.{each-map}
 use Rattle.valid.proofs.Names.{read-named}
 use Rattle.valid.proofs.Lines.{weights-each, key-text}
 use Rattle.valid.proofs.Values.{takes-number, takes-string, value-read, string-ends}
@@ -28,11 +30,11 @@ pub record Beheld (kind : ℕ) (ps : List Property) (beside : ℕ) (b : Beside) 
   pub bones : b .bones ≡ beside
 
 -- a property of a name fits the line of that name
-fits-named : (kind : ℕ) (p : Property) {k : ℕ} {name : List ℕ} → kind ≡ k → p .name ≡ name → FitsLine (ruleOf kind (p .name)) p → FitsLine (ruleOf k name) p
+fits-named : (kind : ℕ) (p : Property) {k : ℕ} {name : List ℕ} → kind ≡ k → p .name ≡ name → FitsRule (ruleOf kind (p .name)) p → FitsRule (ruleOf k name) p
 fits-named kind p k e f = rw (k, e) at f
 
 module _ (kind : ℕ) (s : List ℕ) {starts : List ℕ} {ps : List Property} (d : Described s starts ps)
-    (fits : Each (λ p. FitsLine (ruleOf kind (p .name)) p) ps) where
+    (fits : Each (λ p. FitsRule (ruleOf kind (p .name)) p) ps) where
   length-of : (name : List ℕ) → lengthOf s starts name ≡ elementsOf name ps
   unfolding lengthOf
   length-of name = read-named s name (lengthAt s) (λ p. p .elements) 0 d (each-map (λ p f at a e. a .elements) ps fits)

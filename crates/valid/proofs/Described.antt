@@ -63,7 +63,3 @@ walked (p ∷ ps) pre h {s} e =
 
 pub described : (n : ℕ) (s : List ℕ) (good : GoodBody n s) → Described s (properties s n .starts) (good .properties)
 described n s good = rw (← few s n (good .most), ← good .counted) (walked (good .properties) [] (good .good) (good .bytes))
-
-pub each-map : {A : Type 0} {P Q : A → Type 0} → ((x : A) → P x → Q x) → (xs : List A) → Each P xs → Each Q xs
-each-map f [] h = tt
-each-map f (x ∷ xs) h = (f x (h .0), each-map f xs (h .1))

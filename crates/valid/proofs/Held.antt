@@ -24,7 +24,9 @@ use Rattle.judge.specs.declared.Fault.the-variants.{Right, Whole, Element}
 use Rattle.judge.specs.Properties.{restAt, valueAt}
 use Rattle.judge.specs.Judge.{whole, sole, signed, parentOk, byValues, faceFault, faultOf, byFault, valued}
 use Rattle.format.specs.Layout.{Each, Property}
-use Rattle.valid.specs.Obeys.{Some, FitsLine, value, elementsOf, wanted, vertexCount, AreFaces, BoneParent, Keeps}
+use Rattle.valid.specs.Among.{Some}
+use Rattle.valid.specs.Obeys.{value, elementsOf, vertexCount, AreFaces, BoneParent}
+use Rattle.valid.proofs.Ruled.{FitsRule, wanted, KeepsRule}
 use Rattle.valid.proofs.Says.{Says, says-eqb, says-leb, says-ltb, says-and}
 use Rattle.valid.proofs.Described.{At, Described, none, one}
 use Rattle.valid.proofs.Lines.{flag-line, text-line, vertices-line, weights-line, faces-line, indices-line, keys-line, parent-line}
@@ -57,7 +59,7 @@ says-parent (negsuc (suc n)) bones = (λ e. absurd (false≢true e), λ h. absur
 
 -- ---- one property, by what its line holds it to
 module _ (kind : ℕ) (s : List ℕ) (ps : List Property) (bones : ℕ) (b : Beside) (beside : Beheld kind ps bones b)
-    {at : ℕ} {p : Property} (a : At s at p) (fits : FitsLine (ruleOf kind (p .name)) p) where
+    {at : ℕ} {p : Property} (a : At s at p) (fits : FitsRule (ruleOf kind (p .name)) p) where
   abbrev l : Line
   l = ruleOf kind (p .name)
 
@@ -120,7 +122,7 @@ module _ (kind : ℕ) (s : List ℕ) (ps : List Property) (bones : ℕ) (b : Bes
       let read : numberAt 4 (restAt s at) 0 ≡ value p 0 = ap (λ w. numberAt w (restAt s at) 0) (sym four) ∙ value-read a n (fits .1 (line .1)) in
       rw (read, beside .bones) (Iff·trans (sole-right (parentOk (signed (value p 0)) bones)) (says-parent (signed (value p 0)) bones))
 
-  kept : faultOf l s at b ≡ Right → Keeps l ps bones p
+  kept : faultOf l s at b ≡ Right → KeepsRule l ps bones p
   unfolding faultOf
   kept q = record {
     isFlag = λ e. flag-right e .0 (rw e at q);
@@ -133,7 +135,7 @@ module _ (kind : ℕ) (s : List ℕ) (ps : List Property) (bones : ℕ) (b : Bes
     parentRight = λ e. parent-right e .0 (rw e at q);
   }
 
-  right : Keeps l ps bones p → faultOf l s at b ≡ Right
+  right : KeepsRule l ps bones p → faultOf l s at b ≡ Right
   unfolding faultOf
   right k =
       by-held (flag .held) (λ e. flag-right e .1 (k .isFlag e))
@@ -155,8 +157,8 @@ passed Whole at v = (λ e. absurd (omega arith), λ h. cc)
 passed (Element k) at v = (λ e. absurd (omega arith), λ h. cc)
 
 pub valued-right : (kind : ℕ) (s : List ℕ) (all : List Property) (bones : ℕ) (b : Beside) → Beheld kind all bones b →
-    {starts : List ℕ} {ps : List Property} → Described s starts ps → Each (λ p. FitsLine (ruleOf kind (p .name)) p) ps →
-    (valued (linesOf kind) s b starts .number ≡ 0) ↔ Each (λ p. Keeps (ruleOf kind (p .name)) all bones p) ps
+    {starts : List ℕ} {ps : List Property} → Described s starts ps → Each (λ p. FitsRule (ruleOf kind (p .name)) p) ps →
+    (valued (linesOf kind) s b starts .number ≡ 0) ↔ Each (λ p. KeepsRule (ruleOf kind (p .name)) all bones p) ps
 unfolding valued
 valued-right kind s all bones b beside none fits = (λ e. tt, λ h. refl)
 valued-right kind s all bones b beside (one {at} {p} {starts} {ps} a d) fits =

@@ -1,3 +1,7 @@
+pub mod Agree
+pub mod Listed
+pub mod Decimals
+pub mod Ruled
 pub mod Says
 pub mod Described
 pub mod Names

@@ -11,12 +11,18 @@ use Rattle.le.specs.Le.{val}
 use Rattle.le.proofs.Tests.{by-test}
 use Rattle.table.specs.declared.Row.{Row}
 use Rattle.body.specs.Body.{properties}
+use Rattle.rules.specs.declared.Line.{Line}
 use Rattle.rules.specs.Table.{linkTo}
 use Rattle.rules.specs.Rules.{linesOf, ruleOf}
 use Rattle.format.specs.Layout.{Each, Property, GoodBody}
+use Rattle.format.proofs.Each.{each-map}
 use Rattle.links.specs.declared.Linked.{Linked}
 use Rattle.links.specs.Links.{reached, linksAt, refusalOf, unless, resolved}
+use Rattle.valid.specs.Lines.{ByLine}
 use Rattle.valid.specs.Obeys.{FitsLine}
+use Rattle.valid.proofs.Ruled.{FitsRule}
+use Rattle.valid.proofs.Agree.{fits-rules}
+use Rattle.valid.proofs.Listed.{to-line, from-line}
 use Rattle.valid.proofs.Described.{Described, none, one, described}
 use Rattle.valid.proofs.Lines.{link-line}
 use Rattle.valid.proofs.Values.{takes-long, hash-read}
@@ -27,13 +33,19 @@ one-target [] place next = (λ e. absurd (omega arith), λ h. absurd (omega (ari
 one-target (t ∷ []) place next = (λ e. (refl, e), λ h. h .1)
 one-target (t ∷ u ∷ more) place next = (λ e. absurd (omega arith), λ h. absurd (omega (arith, h .0)))
 
--- a link property reaches one row
+-- where its line makes it a link, it reaches one row
+abbrev ReachesBy : (all : List Row) → Property → Line → Type 0
+ReachesBy all p l = l .held ≡ linkTo 0 .held → length (reached (l .target) (val (p .content)) 0 all) ≡ 1
+
 abbrev pub Reaches : (all : List Row) (kind : ℕ) → Property → Type 0
-Reaches all kind p = ruleOf kind (p .name) .held ≡ linkTo 0 .held → length (reached (ruleOf kind (p .name) .target) (val (p .content)) 0 all) ≡ 1
+Reaches all kind p = ByLine kind (p .name) (ReachesBy all p)
+
+reaches-agree : (all : List Row) (kind : ℕ) (p : Property) → ReachesBy all p (ruleOf kind (p .name)) ↔ Reaches all kind p
+reaches-agree all kind p = (to-line kind (p .name) (ReachesBy all p), from-line kind (p .name) (ReachesBy all p) (λ e. absurd (omega (arith, e))))
 
 module _ (all : List Row) (kind row start : ℕ) (s : List ℕ) where
-  resolved-right : {starts : List ℕ} {ps : List Property} → Described s starts ps → Each (λ p. FitsLine (ruleOf kind (p .name)) p) ps → (m : ℕ) →
-      (resolved m (linksAt all (linesOf kind) row start s starts) .number ≡ 0) ↔ Each (Reaches all kind) ps
+  resolved-right : {starts : List ℕ} {ps : List Property} → Described s starts ps → Each (λ p. FitsRule (ruleOf kind (p .name)) p) ps → (m : ℕ) →
+      (resolved m (linksAt all (linesOf kind) row start s starts) .number ≡ 0) ↔ Each (λ p. ReachesBy all p (ruleOf kind (p .name))) ps
   unfolding linksAt resolved
   resolved-right none fits m = (λ e. tt, λ h. refl)
   resolved-right (one {at} {p} {starts} {ps} a d) fits m =
@@ -54,9 +66,13 @@ module _ (all : List Row) (kind row start : ℕ) (s : List ℕ) where
 
 -- for callers
 module _ (all : List Row) (kind row start n m : ℕ) (s : List ℕ) (good : GoodBody n s)
-    (fits : Each (λ p. FitsLine (ruleOf kind (p .name)) p) (good .properties)) where
+    (fits : Each (λ p. ByLine kind (p .name) (λ l. FitsLine l p)) (good .properties)) where
   pub links-reach : resolved m (linksAt all (linesOf kind) row start s (properties s n .starts)) .number ≡ 0 → Each (Reaches all kind) (good .properties)
-  links-reach = resolved-right all kind row start s (described n s good) fits m .0
+  links-reach e =
+      each-map (λ p. reaches-agree all kind p .0) (good .properties)
+      (resolved-right all kind row start s (described n s good) (fits-rules kind (good .properties) .1 fits) m .0 e)
 
   pub links-good : Each (Reaches all kind) (good .properties) → resolved m (linksAt all (linesOf kind) row start s (properties s n .starts)) .number ≡ 0
-  links-good = resolved-right all kind row start s (described n s good) fits m .1
+  links-good h =
+      resolved-right all kind row start s (described n s good) (fits-rules kind (good .properties) .1 fits) m .1
+      (each-map (λ p. reaches-agree all kind p .1) (good .properties) h)

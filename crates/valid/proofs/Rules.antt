@@ -13,8 +13,11 @@ use Rattle.judge.specs.Properties.{has, besideOf}
 use Rattle.judge.specs.Judge.{refuse, typed, lacks, valued, nodeFaces, nodeLinks, andThen, verdictAt, judgedBy, judgedAt, judged}
 use Rattle.format.specs.Layout.{Property, GoodBody}
 use Rattle.valid.specs.Obeys.{Obeys}
+use Rattle.valid.proofs.Ruled.{ObeysRules}
+use Rattle.valid.proofs.Agree.{obeys-agree}
 use Rattle.valid.proofs.Says.{Says}
-use Rattle.valid.proofs.Described.{Described, described, each-map}
+use Rattle.valid.proofs.Described.{Described, described}
+use Rattle.format.proofs.Each.{each-map}
 use Rattle.valid.proofs.Types.{refused, typed-right}
 use Rattle.valid.proofs.Missing.{lacks-none}
 use Rattle.valid.proofs.Beside.{beheld}
@@ -33,7 +36,7 @@ unfolding firstNamed
 none-before s name = (λ e. false≢true e, λ h. absurd h)
 
 module _ (kind : ℕ) (s : List ℕ) (bones : ℕ) where
-  verdict-right : {starts : List ℕ} {ps : List Property} → Described s starts ps → (verdictAt kind (linesOf kind) s starts bones .number ≡ 0) ↔ Obeys kind ps bones
+  verdict-right : {starts : List ℕ} {ps : List Property} → Described s starts ps → (verdictAt kind (linesOf kind) s starts bones .number ≡ 0) ↔ ObeysRules kind ps bones
   unfolding verdictAt
   verdict-right {starts} {ps} d =
       let types = typed-right kind s (λ name. ⊥) [] (none-before s) d in
@@ -57,7 +60,7 @@ module _ (kind : ℕ) (s : List ℕ) (bones : ℕ) where
             ),
       )
 
-  judged-right : (n : ℕ) (good : GoodBody n s) → (judged kind n s bones .number ≡ 0) ↔ Obeys kind (good .properties) bones
+  judged-right : (n : ℕ) (good : GoodBody n s) → (judged kind n s bones .number ≡ 0) ↔ ObeysRules kind (good .properties) bones
   unfolding judged judgedAt
   judged-right n good =
       let starts = properties s n .starts in
@@ -66,8 +69,11 @@ module _ (kind : ℕ) (s : List ℕ) (bones : ℕ) where
 
 -- for callers: what is not refused obeys the rules, and what obeys them is not refused
 module _ (kind n : ℕ) (s : List ℕ) (bones : ℕ) (good : GoodBody n s) where
+  abbrev agree : ObeysRules kind (good .properties) bones ↔ Obeys kind (good .properties) bones
+  agree = obeys-agree kind (good .properties) bones (good .good)
+
   pub obeyed : judged kind n s bones .number ≡ 0 → Obeys kind (good .properties) bones
-  obeyed = judged-right kind s bones n good .0
+  obeyed e = agree .0 (judged-right kind s bones n good .0 e)
 
   pub accepted : Obeys kind (good .properties) bones → judged kind n s bones .number ≡ 0
-  accepted = judged-right kind s bones n good .1
+  accepted o = judged-right kind s bones n good .1 (agree .1 o)

@@ -18,12 +18,14 @@ use Rattle.judge.specs.Properties.{ruleAt, restAt}
 use Rattle.judge.specs.Judge.{heldFaces, nodeFaces}
 use Rattle.format.specs.Layout.{Each, Property, propertyBytes, GoodBody}
 use Rattle.format.proofs.Properties.{length-property}
-use Rattle.valid.specs.Obeys.{FitsLine, Obeys}
+use Rattle.valid.specs.Obeys.{Obeys}
+use Rattle.valid.proofs.Ruled.{FitsRule}
+use Rattle.valid.proofs.Agree.{fits-rules}
 use Rattle.valid.proofs.Described.{At, Described, none, one, described}
 use Rattle.valid.proofs.Lines.{faces-line}
 use Rattle.valid.proofs.Values.{takes-number, elements-most}
 
-property-faces : (kind : ℕ) (s : List ℕ) {at : ℕ} {p : Property} → At s at p → FitsLine (ruleOf kind (p .name)) p
+property-faces : (kind : ℕ) (s : List ℕ) {at : ℕ} {p : Property} → At s at p → FitsRule (ruleOf kind (p .name)) p
     → length (heldFaces (ruleAt (linesOf kind) s at) s at) ≤ length (propertyBytes p)
 property-faces kind s {at} {p} here fits =
     let l = ruleOf kind (p .name) in
@@ -34,7 +36,7 @@ property-faces kind s {at} {p} here fits =
     (omega (arith, elements-most here number, length-property p)))
     (λ t. rw t (omega arith)))
 
-node-faces : (kind : ℕ) (s starts : List ℕ) (ps : List Property) → Described s starts ps → Each (λ p. FitsLine (ruleOf kind (p .name)) p) ps
+node-faces : (kind : ℕ) (s starts : List ℕ) (ps : List Property) → Described s starts ps → Each (λ p. FitsRule (ruleOf kind (p .name)) p) ps
     → length (nodeFaces (linesOf kind) s starts) ≤ length (flatMap propertyBytes ps)
 unfolding nodeFaces flatMap
 node-faces kind s [] [] none h = omega arith
@@ -48,4 +50,4 @@ pub faces-most : (kind n : ℕ) (s : List ℕ) (bones : ℕ) (good : GoodBody n 
     → length (nodeFaces (linesOf kind) s (properties s n .starts)) ≤ length s
 faces-most kind n s bones good obeys =
     subst (λ l. length (nodeFaces (linesOf kind) s (properties s n .starts)) ≤ length l) (sym (good .bytes))
-    (node-faces kind s (properties s n .starts) (good .properties) (described n s good) (obeys .fits))
+    (node-faces kind s (properties s n .starts) (good .properties) (described n s good) (fits-rules kind (good .properties) .1 (obeys .fits)))

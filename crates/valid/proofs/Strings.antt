@@ -14,9 +14,9 @@ use Rattle.rules.specs.Rules.{isText, inSet, isOneOf}
 use Rattle.judge.specs.Properties.{keyTypes}
 use Rattle.format.specs.Layout.{Each, EndsInZero}
 use Rattle.format.proofs.Stages.{bytes-sound}
-use Rattle.valid.specs.Obeys.{Some}
+use Rattle.valid.specs.Among.{Some}
 use Rattle.valid.proofs.Says.{Says, says-eqb, says-and, says-or, says-equal}
-use Rattle.valid.proofs.Described.{each-map}
+use Rattle.format.proofs.Each.{each-map}
 use Rattle.valid.proofs.Lines.{all-letters, texts-letters, rotation-letters, visible-letters}
 
 abbrev Nonzero : ℕ → Type 0
@@ -59,12 +59,15 @@ module _ {content : List ℕ} (c : EndsInZero content) (more : List ℕ) where
   unfolding isOneOf
   says-set set = set-there set texts texts-letters
 
+-- alone
+pub says-string : {content : List ℕ} → EndsInZero content → (string : List ℕ) → bytesOk string ≡ true → Says (isText content string) (content ≡ string ++ (0 ∷ []))
+says-string {content} c string e = rw (append-nil content) at (says-text c [] string e)
+
 -- so what follows does not matter
 module _ {content : List ℕ} (c : EndsInZero content) (more : List ℕ) where
   text-alone : (string : List ℕ) → bytesOk string ≡ true → isText (content ++ more) string ≡ isText content string
   text-alone string e =
-      says-equal (isText (content ++ more) string) (isText content string) (says-text c more string e)
-      (rw (append-nil content) at (says-text c [] string e))
+      says-equal (isText (content ++ more) string) (isText content string) (says-text c more string e) (says-string c string e)
 
   pub key-alone : keyTypes (content ++ more) ≡ keyTypes content
   key-alone = rw (text-alone (letters "rq") rotation-letters, text-alone (letters "vb") visible-letters)

@@ -14,7 +14,8 @@ use Rattle.judge.specs.Properties.{has}
 use Rattle.judge.specs.declared.Verdict.{Verdict}
 use Rattle.judge.specs.Judge.{refuse, isMistyped, typed}
 use Rattle.format.specs.Layout.{Each, Property}
-use Rattle.valid.specs.Obeys.{Has, Distinct, FitsLine}
+use Rattle.valid.specs.Obeys.{Has, Distinct}
+use Rattle.valid.proofs.Ruled.{FitsRule}
 use Rattle.valid.proofs.Says.{Says, says-eqb, says-same, says-or, Fails, fails, fails-not, fails-and, fails-or}
 use Rattle.valid.proofs.Described.{At, Described, none, one}
 use Rattle.valid.proofs.Names.{has-snoc}
@@ -24,7 +25,7 @@ refused true n at v h = (λ e. absurd (h e), λ p. absurd (true≢false (p .0)))
 refused false n at v h = (λ e. (refl, e), λ p. p .1)
 
 -- ---- a property fits its line
-fits : (l : Line) (p : Property) → Fails (misfits l (p .code) (p .elements)) (FitsLine l p)
+fits : (l : Line) (p : Property) → Fails (misfits l (p .code) (p .elements)) (FitsRule l p)
 fits l p =
     let one = fails-not (eqb (p .elements) 1) (says-eqb (p .elements) 1) in
     fails-or (not (takes (l .types) (p .code))) _ (fails-not (takes (l .types) (p .code)) Iff·rfl)
@@ -46,14 +47,14 @@ module _ (H : List ℕ → Type 0) (name : List ℕ) where
 -- ---- all of 13, behind some properties that have the names H
 module _ (kind : ℕ) (s : List ℕ) where
   mistyped : (H : List ℕ → Type 0) (before : List ℕ) → ((name : List ℕ) → Says (has s before name) (H name)) →
-      {at : ℕ} {p : Property} → At s at p → Fails (isMistyped (linesOf kind) s before at) ((H (p .name) → ⊥) × FitsLine (ruleOf kind (p .name)) p)
+      {at : ℕ} {p : Property} → At s at p → Fails (isMistyped (linesOf kind) s before at) ((H (p .name) → ⊥) × FitsRule (ruleOf kind (p .name)) p)
   mistyped H before h {at} {p} a =
       rw (a .name, a .code, a .elements)
       (fails-or (has s before (p .name)) _ (fails (has s before (p .name)) (h (p .name))) (fits (ruleOf kind (p .name)) p))
 
   pub typed-right : (H : List ℕ → Type 0) (before : List ℕ) → ((name : List ℕ) → Says (has s before name) (H name)) →
       {starts : List ℕ} {ps : List Property} → Described s starts ps →
-      (typed (linesOf kind) s before starts .number ≡ 0) ↔ Each (λ p. H (p .name) → ⊥) ps × Distinct ps × Each (λ p. FitsLine (ruleOf kind (p .name)) p) ps
+      (typed (linesOf kind) s before starts .number ≡ 0) ↔ Each (λ p. H (p .name) → ⊥) ps × Distinct ps × Each (λ p. FitsRule (ruleOf kind (p .name)) p) ps
   unfolding typed
   typed-right H before h none = (λ e. (tt, tt, tt), λ p. refl)
   typed-right H before h (one {at} {p} {starts} {ps} a d) =

@@ -1,2 +1,4 @@
+pub mod Among
+pub mod Lines
 pub mod Obeys
 pub mod Valid

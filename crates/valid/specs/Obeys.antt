@@ -1,8 +1,9 @@
 -- Document 01's rules of a node's properties, as propositions: no refusal's number, no place, no order.
-use Prim.Native.Nat.{ℕ, zero, suc, _*_, _≤_, _<_}
+use Prim.Native.Nat.{ℕ, zero, suc, _+_, _*_, _^_, _≤_, _<_}
+use Prim.Native.String.{String}
 use mathlib.Core.Path.{_≡_}
 use mathlib.Core.Logic.{_⊎_}
-use mathlib.Core.Bool.{true, cond}
+use mathlib.Core.Bool.{cond}
 use mathlib.Core.List.{List, [], _∷_, _++_}
 use lib.IntN.{ℤ, pos, negsuc}
 use Rattle.le.specs.Le.{numberAt}
@@ -10,15 +11,10 @@ use Rattle.names.specs.Names.{same}
 use Rattle.kinds.specs.Kinds.{mesh}
 use Rattle.faces.specs.Faces.{widthOf}
 use Rattle.rules.specs.declared.Line.{Line}
-use Rattle.rules.specs.Table.{letters, single, required, lines, nameOf, texts, stringOf, flag, oneOf, vertices, weights, faces, indices, keys, boneNumber, float}
-use Rattle.rules.specs.Rules.{takes, ruleOf}
-use Rattle.judge.specs.Judge.{signed}
-use Rattle.judge.specs.Properties.{keyTypes}
+use Rattle.rules.specs.Table.{letters, single, required, lines, nameOf, texts, stringOf, flag, oneOf, vertices, weights, faces, indices, keys, boneNumber, float, v4}
 use Rattle.format.specs.Layout.{Each, Property}
-
-abbrev pub Some : {A : Type 0} → (A → Type 0) → List A → Type 0
-Some P [] = ⊥
-Some P (x ∷ xs) = P x ⊎ Some P xs
+use Rattle.valid.specs.Among.{Some}
+use Rattle.valid.specs.Lines.{ByLine, IsN, Takes}
 
 -- ---- what is asked of a node's properties together
 
@@ -33,7 +29,7 @@ Distinct (p ∷ ps) = (Has (p .name) ps → ⊥) × Distinct ps
 
 -- not "listed name with another type or length"
 abbrev pub FitsLine : Line → Property → Type 0
-FitsLine l p = (takes (l .types) (p .code) ≡ true) × (l .array ≡ single → p .elements ≡ 1)
+FitsLine l p = Takes (l .types) (p .code) × (l .array ≡ single → p .elements ≡ 1)
 
 -- not "required ... property missing"
 abbrev pub HasRequired : (kind : ℕ) → List Property → Type 0
@@ -61,10 +57,6 @@ elementsOf name ps = ofNamed name (λ p. p .elements) 0 ps
 abbrev pub firstValueOf : (name : List ℕ) → List Property → ℕ
 firstValueOf name ps = ofNamed name (λ p. value p 0) 0 ps
 
--- the types that kp wants of kv
-abbrev pub wanted : List Property → ℕ
-wanted ps = ofNamed (letters "kp") (λ p. keyTypes (p .content)) float ps
-
 -- "Let V be a mesh's vp length"
 abbrev pub vertexCount : List Property → ℕ
 vertexCount ps = elementsOf (letters "vp") ps
@@ -74,6 +66,21 @@ pub record AreFaces (v : ℕ) (p : Property) : Type 0 where
   pub count : ℕ
   pub threes : p .elements ≡ count * 3
   pub below : (k : ℕ) → k < p .elements → value p k < v
+
+-- the property of a name is this string, which ends in a zero
+abbrev pub HasText : (name string : String) → List Property → Type 0
+HasText name string ps = Some (λ p. (p .name ≡ letters name) × (p .content ≡ letters string ++ (0 ∷ []))) ps
+
+-- "kv is v4 for rq, N for vb, f for any other kp, listed or not"
+pub record KeyTyped (ps : List Property) (code : ℕ) : Type 0 where
+  pub rotation : HasText "kp" "rq" ps → code ≡ v4
+  pub visible : HasText "kp" "vb" ps → IsN code
+  pub other : (HasText "kp" "rq" ps → ⊥) → (HasText "kp" "vb" ps → ⊥) → code ≡ float
+
+-- a number of 32 bits "is read as signed": as it is below 2^31, and less 2^32 from there on. negsuc n is -(n + 1).
+abbrev pub ReadSigned : (v : ℕ) → ℤ → Type 0
+ReadSigned v (pos n) = (n < 2 ^ 31) × (v ≡ n)
+ReadSigned v (negsuc n) = (n < 2 ^ 31) × (v + suc n ≡ 2 ^ 32)
 
 -- "-1 is no parent, otherwise it is from 0 to one less than the Bone children of that Skeleton"
 abbrev pub BoneParent : ℤ → (bones : ℕ) → Type 0
@@ -95,13 +102,14 @@ pub record Keeps (l : Line) (ps : List Property) (bones : ℕ) (p : Property) : 
   -- "BlendShape vi and vp have equal lengths"
   pub perIndex : l .held ≡ indices .held → p .elements ≡ elementsOf (letters "vi") ps
   -- "as have Curve kb and kv; kv is v4 for rq, N for vb, f for any other kp"
-  pub perKey : l .held ≡ keys .held → (p .elements ≡ elementsOf (letters "kb") ps) × (takes (wanted ps) (p .code) ≡ true)
-  pub parentRight : l .held ≡ boneNumber .held → BoneParent (signed (value p 0)) bones
+  pub perKey : l .held ≡ keys .held → (p .elements ≡ elementsOf (letters "kb") ps) × KeyTyped ps (p .code)
+  -- "Bone p is read as signed"
+  pub parentRight : l .held ≡ boneNumber .held → (z : ℤ) → ReadSigned (value p 0) z → BoneParent z bones
 
 -- all of it
 pub record Obeys (kind : ℕ) (ps : List Property) (bones : ℕ) : Type 0 where
   pub distinct : Distinct ps
-  pub fits : Each (λ p. FitsLine (ruleOf kind (p .name)) p) ps
+  pub fits : Each (λ p. ByLine kind (p .name) (λ l. FitsLine l p)) ps
   pub complete : HasRequired kind ps
   pub partnered : kind ≡ mesh → Partnered ps
-  pub keeps : Each (λ p. Keeps (ruleOf kind (p .name)) ps bones p) ps
+  pub keeps : Each (λ p. ByLine kind (p .name) (λ l. Keeps l ps bones p)) ps

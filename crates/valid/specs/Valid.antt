@@ -10,9 +10,9 @@ use Rattle.le.specs.Le.{val}
 use Rattle.kinds.specs.Kinds.{bone}
 use Rattle.kinds.specs.declared.Parent.the-variants.{None}
 use Rattle.rules.specs.Table.{linkTo}
-use Rattle.rules.specs.Rules.{ruleOf}
 use Rattle.format.specs.Forest.{Forest, end, known, unknown, fileOf}
 use Rattle.format.specs.Layout.{Each, Property, GoodBody, WellFormedFile, Placed, Few}
+use Rattle.valid.specs.Lines.{ByLine}
 use Rattle.valid.specs.Obeys.{Obeys}
 
 -- ---- rules
@@ -46,8 +46,7 @@ reaches kind hash (unknown k h p c rest next) = cond (eqb k kind && eqb h hash) 
 
 -- a property that its line makes a link: "exactly one node of that kind in the file has that hash"
 abbrev pub Links : (file : Forest) (kind : ℕ) → Property → Type 0
-Links file kind p =
-    ruleOf kind (p .name) .held ≡ linkTo 0 .held → reaches (ruleOf kind (p .name) .target) (val (p .content)) file ≡ 1
+Links file kind p = ByLine kind (p .name) (λ l. l .held ≡ linkTo 0 .held → reaches (l .target) (val (p .content)) file ≡ 1)
 
 abbrev pub NodeLinked : (file : Forest) (beside kind count : ℕ) (body : List ℕ) → Type 0
 NodeLinked file beside kind count body = (good : GoodBody count body) → Each (Links file kind) (good .properties)

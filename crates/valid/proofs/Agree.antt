@@ -1,0 +1,256 @@
+-- The rules as the reading goes by them are the rules in document 01's words: types, kv's type by kp, and signed numbers.
+use Prim.Native.Nat.{ℕ, zero, suc, _+_, _-_, _^_, _≤_, _<_}
+use native.Mathlib.Omega.{arith}
+use mathlib.Core.Path.{_≡_, refl, sym, ap, _∙_}
+use mathlib.Core.Logic.{_⊎_, inl, inr, _↔_, ⊎-elim, Iff·trans}
+use mathlib.Core.Bool.{Bool, true, false, cond, not, _||_, false≢true}
+use mathlib.Core.List.{List, [], _∷_, _++_}
+use lib.Dec.{eqb, ltb}
+use lib.IntN.{ℤ, pos, negsuc}
+use borrow.Author.Tests.{eq-eqb, eqb-true, eqb-false, not-true, ltb-true, ltb-false}
+use Rattle.le.proofs.Tests.{by-test}
+use Rattle.names.specs.Names.{same, bytesOk}
+use Rattle.names.proofs.Laws.{same-eq, same-refl}
+use Rattle.kinds.specs.Kinds.{curve}
+use Rattle.rules.specs.declared.Line.{Line}
+use Rattle.rules.specs.Table.{letters, lines, free, keys, byte, short, int, float, v4, string, N, keyType, anyType}
+use Rattle.rules.specs.Rules.{isN, takes, isText, ruleOf}
+use Rattle.rules.proofs.Laws.{all}
+use Rattle.judge.specs.Judge.{signed}
+use Rattle.judge.specs.Properties.{keyTypes}
+use Rattle.format.specs.Layout.{Each, Property, EndsInZero, GoodProperty}
+use Rattle.format.proofs.Each.{each-both, each-map}
+use Rattle.valid.specs.Among.{Some}
+use Rattle.valid.specs.Lines.{Lists, ByLine, IsN, IsKeyType, Takes}
+use Rattle.valid.specs.Obeys.{Has, Distinct, FitsLine, ofNamed, HasText, KeyTyped, ReadSigned, BoneParent, Keeps, Obeys}
+use Rattle.valid.proofs.Ruled.{FitsRule, wanted, KeepsRule, FitsRules, ObeysRules}
+use Rattle.valid.proofs.Says.{Says, says-eqb, says-or}
+use Rattle.valid.proofs.Lines.{keys-line, key-text, rotation-letters, visible-letters}
+use Rattle.valid.proofs.Values.{takes-string}
+use Rattle.valid.proofs.Strings.{says-string}
+use Rattle.valid.proofs.Listed.{all-each, to-line, from-line}
+
+-- ---- types
+turned : {A B C : Type 0} {b : Bool} → Says b ((A ⊎ B) ⊎ C) → Says b (A ⊎ (B ⊎ C))
+turned s = (
+  λ e. ⊎-elim (⊎-elim (λ a. inl a) (λ b. inr (inl b))) (λ c. inr (inr c)) (s .0 e),
+  λ h. s .1 (⊎-elim (λ a. inl (inl a)) (⊎-elim (λ b. inl (inr b)) (λ c. inr c)) h),
+)
+
+pub says-N : (code : ℕ) → Says (isN code) (IsN code)
+says-N code =
+    turned (says-or (eqb code byte || eqb code short) (eqb code int) (says-or (eqb code byte) (eqb code short) (says-eqb code byte) (says-eqb code short)) (says-eqb code int))
+
+says-key : (code : ℕ) → Says ((isN code || eqb code float) || eqb code v4) (IsKeyType code)
+says-key code = turned (says-or (isN code || eqb code float) (eqb code v4) (says-or (isN code) (eqb code float) (says-N code) (says-eqb code float)) (says-eqb code v4))
+
+pub says-takes : (types code : ℕ) → (types ≡ anyType → ⊥) → Says (takes types code) (Takes types code)
+says-takes types code n =
+    by-test (eqb types N)
+    (λ t.
+    let is : types ≡ N = eqb-true types N t in
+    rw t (λ e. record { number = λ k. says-N code .0 e; key = λ k. absurd (omega (arith, is, k)); own = λ k m. absurd (k is) }, λ h. says-N code .1 (h .number is)))
+    (λ t. by-test (eqb types keyType)
+    (λ u.
+    let is : types ≡ keyType = eqb-true types keyType u in
+    rw (t, u) (λ e. record { number = λ k. absurd (omega (arith, is, k)); key = λ k. says-key code .0 e; own = λ k m. absurd (m is) }, λ h. says-key code .1 (h .key is)))
+    (λ u. by-test (eqb types anyType) (λ v. absurd (n (eqb-true types anyType v)))
+    (λ v.
+    let a : types ≡ N → ⊥ = eqb-false types N t in
+    let b : types ≡ keyType → ⊥ = eqb-false types keyType u in
+    rw (t, u, v) (
+      λ e. record { number = λ k. absurd (a k); key = λ k. absurd (b k); own = λ k m. sym (eqb-true types code e) },
+      λ h. eq-eqb types code (sym (h .own a b)),
+    ))))
+
+-- no line of the table takes any type
+tests-typed : all (λ l. not (eqb (l .types) anyType)) lines ≡ true
+unfolding all lines
+tests-typed = refl
+
+lines-typed : Each (λ l. l .types ≡ anyType → ⊥) lines
+lines-typed = each-map (λ l e k. false≢true (sym (not-true _ e) ∙ eq-eqb (l .types) anyType k)) lines (all-each (λ l. not (eqb (l .types) anyType)) lines tests-typed)
+
+pub fits-agree : (kind : ℕ) (p : Property) → FitsRule (ruleOf kind (p .name)) p ↔ ByLine kind (p .name) (λ l. FitsLine l p)
+fits-agree kind p =
+    let one : (l : Line) → (l .types ≡ anyType → ⊥) → Says (takes (l .types) (p .code)) (Takes (l .types) (p .code)) = λ l n. says-takes (l .types) (p .code) n in (
+      λ h. each-map (λ l b k m. let f = b .1 k m in (one l (b .0) .0 (f .0), f .1)) lines (each-both _ _ lines .0 (lines-typed, to-line kind (p .name) (λ l. FitsRule l p) h)),
+      λ h. from-line kind (p .name) (λ l. FitsRule l p) (refl, λ e. absurd (omega (arith, e)))
+          (each-map (λ l b k m. let f = b .1 k m in (one l (b .0) .1 (f .0), f .1)) lines (each-both _ _ lines .0 (lines-typed, h))),
+    )
+
+-- ---- kv's type by kp: by the first kp, as no name stands twice
+abbrev kp : List ℕ
+kp = letters "kp"
+
+unfoldable firstIs : (text : List ℕ) → List Property → Bool
+firstIs text [] = false
+firstIs text (p ∷ ps) = cond (same (p .name) kp) (isText (p .content) text) (firstIs text ps)
+
+wanted-by : (ps : List Property) → wanted ps ≡ cond (firstIs (letters "rq") ps) v4 (cond (firstIs (letters "vb") ps) N float)
+unfolding ofNamed firstIs
+wanted-by [] = refl
+wanted-by (p ∷ ps) = by-test (same (p .name) kp) (λ t. rw t) (λ t. rw t (wanted-by ps))
+
+-- the strings of some properties named kp end in a zero
+abbrev Ends : List Property → Type 0
+Ends ps = Each (λ p. p .name ≡ kp → EndsInZero (p .content)) ps
+
+abbrev Text : (text : List ℕ) → List Property → Type 0
+Text text ps = Some (λ p. (p .name ≡ kp) × (p .content ≡ text ++ (0 ∷ []))) ps
+
+none-named : (text : List ℕ) (ps : List Property) → (Has kp ps → ⊥) → Text text ps → ⊥
+none-named text [] n h = h
+none-named text (p ∷ ps) n (inl h) = n (inl (h .0))
+none-named text (p ∷ ps) n (inr h) = none-named text ps (λ k. n (inr k)) h
+
+says-first : (text : List ℕ) → bytesOk text ≡ true → (ps : List Property) → Distinct ps → Ends ps → Says (firstIs text ps) (Text text ps)
+unfolding firstIs
+says-first text ok [] d e = (λ h. absurd (false≢true h), λ h. absurd h)
+says-first text ok (p ∷ ps) d e =
+    by-test (same (p .name) kp)
+    (λ t.
+    let named : p .name ≡ kp = same-eq (p .name) kp t in
+    let is = says-string (e .0 named) text ok in
+    let later = none-named text ps (λ h. d .0 (rw named h)) in
+    rw t (λ h. inl (named, is .0 h), λ h. ⊎-elim (λ k. is .1 (k .1)) (λ k. absurd (later k)) h))
+    (λ t.
+    let ih = says-first text ok ps (d .1) (e .1) in
+    let other : p .name ≡ kp → ⊥ = λ k. false≢true (sym t ∙ ap (λ n. same n kp) k ∙ same-refl kp) in
+    rw t (λ h. inr (ih .0 h), λ h. ⊎-elim (λ k. absurd (other (k .0))) (λ k. ih .1 k) h))
+
+-- not both rq and vb
+apart : (content : List ℕ) → content ≡ letters "rq" ++ (0 ∷ []) → content ≡ letters "vb" ++ (0 ∷ []) → ⊥
+unfolding letters
+apart content e f = let h : _≡_ {A = List ℕ} (114 ∷ 113 ∷ 0 ∷ []) (118 ∷ 98 ∷ 0 ∷ []) = sym e ∙ f in let k : _≡_ {A = ℕ} 114 118 = cc in omega (arith, k)
+
+not-both : (ps : List Property) → Distinct ps → Text (letters "rq") ps → Text (letters "vb") ps → ⊥
+not-both [] d r v = r
+not-both (p ∷ ps) d (inl r) (inl v) = apart (p .content) (r .1) (v .1)
+not-both (p ∷ ps) d (inl r) (inr v) = none-named (letters "vb") ps (λ h. d .0 (rw (r .0) h)) v
+not-both (p ∷ ps) d (inr r) (inl v) = none-named (letters "rq") ps (λ h. d .0 (rw (v .0) h)) r
+not-both (p ∷ ps) d (inr r) (inr v) = not-both ps (d .1) r v
+
+key-by : {A B : Type 0} (r v : Bool) (code : ℕ) → Says r A → Says v B → (A → B → ⊥)
+    → (takes (cond r v4 (cond v N float)) code ≡ true) ↔ ((A → code ≡ v4) × (B → IsN code) × ((A → ⊥) → (B → ⊥) → code ≡ float))
+key-by true v code r′ v′ n =
+    let is = r′ .0 refl in
+    (λ e. (λ k. sym (eqb-true v4 code e), λ k. absurd (n is k), λ k m. absurd (k is)), λ h. eq-eqb v4 code (sym (h .0 is)))
+key-by false true code r′ v′ n =
+    let is = v′ .0 refl in
+    (λ e. (λ k. absurd (n k is), λ k. says-N code .0 e, λ k m. absurd (m is)), λ h. says-N code .1 (h .1 is))
+key-by false false code r′ v′ n = (
+  λ e. (λ k. absurd (false≢true (r′ .1 k)), λ k. absurd (false≢true (v′ .1 k)), λ k m. sym (eqb-true float code e)),
+  λ h. eq-eqb float code (sym (h .2 (λ k. false≢true (r′ .1 k)) (λ k. false≢true (v′ .1 k)))),
+)
+
+key-agree : (ps : List Property) (code : ℕ) → Distinct ps → Ends ps → (takes (wanted ps) code ≡ true) ↔ KeyTyped ps code
+key-agree ps code d e =
+    let by = key-by (firstIs (letters "rq") ps) (firstIs (letters "vb") ps) code (says-first (letters "rq") rotation-letters ps d e)
+    (says-first (letters "vb") visible-letters ps d e) (not-both ps d) in
+    rw (wanted-by ps) (
+      λ h. let k = by .0 h in record { rotation = k .0; visible = k .1; other = k .2 },
+      λ k. by .1 (k .rotation, k .visible, k .other),
+    )
+
+-- ---- signed numbers
+signed-agree : (v bones : ℕ) → BoneParent (signed v) bones ↔ ((z : ℤ) → ReadSigned v z → BoneParent z bones)
+signed-agree v bones =
+    by-test (ltb v 0x80000000)
+    (λ t.
+    let low : v < 0x80000000 = ltb-true v 0x80000000 t in
+    rw t (λ h z r. positive low h z r, λ f. f (pos v) (low, refl)))
+    (λ t.
+    let high : 0x80000000 ≤ v = ltb-false v 0x80000000 t in
+    rw t (λ h z r. negative (0xFFFFFFFF - v) refl high h z r, λ f. back (0xFFFFFFFF - v) refl high f))
+  where
+    positive : v < 0x80000000 → v < bones → (z : ℤ) → ReadSigned v z → BoneParent z bones
+    positive low h (pos n) r = omega (arith, h, r .1)
+    positive low h (negsuc n) r = absurd (omega (arith, low, r .0, r .1))
+
+    negative : (m : ℕ) → 0xFFFFFFFF - v ≡ m → 0x80000000 ≤ v → BoneParent (negsuc m) bones → (z : ℤ) → ReadSigned v z → BoneParent z bones
+    negative zero e high h (pos n) r = absurd (omega (arith, high, r .0, r .1))
+    negative zero e high h (negsuc zero) r = tt
+    negative zero e high h (negsuc (suc n)) r = absurd (omega (arith, e, r .1))
+    negative (suc m) e high h z r = absurd h
+
+    back : (m : ℕ) → 0xFFFFFFFF - v ≡ m → 0x80000000 ≤ v → ((z : ℤ) → ReadSigned v z → BoneParent z bones) → BoneParent (negsuc m) bones
+    back zero e high f = tt
+    back (suc m) e high f = f (negsuc (suc m)) (omega (arith, e, high), omega (arith, e))
+
+-- ---- all of it
+module _ (kind : ℕ) (ps : List Property) (bones : ℕ) (d : Distinct ps) (good : Each GoodProperty ps) (fits : FitsRules kind ps) where
+  ends : kind ≡ curve → Ends ps
+  ends k =
+      each-map (λ p b n.
+      let code : p .code ≡ string = takes-string _ (p .code) (rw (k, n) at (b .1 .0)) key-text in
+      (rw code at (b .0 .3)) .1) ps (each-both _ _ ps .0 (good, fits))
+
+  module _ (p : Property) where
+    abbrev l : Line
+    l = ruleOf kind (p .name)
+
+    keeps-to : KeepsRule l ps bones p → Keeps l ps bones p
+    keeps-to k = record {
+      isFlag = k .isFlag;
+      isTaken = k .isTaken;
+      perVertex = k .perVertex;
+      perWeight = k .perWeight;
+      areFaces = k .areFaces;
+      perIndex = k .perIndex;
+      perKey = λ e. let h = k .perKey e in (h .0, key-agree ps (p .code) d (ends (keys-line kind (p .name) e)) .0 (h .1));
+      parentRight = λ e. signed-agree _ bones .0 (k .parentRight e);
+    }
+
+    keeps-from : Keeps l ps bones p → KeepsRule l ps bones p
+    keeps-from k = record {
+      isFlag = k .isFlag;
+      isTaken = k .isTaken;
+      perVertex = k .perVertex;
+      perWeight = k .perWeight;
+      areFaces = k .areFaces;
+      perIndex = k .perIndex;
+      perKey = λ e. let h = k .perKey e in (h .0, key-agree ps (p .code) d (ends (keys-line kind (p .name) e)) .1 (h .1));
+      parentRight = λ e. signed-agree _ bones .1 (k .parentRight e);
+    }
+
+    free-keeps : Keeps free ps bones p
+    free-keeps = record {
+      isFlag = λ e. absurd (omega (arith, e));
+      isTaken = λ e. absurd (omega (arith, e));
+      perVertex = λ e. absurd (omega (arith, e));
+      perWeight = λ e. absurd (omega (arith, e));
+      areFaces = λ e. absurd (omega (arith, e));
+      perIndex = λ e. absurd (omega (arith, e));
+      perKey = λ e. absurd (omega (arith, e));
+      parentRight = λ e. absurd (omega (arith, e));
+    }
+
+    keeps-agree : KeepsRule l ps bones p ↔ ByLine kind (p .name) (λ l. Keeps l ps bones p)
+    keeps-agree = (
+      λ k. to-line kind (p .name) (λ l. Keeps l ps bones p) (keeps-to k),
+      λ k. keeps-from (from-line kind (p .name) (λ l. Keeps l ps bones p) free-keeps k),
+    )
+
+pub fits-rules : (kind : ℕ) (ps : List Property) → FitsRules kind ps ↔ Each (λ p. ByLine kind (p .name) (λ l. FitsLine l p)) ps
+fits-rules kind ps = (each-map (λ p. fits-agree kind p .0) ps, each-map (λ p. fits-agree kind p .1) ps)
+
+pub obeys-agree : (kind : ℕ) (ps : List Property) (bones : ℕ) → Each GoodProperty ps → ObeysRules kind ps bones ↔ Obeys kind ps bones
+obeys-agree kind ps bones good = (
+  λ o. record {
+    distinct = o .distinct;
+    fits = fits-rules kind ps .0 (o .fits);
+    complete = o .complete;
+    partnered = o .partnered;
+    keeps = each-map (λ p. keeps-agree kind ps bones (o .distinct) good (o .fits) p .0) ps (o .keeps);
+  },
+  λ o.
+      let fits = fits-rules kind ps .1 (o .fits) in
+      record {
+        distinct = o .distinct;
+        fits = fits;
+        complete = o .complete;
+        partnered = o .partnered;
+        keeps = each-map (λ p. keeps-agree kind ps bones (o .distinct) good fits p .1) ps (o .keeps);
+      },
+)

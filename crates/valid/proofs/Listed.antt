@@ -1,0 +1,137 @@
+-- The line that the reading's search finds is the one of its kind that lists the name: no two lines of the table meet in a name.
+use Prim.Native.Nat.{ℕ, zero, suc, _<_}
+use native.Mathlib.Omega.{arith}
+use mathlib.Core.Path.{_≡_, refl, sym, ap, _∙_, subst}
+use mathlib.Core.Logic.{_⊎_, inl, inr, _↔_}
+use mathlib.Core.Bool.{Bool, true, false, cond, not, _&&_, _||_, false≢true, and-eq-true-iff}
+use mathlib.Core.List.{List, [], _∷_, _++_}
+use lib.Dec.{eqb}
+use lib.ListN.{length, getD}
+use borrow.Author.Tests.{eq-eqb, eqb-true, eqb-false, not-true}
+use Rattle.le.specs.Le.{val, le, numberAt}
+use Rattle.le.proofs.Tests.{by-test}
+use Rattle.names.specs.Names.{same, decimal, number}
+use Rattle.names.specs.Names.{numbered as numberIn}
+use Rattle.names.proofs.Laws.{same-refl}
+use Rattle.rules.specs.declared.Line.{Line}
+use Rattle.rules.specs.Table.{letters, numbered, unpacked, lines, free, nameOf}
+use Rattle.rules.specs.Rules.{isNumber, lists, ruleIn, ofKind, linesOf, ruleOf}
+use Rattle.rules.proofs.Laws.{all}
+use Rattle.format.specs.Layout.{Each}
+use Rattle.valid.specs.Lines.{Numbered, Lists, ByLine}
+use Rattle.valid.proofs.Says.{Says, says-same}
+use Rattle.valid.proofs.Decimals.{says-numbered}
+use Rattle.format.proofs.Each.{each-map}
+
+pub says-lists : (l : Line) (name : List ℕ) → Says (lists l name) (Lists l name)
+unfolding lists
+says-lists l name =
+    by-test (eqb (l .numbered) numbered)
+    (λ t.
+    let is = says-numbered name (nameOf l) in
+    rw t (λ e. inl (eqb-true (l .numbered) numbered t, is .0 e), by is (eqb-true (l .numbered) numbered t)))
+    (λ t.
+    let is = says-same name (nameOf l) in
+    rw t (λ e. inr (eqb-false (l .numbered) numbered t, is .0 e), other is (eqb-false (l .numbered) numbered t)))
+  where
+    by : {b : Bool} → Says b (Numbered (nameOf l) name) → l .numbered ≡ numbered → Lists l name → b ≡ true
+    by is n (inl h) = is .1 (h .1)
+    by is n (inr h) = absurd (h .0 n)
+
+    other : {b : Bool} → Says b (name ≡ nameOf l) → (l .numbered ≡ numbered → ⊥) → Lists l name → b ≡ true
+    other is n (inl h) = absurd (n (h .0))
+    other is n (inr h) = is .1 (h .1)
+
+-- ---- two lines meet where one name may be listed by both
+unfoldable startAlike : (a b : List ℕ) → Bool
+startAlike [] b = true
+startAlike (x ∷ a) [] = true
+startAlike (x ∷ a) (y ∷ b) = eqb x y
+
+unfoldable meet : Line → Line → Bool
+meet l m = cond (eqb (l .numbered) numbered)
+    (cond (eqb (m .numbered) numbered) (startAlike (nameOf l) (nameOf m)) (isNumber (numberIn (nameOf m) (nameOf l))))
+    (cond (eqb (m .numbered) numbered) (isNumber (numberIn (nameOf l) (nameOf m))) (same (nameOf l) (nameOf m)))
+
+alike : (a b c d : List ℕ) → a ++ b ≡ c ++ d → startAlike a c ≡ true
+unfolding startAlike
+alike [] b c d e = refl
+alike (x ∷ a) b [] d e = refl
+alike (x ∷ a) b (y ∷ c) d e = let h : x ≡ y = cc in eq-eqb x y h
+
+both-meet : (l m : Line) (name : List ℕ) → Lists l name → Lists m name → meet l m ≡ true
+unfolding meet
+both-meet l m name (inl h) (inl k) =
+    rw (eq-eqb _ _ (h .0), eq-eqb _ _ (k .0)) (alike (nameOf l) _ (nameOf m) _ (sym (h .1 .spelt) ∙ k .1 .spelt))
+both-meet l m name (inl h) (inr k) =
+    by-test (eqb (m .numbered) numbered) (λ t. absurd (k .0 (eqb-true _ _ t)))
+    (λ t. rw (eq-eqb _ _ (h .0), t) (says-numbered (nameOf m) (nameOf l) .1 (subst (Numbered (nameOf l)) (k .1) (h .1))))
+both-meet l m name (inr h) (inl k) =
+    by-test (eqb (l .numbered) numbered) (λ t. absurd (h .0 (eqb-true _ _ t)))
+    (λ t. rw (t, eq-eqb _ _ (k .0)) (says-numbered (nameOf l) (nameOf m) .1 (subst (Numbered (nameOf m)) (h .1) (k .1))))
+both-meet l m name (inr h) (inr k) =
+    by-test (eqb (l .numbered) numbered) (λ t. absurd (h .0 (eqb-true _ _ t)))
+    (λ t. by-test (eqb (m .numbered) numbered) (λ u. absurd (k .0 (eqb-true _ _ u)))
+    (λ u. rw (t, u) (says-same (nameOf l) (nameOf m) .1 (sym (h .1) ∙ k .1))))
+
+-- ---- no line meets a later one of its kind
+abbrev clear : Line → Line → Bool
+clear l m = not (eqb (m .kind) (l .kind) && meet l m)
+
+unfoldable allClear : List Line → Bool
+allClear [] = true
+allClear (l ∷ ls) = all (clear l) ls && allClear ls
+
+table-clear : allClear lines ≡ true
+unfolding allClear all meet startAlike numberIn number decimal same letters lines unpacked le val numberAt
+table-clear = refl
+
+pub all-each : {A : Type 0} (test : A → Bool) (xs : List A) → all test xs ≡ true → Each (λ x. test x ≡ true) xs
+unfolding all
+all-each test [] e = tt
+all-each test (x ∷ xs) e = let both = and-eq-true-iff (test x) (all test xs) .0 e in (both .0, all-each test xs (both .1))
+
+-- ---- the line of a kind and name
+module _ (kind : ℕ) (name : List ℕ) where
+  abbrev Named : (Line → Type 0) → List Line → Type 0
+  Named P ls = Each (λ l. l .kind ≡ kind → Lists l name → P l) ls
+
+  -- a later line that is of the kind and lists the name is not met by the first
+  later : (l : Line) (ls : List Line) → Each (λ m. clear l m ≡ true) ls → Named (λ m. m ≡ ruleIn (ofKind ls kind) name) ls
+      → Named (λ m. m ≡ ruleIn (ofKind (l ∷ ls) kind) name) ls
+  unfolding ofKind ruleIn
+  later l ls c ih =
+      by-test (eqb (l .kind) kind)
+      (λ t. by-test (lists l name)
+      (λ u. each-map (λ m n k h.
+      let here : l .kind ≡ kind = eqb-true (l .kind) kind t in
+      let same : eqb (m .kind) (l .kind) ≡ true = eq-eqb (m .kind) (l .kind) (k ∙ sym here) in
+      let clash : (eqb (m .kind) (l .kind) && meet l m) ≡ true = rw same (both-meet l m name (says-lists l name .0 u) h) in
+      absurd (false≢true (sym (not-true _ n) ∙ clash))) ls c)
+      (λ u. rw (t, u) ih))
+      (λ t. rw t ih)
+
+  only : (ls : List Line) → allClear ls ≡ true → Named (λ l. l ≡ ruleIn (ofKind ls kind) name) ls
+  unfolding allClear ofKind ruleIn
+  only [] e = tt
+  only (l ∷ ls) e =
+      let both = and-eq-true-iff (all (clear l) ls) (allClear ls) .0 e in
+      (λ k h. rw (eq-eqb (l .kind) kind k, says-lists l name .1 h), later l ls (all-each (clear l) ls (both .0)) (only ls (both .1)))
+
+  pub to-line : (P : Line → Type 0) → P (ruleOf kind name) → ByLine kind name P
+  unfolding linesOf
+  to-line P h = each-map (λ l e k n. subst P (sym (e k n)) h) lines (only lines table-clear)
+
+  from-some : (P : Line → Type 0) (ls : List Line) → P free → Named P ls → P (ruleIn (ofKind ls kind) name)
+  unfolding ofKind ruleIn
+  from-some P [] f h = f
+  from-some P (l ∷ ls) f h =
+      by-test (eqb (l .kind) kind)
+      (λ t. by-test (lists l name)
+      (λ u. rw (t, u) (h .0 (eqb-true (l .kind) kind t) (says-lists l name .0 u)))
+      (λ u. rw (t, u) (from-some P ls f (h .1))))
+      (λ t. rw t (from-some P ls f (h .1)))
+
+  pub from-line : (P : Line → Type 0) → P free → ByLine kind name P → P (ruleOf kind name)
+  unfolding linesOf
+  from-line P f h = from-some P lines f h

@@ -1,0 +1,42 @@
+-- Which line of the table of rules speaks of a property, and which type codes it takes, as propositions: "a line per kind and
+-- name".
+use Prim.Native.Nat.{ℕ, _<_}
+use mathlib.Core.Path.{_≡_}
+use mathlib.Core.Logic.{_⊎_}
+use mathlib.Core.List.{List, _++_}
+use Rattle.text.specs.Text.{decimal}
+use Rattle.rules.specs.declared.Line.{Line}
+use Rattle.rules.specs.Table.{numbered, lines, nameOf, byte, short, int, float, v4, N, keyType}
+use Rattle.format.specs.Layout.{Each}
+
+-- ---- names
+
+-- "`%d` is one to three digits, no leading zero unless it is `0`": a prefix, and then a number below 1,000 in decimal
+pub record Numbered (prefix name : List ℕ) : Type 0 where
+  pub number : ℕ
+  pub below : number < 1000
+  pub spelt : name ≡ prefix ++ decimal number
+
+-- a line lists a name: as it stands, or with `%d` after it
+abbrev pub Lists : Line → (name : List ℕ) → Type 0
+Lists l name = ((l .numbered ≡ numbered) × Numbered (nameOf l) name) ⊎ ((l .numbered ≡ numbered → ⊥) × (name ≡ nameOf l))
+
+-- what the line of a kind and name says of a property; "Names not listed are free"
+abbrev pub ByLine : (kind : ℕ) (name : List ℕ) → (Line → Type 0) → Type 0
+ByLine kind name P = Each (λ l. l .kind ≡ kind → Lists l name → P l) lines
+
+-- ---- types
+
+-- "`N` any of `b h i`"
+abbrev pub IsN : ℕ → Type 0
+IsN code = (code ≡ byte) ⊎ ((code ≡ short) ⊎ (code ≡ int))
+
+-- kv's "one of b h i f v4"
+abbrev pub IsKeyType : ℕ → Type 0
+IsKeyType code = IsN code ⊎ ((code ≡ float) ⊎ (code ≡ v4))
+
+-- a line's types take a type code: N and kv's take several, any other is the one code itself
+pub record Takes (types code : ℕ) : Type 0 where
+  pub number : types ≡ N → IsN code
+  pub key : types ≡ keyType → IsKeyType code
+  pub own : (types ≡ N → ⊥) → (types ≡ keyType → ⊥) → code ≡ types
