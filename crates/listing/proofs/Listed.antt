@@ -11,9 +11,9 @@ use Rattle.walk.specs.Walk.{limited}
 use Rattle.reader.specs.declared.Account.{Account}
 use Rattle.reader.specs.declared.Reading.the-variants.{Accepted, Refused}
 use Rattle.reader.specs.Reading.{verdict}
-use Rattle.reader.specs.Acceptance.{IsValid, AnswerOf}
+use Rattle.reader.specs.Acceptance.{IsValid, RowsGive}
 use Rattle.reader.proofs.Charges.{own-split}
-use Rattle.reader.proofs.Exactly.{valid-answer}
+use Rattle.reader.proofs.Exactly.{valid-gives}
 use Rattle.reader.proofs.Accepted.{seen, rows-are}
 use Rattle.listing.specs.declared.Line.the-variants.{Refusal, TooLong}
 use Rattle.listing.specs.Listing.{textOf, totalOf, fileLines, printed, listingOf}
@@ -24,8 +24,8 @@ module _ (s : List ℕ) (bytes : AreBytes s) {a : Account} (e : verdict s ≡ Ac
   abbrev forest : IsValid s
   forest = seen s e bytes
 
-  answer : AnswerOf s (rowsOf (forest .forest)) a
-  answer = valid-answer s (forest .flags) (forest .forest) (forest .valid) (forest .bytes) a e
+  answer : RowsGive s (rowsOf (forest .forest)) a
+  answer = valid-gives s (forest .flags) (forest .forest) (forest .valid) (forest .bytes) a e
 
   pub total-is : totalOf a ≡ length s
   total-is = answer .sum

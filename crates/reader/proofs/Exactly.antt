@@ -6,7 +6,7 @@ use mathlib.Core.Logic.{_↔_, inr}
 use mathlib.Core.Bool.{Bool, true, false, false≢true}
 use mathlib.Core.List.{List, [], _++_, append-nil}
 use lib.Dec.{ltb}
-use lib.ListN.{length}
+use lib.ListN.{length, length-map}
 use borrow.Author.Tests.{ltb-true, ltb-false}
 use Rattle.le.specs.Le.{val, AreBytes}
 use Rattle.le.proofs.Tests.{by-test}
@@ -15,6 +15,7 @@ use Rattle.table.specs.Table.{noParent, hasRoom}
 use Rattle.body.specs.Body.{properties}
 use Rattle.rules.specs.Table.{lines}
 use Rattle.rules.specs.Rules.{linesOf}
+use Rattle.faces.specs.Faces.{degenerate}
 use Rattle.judge.specs.Judge.{judged}
 use Rattle.format.specs.Forest.{Forest, end, known, unknown, nodes, encode, count, fileHeader, fileOf}
 use Rattle.format.specs.Rows.{rows, rowsOf, bodyOf}
@@ -30,16 +31,20 @@ use Rattle.walk.proofs.Laws.{limited-is}
 use Rattle.walk.proofs.Sound.{sound}
 use Rattle.walk.proofs.Complete.{complete}
 use Rattle.valid.specs.Valid.{bones, reaches, EachKnown, NodeRuled, Links, NodeLinked, Valid}
+use Rattle.valid.specs.Nodes.{nodesOf, allFaces}
 use Rattle.valid.proofs.Rules.{obeyed, accepted}
-use Rattle.valid.proofs.Links.{Reaches, links-reach, links-good}
+use Rattle.valid.proofs.Picks.{degenerate-picked}
+use Rattle.valid.proofs.Links.{RowReached, links-reach, links-good}
 use Rattle.reader.specs.declared.Account.{Account}
 use Rattle.reader.specs.declared.Reading.{Reading}
 use Rattle.reader.specs.declared.Reading.the-variants.{Accepted, Refused}
 use Rattle.reader.specs.Reading.{bonesUnder, judgedRow, ruled, byNumber, accountOf, checked, verdict, readingOf, tableAfter}
-use Rattle.reader.specs.Acceptance.{IsValid, Exactly, AnswerOf, AnswersTheRules, OneForest}
+use Rattle.reader.specs.Acceptance.{IsValid, Exactly, byRow, byNode, AnswerOf, RowsGive, AnswersTheRules, OneForest}
 use Rattle.reader.proofs.Counts.{own-under, reached-nodes}
 use Rattle.reader.proofs.Nodes.{KnownRow, UnknownRow, each-known}
 use Rattle.reader.proofs.Charges.{own-split, ruled-counts, resolved-counts}
+use Rattle.reader.proofs.InStep.{valid-step, length-step, faces-step, known-bytes, unknown-bytes}
+use Rattle.reader.proofs.NodeLinks.{links-step}
 use Rattle.reader.proofs.Judging.{judged-known, judged-unknown}
 use Rattle.reader.proofs.Stages.{RightRow, LinkedRow, ruled-each, linked-each}
 
@@ -71,7 +76,7 @@ module _ (s : List ℕ) (f : Forest) where
   reach-here : (target : ℕ) (p : Property) → length (reached target (val (p .content)) 0 all) ≡ reaches target (val (p .content)) f
   reach-here target p = reached-nodes target (val (p .content)) f 0 noParent 0 16
 
-  reach-nodes : (kind : ℕ) (p : Property) → Reaches all kind p ↔ Links f kind p
+  reach-nodes : (kind : ℕ) (p : Property) → RowReached all kind p ↔ Links f kind p
   reach-nodes kind p = (
     each-map (λ l h k n e. sym (reach-here (l .target) p) ∙ h k n e) lines,
     each-map (λ l h k n e. reach-here (l .target) p ∙ h k n e) lines,
@@ -213,28 +218,61 @@ abbrev account-of : Reading → Account → Account
 account-of (Accepted a) d = a
 account-of (Refused n p) d = d
 
-answered : (s : List ℕ) (flags : ℕ) (f : Forest) → Valid flags f → s ≡ fileOf flags f
-    → AnswerOf s (rowsOf f) (accountOf s (rowsOf f) (ruled s (rowsOf f) (rowsOf f)) (linked s (rowsOf f)))
-unfolding linked
-answered s flags f v e =
-    let stages = valid-stages s flags f v e in
-    let counts = ruled-counts s (rowsOf f) (rowsOf f) (stages .0) in
-    let links = resolved-counts 0 (linksOf s (rowsOf f)) (stages .1) in
-    record {
-      nodes = refl;
-      known = refl;
-      unknown = refl;
-      faces = counts .0;
-      degenerates = counts .1;
-      links = links .0 ∙ omega arith;
-      resolved = links .1;
-      sum = ap (λ n. 16 + n) (own-split (rowsOf f)) ∙ ownBytesAddUp flags f ∙ ap length (sym e);
-    }
+-- an account's numbers by the rows, and by the nodes
+module _ (s : List ℕ) (flags : ℕ) (f : Forest) (v : Valid flags f) (e : s ≡ fileOf flags f) where
+  abbrev account : Account
+  account = accountOf s (rowsOf f) (ruled s (rowsOf f) (rowsOf f)) (linked s (rowsOf f))
 
-pub valid-answer : (s : List ℕ) (flags : ℕ) (f : Forest) → Valid flags f → s ≡ fileOf flags f → (a : Account) → verdict s ≡ Accepted a → AnswerOf s (rowsOf f) a
-valid-answer s flags f v e a r =
-    let same = ap (λ x. account-of x a) (sym (valid-verdict s flags f v e) ∙ r) in
-    subst (AnswerOf s (rowsOf f)) same (answered s flags f v e)
+  rows-give : RowsGive s (rowsOf f) account
+  unfolding linked
+  rows-give =
+      let stages = valid-stages s flags f v e in
+      let counts = ruled-counts s (rowsOf f) (rowsOf f) (stages .0) in
+      let links = resolved-counts 0 (linksOf s (rowsOf f)) (stages .1) in
+      record {
+        nodes = refl;
+        known = refl;
+        unknown = refl;
+        sum = ap (λ n. 16 + n) (own-split (rowsOf f)) ∙ ownBytesAddUp flags f ∙ ap length (sym e);
+        faces = counts .0;
+        degenerates = counts .1;
+        links = links .0 ∙ omega arith;
+        resolved = links .1;
+      }
+
+  nodes-answer : AnswerOf s f (v .wellFormed .2) account
+  nodes-answer =
+      let step = valid-step s flags f v e in
+      let well = v .wellFormed .2 in
+      let faces = faces-step step in
+      let two = degenerate-picked (allFaces (nodesOf f well)) in
+      let links = links-step step (rows-give .resolved) in
+      record {
+        nodes = length-step step;
+        known = known-bytes f well noParent 0 16;
+        unknown = unknown-bytes f well noParent 0 16;
+        sum = rows-give .sum;
+        faces = rows-give .faces ∙ ap length faces;
+        twoEqual = two .those;
+        areDegenerate = two .picks;
+        degenerates = rows-give .degenerates ∙ ap degenerate faces ∙ two .count;
+        nodeLinks = links .links;
+        areLinks = links .are;
+        links =
+            rows-give .links ∙ sym (length-map (linksOf s (rowsOf f)) byRow) ∙ ap length (links .tied) ∙ length-map (links .links) byNode;
+        rowFaces = faces;
+        rowLinks = links .tied;
+      }
+
+  module _ (a : Account) (r : verdict s ≡ Accepted a) where
+    same-account : account ≡ a
+    same-account = ap (λ x. account-of x a) (sym (valid-verdict s flags f v e) ∙ r)
+
+    pub valid-gives : RowsGive s (rowsOf f) a
+    valid-gives = subst (RowsGive s (rowsOf f)) same-account rows-give
+
+    pub valid-answer : AnswerOf s f (v .wellFormed .2) a
+    valid-answer = subst (AnswerOf s f (v .wellFormed .2)) same-account nodes-answer
 
 pub answersTheRules : AnswersTheRules
 unfolding tableAfter
@@ -242,7 +280,7 @@ answersTheRules s t flags f a v e r =
     let room = has-room s t r in
     let is = valid-verdict s flags f v e in
     let r′ = sym (in-room s t room) ∙ r in
-    (ap (λ x. account-of x a .flags) (sym r′ ∙ is) ∙ valid-flags s flags f v e, valid-answer s flags f v e a r′, rw (room, is, valid-rows s flags f v e))
+    (ap (λ x. account-of x a .flags) (sym r′ ∙ is) ∙ valid-flags s flags f v e, valid-gives s flags f v e a r′, rw (room, is, valid-rows s flags f v e), valid-answer s flags f v e a r′)
 
 pub oneForest : OneForest
 oneForest a b f g v w e = encodingUnique a b f g (v .wellFormed) (w .wellFormed) e

@@ -10,3 +10,5 @@ pub mod Sizes
 pub mod Whole
 pub mod Numbers
 pub mod Accepted
+pub mod InStep
+pub mod NodeLinks

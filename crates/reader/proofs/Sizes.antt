@@ -29,7 +29,7 @@ use Rattle.reader.specs.Acceptance.{rowFaces, facesOf}
 use Rattle.reader.proofs.Counts.{own-under}
 use Rattle.reader.proofs.Nodes.{KnownRow, UnknownRow, each-known}
 use Rattle.reader.proofs.Judging.{judged-known, judged-unknown}
-use Rattle.reader.proofs.Exactly.{verdict-valid, valid-answer}
+use Rattle.reader.proofs.Exactly.{verdict-valid, valid-gives}
 
 -- ---- faces, row by row
 module _ (s : List ℕ) (f : Forest) where
@@ -77,7 +77,7 @@ small s bytes (Refused n place) e = tt
 small s bytes (Accepted a) e =
     let v = verdict-valid s bytes (sym e) in
     let f = v .forest in
-    let answer = valid-answer s (v .flags) f (v .valid) (v .bytes) a (sym e) in
+    let answer = valid-gives s (v .flags) f (v .valid) (v .bytes) a (sym e) in
     let short : length s ≤ 16777216 = subst (λ l. length l ≤ 16777216) (sym (v .bytes)) (v .valid .short) in
     let own : 16 + allOwnBytes (rowsOf f) ≡ length s = ownBytesAddUp (v .flags) f ∙ ap length (sym (v .bytes)) in
     let faces = all-faces s (rowsOf f) (each-map (λ r q. q .1) (rowsOf f) (rows-small s f (v .flags) (v .valid) (v .bytes))) in

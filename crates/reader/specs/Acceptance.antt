@@ -4,7 +4,7 @@ use Prim.Native.Nat.{ℕ, _+_}
 use mathlib.Core.Path.{_≡_}
 use mathlib.Core.Logic.{_↔_}
 use mathlib.Core.Bool.{true, cond}
-use mathlib.Core.List.{List, [], flatMap}
+use mathlib.Core.List.{List, [], _∷_, map, flatMap}
 use lib.ListN.{length}
 use Rattle.le.specs.Le.{AreBytes}
 use Rattle.kinds.specs.Kinds.{isKnown}
@@ -17,9 +17,11 @@ use Rattle.rules.specs.Rules.{linesOf}
 use Rattle.judge.specs.Judge.{nodeFaces}
 use Rattle.format.specs.Forest.{Forest, fileOf}
 use Rattle.format.specs.Rows.{rowsOf, bodyOf}
-use Rattle.format.specs.Layout.{Each}
-use Rattle.links.specs.Links.{linksOf}
+use Rattle.format.specs.Layout.{Each, WellFormed}
+use Rattle.links.specs.Links.{Link, linksOf}
+use Rattle.valid.specs.Among.{Picks}
 use Rattle.valid.specs.Valid.{Valid}
+use Rattle.valid.specs.Nodes.{nodesOf, knownBytes, unknownBytes, allFaces, TwoEqual, NodeLink, LinksAre}
 use Rattle.reader.specs.declared.Account.{Account}
 use Rattle.reader.specs.declared.Reading.the-variants.{Accepted}
 use Rattle.reader.specs.Reading.{ownKnown, ownUnknown, readingOf, tableAfter}
@@ -40,6 +42,8 @@ pub record IsAccepted (s t : List ℕ) : Type 0 where
 abbrev pub Exactly : Type 0
 Exactly = (s t : List ℕ) → AreBytes s → hasRoom t ≡ true → (IsAccepted s t ↔ IsValid s)
 
+-- ---- what is answered of an accepted file
+
 -- the faces of a row, from its body's bytes, and of all rows
 abbrev pub rowFaces : (s : List ℕ) → Row → List Face
 rowFaces s r = cond (isKnown (r .kind)) (nodeFaces (linesOf (r .kind)) (bodyOf s r) (properties (bodyOf s r) (r .properties) .starts)) []
@@ -47,25 +51,49 @@ rowFaces s r = cond (isKnown (r .kind)) (nodeFaces (linesOf (r .kind)) (bodyOf s
 unfoldable pub facesOf : (s : List ℕ) → List Row → List Face
 facesOf s rows = flatMap (rowFaces s) rows
 
--- what is answered of an accepted file, all of it by the rows and the bytes; document 01's charges are the own bytes of known
--- and of unknown nodes, and the faces
-pub record AnswerOf (s : List ℕ) (rows : List Row) (a : Account) : Type 0 where
+-- a link's row and the rows that it reaches; its node and the node that it reaches
+abbrev pub byRow : Link → ℕ × List ℕ
+byRow l = (l .row, l .targets)
+
+abbrev pub byNode : NodeLink → ℕ × List ℕ
+byNode x = (x .source .node, x .target ∷ [])
+
+-- Over the nodes and their properties (crate valid, Nodes.antt), which no count of the reading enters. Document 01's charges are
+-- the own bytes of known and of unknown nodes, and the faces.
+pub record AnswerOf (s : List ℕ) (f : Forest) (well : WellFormed f) (a : Account) : Type 0 where
+  pub nodes : a .nodes ≡ length (nodesOf f well)
+  pub known : a .known .0 ≡ knownBytes f well
+  pub unknown : a .unknown .0 ≡ unknownBytes f
+  -- "The file header and the nodes' own bytes add up to the file's length"
+  pub sum : 16 + (a .known .0 + a .unknown .0) ≡ length s
+  pub faces : a .faces .0 ≡ length (allFaces (nodesOf f well))
+  pub twoEqual : List Face
+  pub areDegenerate : Picks TwoEqual (allFaces (nodesOf f well)) twoEqual
+  pub degenerates : a .degenerate ≡ length twoEqual
+  pub nodeLinks : List NodeLink
+  pub areLinks : LinksAre (nodesOf f well) nodeLinks
+  pub links : a .links ≡ length nodeLinks
+  -- the rows have the same faces, in the same order, and the same links: node i is that of row i
+  pub rowFaces : facesOf s (rowsOf f) ≡ allFaces (nodesOf f well)
+  pub rowLinks : map byRow (linksOf s (rowsOf f)) ≡ map byNode nodeLinks
+
+-- The same by the rows and the bytes, as the reading counts: "demand 2, which ties each to the rows"
+pub record RowsGive (s : List ℕ) (rows : List Row) (a : Account) : Type 0 where
   pub nodes : a .nodes ≡ length rows
   pub known : a .known .0 ≡ ownKnown rows
   pub unknown : a .unknown .0 ≡ ownUnknown rows
+  pub sum : 16 + (a .known .0 + a .unknown .0) ≡ length s
   pub faces : a .faces .0 ≡ length (facesOf s rows)
   pub degenerates : a .degenerate ≡ degenerate (facesOf s rows)
   pub links : a .links ≡ length (linksOf s rows)
   -- each link reaches exactly one row
   pub resolved : Each (λ l. length (l .targets) ≡ 1) (linksOf s rows)
-  -- "The file header and the nodes' own bytes add up to the file's length"
-  pub sum : 16 + (a .known .0 + a .unknown .0) ≡ length s
 
 -- "its rows, links, faces and charges are those the rules give", for every way to see the file: any flags and valid
 -- nodes that encode to it, and any table
 abbrev pub AnswersTheRules : Type 0
-AnswersTheRules = (s t : List ℕ) (flags : ℕ) (f : Forest) (a : Account) → Valid flags f → s ≡ fileOf flags f → readingOf s t ≡ Accepted a
-    → (a .flags ≡ flags) × AnswerOf s (rowsOf f) a × (tableAfter s t ≡ filled (rowsOf f) t)
+AnswersTheRules = (s t : List ℕ) (flags : ℕ) (f : Forest) (a : Account) (v : Valid flags f) → s ≡ fileOf flags f → readingOf s t ≡ Accepted a
+    → (a .flags ≡ flags) × RowsGive s (rowsOf f) a × (tableAfter s t ≡ filled (rowsOf f) t) × AnswerOf s f (v .wellFormed .2) a
 
 -- and there is but one way to see it
 abbrev pub OneForest : Type 0

@@ -20,8 +20,8 @@ use Rattle.valid.specs.Valid.{Valid}
 use Rattle.reader.specs.declared.Reading.the-variants.{Accepted}
 use Rattle.reader.specs.Reading.{verdict}
 use Rattle.reader.specs.Reading.{tableAfter as readTable}
-use Rattle.reader.specs.Acceptance.{AnswerOf, rowFaces, facesOf}
-use Rattle.reader.proofs.Exactly.{valid-flags, valid-verdict, verdict-valid, valid-answer, in-room, has-room, answersTheRules}
+use Rattle.reader.specs.Acceptance.{RowsGive, rowFaces, facesOf}
+use Rattle.reader.proofs.Exactly.{valid-flags, valid-verdict, verdict-valid, valid-gives, in-room, has-room, answersTheRules}
 use Rattle.removal.specs.Tally.{Tallied, noMarks, fileLeft, tallyStep, answers, marksAfter}
 use Rattle.removal.specs.RemovalSequence.{Trimming, answerTo, fileFrom, answersOf, fileAfter, EachTrimming, fedBy, marksBy, IsRead, Goes, Leaves, IsLeft, HoldsOf, EveryList}
 use Rattle.removal.specs.Left.{unmarkedRows, bytesLeft, movedLink}
@@ -71,8 +71,8 @@ ran flags f v (c ∷ list) m e =
     }
 
 -- ---- what is left
-answer-for : (flags : ℕ) (f : Forest) → Valid flags f → AnswerOf (fileOf flags f) (rowsOf f) (accountFor flags f)
-answer-for flags f v = valid-answer (fileOf flags f) flags f v refl (accountFor flags f) (valid-verdict (fileOf flags f) flags f v refl)
+answer-for : (flags : ℕ) (f : Forest) → Valid flags f → RowsGive (fileOf flags f) (rowsOf f) (accountFor flags f)
+answer-for flags f v = valid-gives (fileOf flags f) flags f v refl (accountFor flags f) (valid-verdict (fileOf flags f) flags f v refl)
 
 module _ (flags : ℕ) (m : Marked) (v : Valid flags (bare m)) (bytes : AreBytes (fileOf flags (bare m))) where
   abbrev s : List ℕ

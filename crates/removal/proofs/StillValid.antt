@@ -9,14 +9,15 @@ use Rattle.le.specs.Le.{val}
 use Rattle.kinds.specs.declared.Parent.{Parent}
 use Rattle.kinds.specs.declared.Parent.the-variants.{None, Kind}
 use Rattle.kinds.specs.Kinds.{bone, isKnown, lineOf, lineIn, lines}
-use Rattle.rules.specs.Rules.{ruleOf}
+use Rattle.rules.specs.Table.{linkTo}
+use Rattle.rules.specs.Table.{lines as rules}
 use Rattle.format.specs.Forest.{Forest, count, encode, fileHeader, fileOf}
 use Rattle.format.specs.Layout.{Property, WellFormed, Placed}
 use Rattle.format.proofs.Headers.{length-fileHeader}
-use Rattle.format.proofs.Each.{each-map}
+use Rattle.format.proofs.Each.{each-both, each-map}
 use Rattle.valid.specs.Valid.{Valid, bones, EachKnown, reaches, Links}
 use Rattle.removal.proofs.Marked.{Marked, mend, mkn, mun, bare, kept, length-kept, count-kept, nodes-kept}
-use Rattle.removal.proofs.Targets.{target-known, unlike}
+use Rattle.removal.proofs.Targets.{targets-known, unlike}
 
 well-kept : (m : Marked) → WellFormed (bare m) → WellFormed (kept m)
 well-kept mend w = tt
@@ -66,8 +67,9 @@ module _ {P Q : (beside kind count : ℕ) (body : List ℕ) → Type 0}
   each-kept beside (mun false k h p c rest next) w e = each-kept beside next (w .3) e
 
 links-kept : (m : Marked) → WellFormed (bare m) → (kind : ℕ) (p : Property) → Links (bare m) kind p → Links (kept m) kind p
-links-kept m w kind p links e =
-    reaches-kept (ruleOf kind (p .name) .target) (val (p .content)) (target-known kind (p .name) e) m w ∙ links e
+links-kept m w kind p links =
+    each-map (λ l b k n e. reaches-kept (l .target) (val (p .content)) (b .0 e) m w ∙ b .1 k n e) rules
+    (each-both (λ l. l .held ≡ linkTo 0 .held → isKnown (l .target) ≡ true) _ rules .0 (targets-known, links))
 
 pub valid-kept : (flags : ℕ) (m : Marked) → Valid flags (bare m) → Valid flags (kept m)
 valid-kept flags m v =

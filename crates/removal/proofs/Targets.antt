@@ -13,6 +13,9 @@ use Rattle.rules.specs.declared.Line.{Line}
 use Rattle.rules.specs.Table.{lines, linkTo}
 use Rattle.rules.specs.Rules.{linesOf, ruleOf}
 use Rattle.rules.proofs.Laws.{all, ruled}
+use Rattle.format.specs.Layout.{Each}
+use Rattle.format.proofs.Each.{each-map}
+use Rattle.valid.proofs.Listed.{all-each}
 use Rattle.props.specs.Step.{nameAt}
 use Rattle.judge.specs.Properties.{ruleAt}
 
@@ -26,6 +29,9 @@ tells l = told (l .held) (l .target)
 lines-tell : all tells lines ≡ true
 unfolding all lines isKnown lineOf lineIn kindLines
 lines-tell = refl
+
+pub targets-known : Each (λ l. l .held ≡ linkTo 0 .held → isKnown (l .target) ≡ true) lines
+targets-known = each-map (λ l t e. ap (λ h. told h (l .target)) (sym e) ∙ t) lines (all-each tells lines lines-tell)
 
 pub target-known : (kind : ℕ) (name : List ℕ) → ruleOf kind name .held ≡ linkTo 0 .held → isKnown (ruleOf kind name .target) ≡ true
 target-known kind name e =

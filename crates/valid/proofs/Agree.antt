@@ -31,7 +31,7 @@ use Rattle.valid.proofs.Strings.{says-string}
 use Rattle.valid.proofs.Listed.{all-each, to-line, from-line}
 
 -- ---- types
-turned : {A B C : Type 0} {b : Bool} → Says b ((A ⊎ B) ⊎ C) → Says b (A ⊎ (B ⊎ C))
+pub turned : {A B C : Type 0} {b : Bool} → Says b ((A ⊎ B) ⊎ C) → Says b (A ⊎ (B ⊎ C))
 turned s = (
   λ e. ⊎-elim (⊎-elim (λ a. inl a) (λ b. inr (inl b))) (λ c. inr (inr c)) (s .0 e),
   λ h. s .1 (⊎-elim (λ a. inl (inl a)) (⊎-elim (λ b. inl (inr b)) (λ c. inr c)) h),

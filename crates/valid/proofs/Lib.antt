@@ -1,3 +1,5 @@
+pub mod Picks
+pub mod Meshes
 pub mod Agree
 pub mod Listed
 pub mod Decimals

@@ -34,18 +34,18 @@ one-target (t ∷ []) place next = (λ e. (refl, e), λ h. h .1)
 one-target (t ∷ u ∷ more) place next = (λ e. absurd (omega arith), λ h. absurd (omega (arith, h .0)))
 
 -- where its line makes it a link, it reaches one row
-abbrev ReachesBy : (all : List Row) → Property → Line → Type 0
-ReachesBy all p l = l .held ≡ linkTo 0 .held → length (reached (l .target) (val (p .content)) 0 all) ≡ 1
+abbrev ReachedBy : (all : List Row) → Property → Line → Type 0
+ReachedBy all p l = l .held ≡ linkTo 0 .held → length (reached (l .target) (val (p .content)) 0 all) ≡ 1
 
-abbrev pub Reaches : (all : List Row) (kind : ℕ) → Property → Type 0
-Reaches all kind p = ByLine kind (p .name) (ReachesBy all p)
+abbrev pub RowReached : (all : List Row) (kind : ℕ) → Property → Type 0
+RowReached all kind p = ByLine kind (p .name) (ReachedBy all p)
 
-reaches-agree : (all : List Row) (kind : ℕ) (p : Property) → ReachesBy all p (ruleOf kind (p .name)) ↔ Reaches all kind p
-reaches-agree all kind p = (to-line kind (p .name) (ReachesBy all p), from-line kind (p .name) (ReachesBy all p) (λ e. absurd (omega (arith, e))))
+reaches-agree : (all : List Row) (kind : ℕ) (p : Property) → ReachedBy all p (ruleOf kind (p .name)) ↔ RowReached all kind p
+reaches-agree all kind p = (to-line kind (p .name) (ReachedBy all p), from-line kind (p .name) (ReachedBy all p) (λ e. absurd (omega (arith, e))))
 
 module _ (all : List Row) (kind row start : ℕ) (s : List ℕ) where
   resolved-right : {starts : List ℕ} {ps : List Property} → Described s starts ps → Each (λ p. FitsRule (ruleOf kind (p .name)) p) ps → (m : ℕ) →
-      (resolved m (linksAt all (linesOf kind) row start s starts) .number ≡ 0) ↔ Each (λ p. ReachesBy all p (ruleOf kind (p .name))) ps
+      (resolved m (linksAt all (linesOf kind) row start s starts) .number ≡ 0) ↔ Each (λ p. ReachedBy all p (ruleOf kind (p .name))) ps
   unfolding linksAt resolved
   resolved-right none fits m = (λ e. tt, λ h. refl)
   resolved-right (one {at} {p} {starts} {ps} a d) fits m =
@@ -67,12 +67,12 @@ module _ (all : List Row) (kind row start : ℕ) (s : List ℕ) where
 -- for callers
 module _ (all : List Row) (kind row start n m : ℕ) (s : List ℕ) (good : GoodBody n s)
     (fits : Each (λ p. ByLine kind (p .name) (λ l. FitsLine l p)) (good .properties)) where
-  pub links-reach : resolved m (linksAt all (linesOf kind) row start s (properties s n .starts)) .number ≡ 0 → Each (Reaches all kind) (good .properties)
+  pub links-reach : resolved m (linksAt all (linesOf kind) row start s (properties s n .starts)) .number ≡ 0 → Each (RowReached all kind) (good .properties)
   links-reach e =
       each-map (λ p. reaches-agree all kind p .0) (good .properties)
       (resolved-right all kind row start s (described n s good) (fits-rules kind (good .properties) .1 fits) m .0 e)
 
-  pub links-good : Each (Reaches all kind) (good .properties) → resolved m (linksAt all (linesOf kind) row start s (properties s n .starts)) .number ≡ 0
+  pub links-good : Each (RowReached all kind) (good .properties) → resolved m (linksAt all (linesOf kind) row start s (properties s n .starts)) .number ≡ 0
   links-good h =
       resolved-right all kind row start s (described n s good) (fits-rules kind (good .properties) .1 fits) m .1
       (each-map (λ p. reaches-agree all kind p .1) (good .properties) h)

@@ -18,6 +18,7 @@ use Rattle.rules.specs.Table.{letters, numbered, unpacked, lines, free, nameOf}
 use Rattle.rules.specs.Rules.{isNumber, lists, ruleIn, ofKind, linesOf, ruleOf}
 use Rattle.rules.proofs.Laws.{all}
 use Rattle.format.specs.Layout.{Each}
+use Rattle.valid.specs.Among.{Some}
 use Rattle.valid.specs.Lines.{Numbered, Lists, ByLine}
 use Rattle.valid.proofs.Says.{Says, says-same}
 use Rattle.valid.proofs.Decimals.{says-numbered}
@@ -135,3 +136,23 @@ module _ (kind : ℕ) (name : List ℕ) where
   pub from-line : (P : Line → Type 0) → P free → ByLine kind name P → P (ruleOf kind name)
   unfolding linesOf
   from-line P f h = from-some P lines f h
+
+  found-some : (P : Line → Type 0) (ls : List Line) → (P free → ⊥) → P (ruleIn (ofKind ls kind) name) → Some (λ l. (l .kind ≡ kind) × Lists l name × P l) ls
+  unfolding ofKind ruleIn
+  found-some P [] n h = n h
+  found-some P (l ∷ ls) n h =
+      by-test (eqb (l .kind) kind)
+      (λ t. by-test (lists l name)
+      (λ u. inl (eqb-true (l .kind) kind t, says-lists l name .0 u, rw (t, u) at h))
+      (λ u. inr (found-some P ls n (rw (t, u) at h))))
+      (λ t. inr (found-some P ls n (rw t at h)))
+
+  -- the line that is found has a property, which no free name has, exactly where some line of the kind and name has it
+  pub some-line : (P : Line → Type 0) → (P free → ⊥) → P (ruleOf kind name) ↔ Some (λ l. (l .kind ≡ kind) × Lists l name × P l) lines
+  unfolding linesOf
+  some-line P n = (found-some P lines n, λ h. some-each lines (only lines table-clear) h)
+    where
+      some-each : (ls : List Line) → Named (λ l. l ≡ ruleIn (ofKind lines kind) name) ls → Some (λ l. (l .kind ≡ kind) × Lists l name × P l) ls → P (ruleIn (ofKind lines kind) name)
+      some-each [] e h = absurd h
+      some-each (l ∷ ls) e (inl h) = subst P (e .0 (h .0) (h .1)) (h .2)
+      some-each (l ∷ ls) e (inr h) = some-each ls (e .1) h

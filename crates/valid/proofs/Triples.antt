@@ -19,7 +19,7 @@ passed : (t : Bool) (v : Values) (k : ℕ) → (cond t v (Past k) ≡ Below) ↔
 passed true v k = (λ e. (refl, e), λ p. p .1)
 passed false v k = (λ e. (cc, cc), λ p. cc)
 
-number-on : (w : ℕ) (bs : List ℕ) (k : ℕ) → numberAt w (drop (3 * w) bs) (k * w) ≡ numberAt w bs (suc (suc (suc k)) * w)
+pub number-on : (w : ℕ) (bs : List ℕ) (k : ℕ) → numberAt w (drop (3 * w) bs) (k * w) ≡ numberAt w bs (suc (suc (suc k)) * w)
 unfolding numberAt
 number-on w bs k = let three : suc (suc (suc k)) ≡ 3 + k = omega arith in rw (three, drop-drop (k * w) (3 * w) bs, add-mul 3 k w)
 

@@ -2,3 +2,4 @@ pub mod Among
 pub mod Lines
 pub mod Obeys
 pub mod Valid
+pub mod Nodes

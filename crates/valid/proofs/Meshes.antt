@@ -1,0 +1,133 @@
+-- The faces that the reading counts of a node are those of its f.
+use Prim.Native.Nat.{ℕ, zero, suc, _+_, _*_, _/_, _<_}
+use native.Mathlib.Omega.{arith}
+use native.Mathlib.Nat.{zero-mul, one-mul}
+use mathlib.Core.Path.{_≡_, refl, sym, ap, _∙_}
+use mathlib.Core.Logic.{_⊎_, inl, inr, ⊎-elim}
+use mathlib.Core.Bool.{Bool, true, false, cond, not, _&&_, _||_, false≢true}
+use mathlib.Core.List.{List, [], _∷_, _++_, map, append-nil}
+use lib.Dec.{eqb}
+use lib.ListN.{length, drop}
+use borrow.Author.Tests.{eq-eqb, ne-eqb, eqb-true, eqb-false}
+use Rattle.le.specs.Le.{val, le, numberAt}
+use Rattle.le.proofs.Tests.{by-test}
+use Rattle.names.specs.Names.{same, decimal, number}
+use Rattle.names.specs.Names.{numbered as numberIn}
+use Rattle.names.proofs.Laws.{same-eq, same-refl}
+use Rattle.kinds.specs.Kinds.{mesh}
+use Rattle.props.specs.Step.{codeAt, lengthAt}
+use Rattle.body.specs.Body.{properties}
+use Rattle.faces.specs.declared.Face.{Face}
+use Rattle.faces.specs.Faces.{widthOf, facesIn}
+use Rattle.rules.specs.declared.Line.{Line}
+use Rattle.rules.specs.Table.{letters, unpacked, lines, nameOf, numbered, faces}
+use Rattle.rules.specs.Rules.{lists, ruleIn, ofKind, linesOf, ruleOf, isN}
+use Rattle.rules.proofs.Laws.{all}
+use Rattle.judge.specs.Properties.{restAt}
+use Rattle.judge.specs.Judge.{nodeFaces}
+use Rattle.format.specs.Layout.{Each, Property, GoodBody}
+use Rattle.format.proofs.Each.{each-map}
+use Rattle.valid.specs.Lines.{Lists, ByLine}
+use Rattle.valid.specs.Obeys.{Has, Distinct, value, ofNamed, elementsOf, Obeys}
+use Rattle.valid.specs.Nodes.{Node, numbersFrom, faceOf, meshFaces}
+use Rattle.valid.proofs.Ruled.{FitsRules}
+use Rattle.valid.proofs.Says.{says-eqb, says-same, says-and}
+use Rattle.valid.proofs.Described.{At, Described, none, one, described}
+use Rattle.valid.proofs.Lines.{faces-line}
+use Rattle.valid.proofs.Listed.{all-each, from-line}
+use Rattle.valid.proofs.Values.{takes-number, values-read}
+use Rattle.valid.proofs.Triples.{number-on}
+use Rattle.valid.proofs.Agree.{fits-rules}
+
+-- ---- faces in bytes, by their values
+module _ (w : ℕ) (v : ℕ → ℕ) where
+  abbrev face : ℕ → Face
+  face k = record { a = v (3 * k); b = v (3 * k + 1); c = v (3 * k + 2) }
+
+  pub faces-by : (n j : ℕ) (bs : List ℕ) → ((k : ℕ) → k < n * 3 → numberAt w bs (k * w) ≡ v (3 * j + k)) → facesIn w n bs ≡ map face (numbersFrom j n)
+  unfolding facesIn
+  faces-by zero j bs h = refl
+  faces-by (suc n) j bs h =
+      let a : numberAt w bs 0 ≡ v (3 * j) = ap (numberAt w bs) (sym (zero-mul w)) ∙ h 0 (omega arith) ∙ ap v (omega arith) in
+      let b : numberAt w bs w ≡ v (3 * j + 1) = ap (numberAt w bs) (sym (one-mul w)) ∙ h 1 (omega arith) in
+      let c : numberAt w bs (2 * w) ≡ v (3 * j + 2) = h 2 (omega arith) in
+      rw (a, b, c) (ap (λ fs. face j ∷ fs)
+      (faces-by n (suc j) (drop (3 * w) bs) (λ k less. number-on w bs k ∙ h (suc (suc (suc k))) (omega arith) ∙ ap v (omega arith))))
+
+-- ---- the line that holds to faces is that of a Mesh's f
+abbrev f : List ℕ
+f = letters "f"
+
+abbrev isF : Line → Bool
+isF l = not (eqb (l .held) (faces .held)) || (not (eqb (l .numbered) numbered) && same (nameOf l) f)
+
+lines-f : all isF lines ≡ true
+unfolding all lines letters unpacked same le val numberAt
+lines-f = refl
+
+one-f : (l : Line) (name : List ℕ) → isF l ≡ true → Lists l name → l .held ≡ faces .held → name ≡ f
+one-f l name t (inl h) e = absurd (false≢true (rw (eq-eqb _ _ e, eq-eqb _ _ (h .0)) at t))
+one-f l name t (inr h) e = h .1 ∙ same-eq (nameOf l) f (rw (eq-eqb _ _ e, ne-eqb _ _ (h .0)) at t)
+
+held-f : (kind : ℕ) (name : List ℕ) → ruleOf kind name .held ≡ faces .held → name ≡ f
+held-f kind name =
+    from-line kind name (λ l. l .held ≡ faces .held → name ≡ f) (λ e. absurd (omega (arith, e)))
+    (each-map (λ l t k h e. one-f l name t h e) lines (all-each isF lines lines-f))
+
+f-held : ruleOf mesh f .held ≡ faces .held
+unfolding val numberAt le letters unpacked lines lists same numberIn decimal number ruleIn ofKind linesOf
+f-held = refl
+
+-- ---- a node's faces
+module _ (kind : ℕ) (s : List ℕ) where
+  -- no property is held to faces
+  no-faces : {starts : List ℕ} {ps : List Property} → Described s starts ps → (kind ≡ mesh → Has f ps → ⊥) → nodeFaces (linesOf kind) s starts ≡ []
+  unfolding nodeFaces
+  no-faces none n = refl
+  no-faces (one {at} {p} {starts} {ps} a d) n =
+      let l = ruleOf kind (p .name) in
+      let rest = no-faces d (λ k h. n k (inr h)) in
+      rw (a .name, rest)
+      (by-test (eqb (l .held) (faces .held))
+      (λ t.
+      let e = eqb-true (l .held) (faces .held) t in
+      absurd (n (faces-line kind (p .name) e .0) (inl (held-f kind (p .name) e))))
+      (λ t. rw t))
+
+-- the faces of the f of some properties
+abbrev named : List Property → List Face
+named ps = map (face 0 (λ k. ofNamed f (λ p. value p k) 0 ps)) (numbersFrom 0 (elementsOf f ps / 3))
+
+module _ (s : List ℕ) where
+  mesh-faces : {starts : List ℕ} {ps : List Property} → Described s starts ps → Distinct ps → FitsRules mesh ps
+      → nodeFaces (linesOf mesh) s starts ≡ named ps
+  unfolding nodeFaces ofNamed
+  mesh-faces none d fits = refl
+  mesh-faces (one {at} {p} {starts} {ps} a more) d fits =
+      let l = ruleOf mesh (p .name) in
+      by-test (same (p .name) f)
+      (λ t.
+      let is : p .name ≡ f = same-eq (p .name) f t in
+      let held : l .held ≡ faces .held = ap (λ n. ruleOf mesh n .held) is ∙ f-held in
+      let isNumber : isN (p .code) ≡ true = takes-number (l .types) (p .code) (fits .0 .0) (faces-line mesh (p .name) held .1) in
+      let w : ℕ = widthOf (p .code) in
+      let n : ℕ = p .elements / 3 in
+      let here : facesIn w n (restAt s at) ≡ map (face w (value p)) (numbersFrom 0 n) =
+      faces-by w (value p) n 0 (restAt s at) (λ k less. values-read a isNumber k (omega (arith, less)) ∙ ap (value p) (omega arith)) in
+      let rest = no-faces mesh s more (λ k h. d .0 (rw is h)) in
+      rw (a .name, eq-eqb (l .held) (faces .held) held, a .code, a .elements, rest, here, t) (append-nil (map (face w (value p)) (numbersFrom 0 n))))
+      (λ t.
+      let other : l .held ≡ faces .held → ⊥ = λ e. false≢true (sym t ∙ ap (λ n. same n f) (held-f mesh (p .name) e) ∙ same-refl f) in
+      rw (a .name, ne-eqb (l .held) (faces .held) other, t) (mesh-faces more (d .1) (fits .1)))
+
+pub node-faces : (kind hash n : ℕ) (s : List ℕ) (bones : ℕ) (good : GoodBody n s) → Obeys kind (good .properties) bones
+    → nodeFaces (linesOf kind) s (properties s n .starts) ≡ meshFaces (record { kind = kind; hash = hash; properties = good .properties })
+unfolding meshFaces
+node-faces kind hash n s bones good obeys =
+    let d = described n s good in
+    by-test (eqb kind mesh)
+    (λ t.
+    let is : kind ≡ mesh = eqb-true kind mesh t in
+    let fits : FitsRules mesh (good .properties) = rw is at (fits-rules kind (good .properties) .1 (obeys .fits)) in
+    rw t (ap (λ k. nodeFaces (linesOf k) s (properties s n .starts)) is ∙ mesh-faces s d (obeys .distinct) fits))
+    (λ t. rw t (no-faces kind s d (λ k h. eqb-false kind mesh t k)))
