@@ -101,7 +101,7 @@ node-by n {kind} {ps} e f =
     ap (λ k. meshFaces (record { kind = k; hash = n .hash; properties = ps })) (sym e)
     ∙ ap (λ l. meshFaces (record { kind = n .kind; hash = n .hash; properties = l })) (sym f)
 
-bare-faces : (kind hash : ℕ) → meshFaces (record { kind = kind; hash = hash; properties = [] }) ≡ []
+pub bare-faces : (kind hash : ℕ) → meshFaces (record { kind = kind; hash = hash; properties = [] }) ≡ []
 unfolding meshFaces ofNamed
 bare-faces kind hash = by-test (eqb kind mesh) (λ t. rw t) (λ t. rw t)
 

@@ -14,7 +14,7 @@ use Rattle.format.specs.Forest.{Forest, end, known, unknown, nodes, encode}
 use Rattle.format.specs.Rows.{rows, bodyOf}
 use Rattle.format.proofs.Headers.{length-header}
 use Rattle.removal.specs.Tally.{headerIn}
-use Rattle.removal.specs.Left.{unmarkedRows, inMarked, bytesFrom, bytesLeft}
+use Rattle.removal.specs.Left.{unmarkedOf, inMarked, bytesFrom, bytesLeft}
 use Rattle.removal.proofs.Differ.{pieces}
 
 -- rows whose nodes lie one after the other, from a place to another
@@ -93,8 +93,8 @@ module _ (all : List Row) (marked : List Bool) where
   -- from the node of a row on, at and after which the marked nodes are those of the rows from it on
   along : (s : List ℕ) (at : ℕ) (rs : List Row) (ms : List Bool) → Tiles at rs (length s) → length rs ≡ length ms
       → ((p : ℕ) → at ≤ p → inMarked all marked p ≡ inMarked rs ms p)
-      → bytesFrom all marked at (drop at s) ≡ flatMap (λ r. headerIn s r ++ bodyOf s r) (unmarkedRows rs ms)
-  unfolding bytesFrom unmarkedRows flatMap
+      → bytesFrom all marked at (drop at s) ≡ flatMap (λ r. headerIn s r ++ bodyOf s r) (unmarkedOf rs ms)
+  unfolding bytesFrom unmarkedOf flatMap
   along s at [] ms t l h = rw (drop-of-length-le s {i = at} (omega arith))
   along s at (r ∷ rs) [] t l h = absurd (omega arith)
   along s at (r ∷ rs) (mark ∷ ms) t l h =
@@ -103,8 +103,8 @@ module _ (all : List Row) (marked : List Bool) where
       (run at (r .end) (headerIn s r ++ bodyOf s r) (drop (r .end) s) mark long (λ p k u. h p k ∙ within r rs mark ms p at (length s) t k u)
       ∙ joined mark (along s (r .end) rs ms (t .2) (omega arith) (λ p k. h p (omega arith) ∙ past-it r rs mark ms p k)))
     where
-      joined : (mark : Bool) {rest : List ℕ} → rest ≡ flatMap (λ r. headerIn s r ++ bodyOf s r) (unmarkedRows rs ms)
-          → cond mark [] (headerIn s r ++ bodyOf s r) ++ rest ≡ flatMap (λ r. headerIn s r ++ bodyOf s r) (unmarkedRows (r ∷ rs) (mark ∷ ms))
+      joined : (mark : Bool) {rest : List ℕ} → rest ≡ flatMap (λ r. headerIn s r ++ bodyOf s r) (unmarkedOf rs ms)
+          → cond mark [] (headerIn s r ++ bodyOf s r) ++ rest ≡ flatMap (λ r. headerIn s r ++ bodyOf s r) (unmarkedOf (r ∷ rs) (mark ∷ ms))
       joined true e = e
       joined false e = ap (λ l. (headerIn s r ++ bodyOf s r) ++ l) e
 

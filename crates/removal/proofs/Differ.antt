@@ -20,7 +20,7 @@ use Rattle.format.specs.Layout.{Each}
 use Rattle.format.specs.Rows.{bodyOf, ownBytes}
 use Rattle.writer.specs.Forest.{laidOut}
 use Rattle.removal.specs.Tally.{sumOverMarked, isAround, headerIn, sizeIn, sizeFall, countFall, reducedHeader, nodesLeft, fileLeft}
-use Rattle.removal.specs.Left.{Stays, unmarked, unmarkedRows, renumberedFrom, rowsLeft, InHeader, InSize, InCount}
+use Rattle.removal.specs.Left.{Stays, unmarked, unmarkedOf, renumberedFrom, rowsLeft, InHeader, InSize, InCount}
 
 -- a row whose header and body lie in the file
 abbrev pub LiesIn : (s : List ℕ) → Row → Type 0
@@ -28,7 +28,7 @@ LiesIn s r = (24 ≤ r .start) × (r .start ≤ r .end) × (r .end ≤ length s)
 
 -- the first file's bytes without the marked nodes', piece by piece: a header and a body for each unmarked row
 abbrev pub pieces : (s : List ℕ) → List Row → List Bool → List ℕ
-pieces s rows marks = take 16 s ++ flatMap (λ r. headerIn s r ++ bodyOf s r) (unmarkedRows rows marks)
+pieces s rows marks = take 16 s ++ flatMap (λ r. headerIn s r ++ bodyOf s r) (unmarkedOf rows marks)
 
 onward : (i n : ℕ) → i + suc n ≡ suc i + n
 onward i n = omega arith
@@ -169,8 +169,8 @@ module _ (s : List ℕ) (all : List Row) (marked : List Bool) where
   CountFalls = Falling all marked (countFall all marked) 20
 
   length-along : (i : ℕ) (rs : List Row) (ms : List Bool) → Each (LiesIn s) rs
-      → length (nodesLeft s all marked i rs ms) ≡ length (flatMap (λ r. headerIn s r ++ bodyOf s r) (unmarkedRows rs ms))
-  unfolding nodesLeft unmarkedRows flatMap
+      → length (nodesLeft s all marked i rs ms) ≡ length (flatMap (λ r. headerIn s r ++ bodyOf s r) (unmarkedOf rs ms))
+  unfolding nodesLeft unmarkedOf flatMap
   length-along i [] ms h = refl
   length-along i (r ∷ rs) [] h = refl
   length-along i (r ∷ rs) (true ∷ ms) h = length-along (suc i) rs ms (h .1)
@@ -180,8 +180,8 @@ module _ (s : List ℕ) (all : List Row) (marked : List Bool) where
 
   along : {P : ℕ → Type 0} → AreBytes s → (i at : ℕ) (rs : List Row) (ms : List Bool) → Each (LiesIn s) rs
       → ((q : ℕ) → SizeFalls i at rs ms q → P q) → ((q : ℕ) → CountFalls i at rs ms q → P q)
-      → Alike P at (nodesLeft s all marked i rs ms) (flatMap (λ r. headerIn s r ++ bodyOf s r) (unmarkedRows rs ms))
-  unfolding nodesLeft unmarkedRows flatMap
+      → Alike P at (nodesLeft s all marked i rs ms) (flatMap (λ r. headerIn s r ++ bodyOf s r) (unmarkedOf rs ms))
+  unfolding nodesLeft unmarkedOf flatMap
   along bytes i at [] ms h f g = nil
   along bytes i at (r ∷ rs) [] h f g = nil
   along bytes i at (r ∷ rs) (true ∷ ms) h f g =

@@ -7,7 +7,7 @@ use Rattle.table.specs.declared.Row.{Row}
 use Rattle.format.specs.Rows.{bodyOf, ownBytes}
 use Rattle.emit.specs.Emission.{under, sizes, nodesBytes, roots, fileBytes}
 use Rattle.writer.specs.Forest.{movedTo, laidOut}
-use Rattle.removal.specs.Left.{unmarkedRows, renumberedFrom}
+use Rattle.removal.specs.Left.{unmarkedOf, renumberedFrom}
 
 under-laid : (p at : ℕ) (rs : List Row) (zs : List ℕ) → under p (laidOut at rs) zs ≡ under p rs zs
 unfolding under laidOut
@@ -49,8 +49,8 @@ module _ (s s′ : List ℕ) where
   file-laid flags rs e = rw (roots-laid 16 rs, nodes-laid 16 0 rs e)
 
 pub renumbered-bodies : (s : List ℕ) (all : List Row) (marked : List Bool) (i : ℕ) (rs : List Row) (ms : List Bool)
-    → map (bodyOf s) (renumberedFrom all marked i rs ms) ≡ map (bodyOf s) (unmarkedRows rs ms)
-unfolding renumberedFrom unmarkedRows
+    → map (bodyOf s) (renumberedFrom all marked i rs ms) ≡ map (bodyOf s) (unmarkedOf rs ms)
+unfolding renumberedFrom unmarkedOf
 renumbered-bodies s all marked i [] ms = refl
 renumbered-bodies s all marked i (r ∷ rs) [] = refl
 renumbered-bodies s all marked i (r ∷ rs) (true ∷ ms) = renumbered-bodies s all marked (suc i) rs ms

@@ -24,10 +24,12 @@ use Rattle.reader.specs.Acceptance.{RowsGive, rowFaces, facesOf}
 use Rattle.reader.proofs.Exactly.{valid-flags, valid-verdict, verdict-valid, valid-gives, in-room, has-room, answersTheRules}
 use Rattle.removal.specs.Tally.{Tallied, noMarks, fileLeft, tallyStep, answers, marksAfter}
 use Rattle.removal.specs.RemovalSequence.{Trimming, answerTo, fileFrom, answersOf, fileAfter, EachTrimming, fedBy, marksBy, IsRead, Goes, Leaves, IsLeft, HoldsOf, EveryList}
-use Rattle.removal.specs.Left.{unmarkedRows, bytesLeft, movedLink}
+use Rattle.removal.specs.Left.{unmarkedOf, bytesLeft, movedLink}
 use Rattle.removal.proofs.Marked.{Marked, bare, kept, marks, fresh, bare-fresh, kept-fresh, length-marks}
 use Rattle.removal.proofs.Marking.{marks-fresh}
-use Rattle.removal.proofs.StillValid.{valid-kept, length-file}
+use Rattle.valid.specs.Nodes.{nodesOf, meshFaces}
+use Rattle.removal.proofs.NodesLeft.{LeftNodes, nodes-kept, nodes-are, all-faces, links-moved, links-stay}
+use Rattle.removal.proofs.StillValid.{kept-well, valid-kept, length-file}
 use Rattle.removal.proofs.LeftLinks.{faces-left, node-faces-left, owns-left, bodies-left, known-left, unknown-left, only-unknown, links-left, link-rows}
 use Rattle.removal.proofs.KeptRows.{parents-stay}
 use Rattle.removal.proofs.TallyFile.{tally-left}
@@ -101,6 +103,7 @@ module _ (flags : ℕ) (m : Marked) (v : Valid flags (bare m)) (bytes : AreBytes
       each-map (λ r l. (omega (arith, l .0), l .1, omega (arith, l .2, length-file flags (bare m)))) rows (rows-lie (bare m) noParent 0 16)
 
   is-left : IsLeft s rows (accountFor flags (bare m)) (marks m) left
+  unfolding valid
   is-left =
       let old = answer-for flags (bare m) v in
       let new = answer-for flags (kept m) valid in
@@ -108,6 +111,8 @@ module _ (flags : ℕ) (m : Marked) (v : Valid flags (bare m)) (bytes : AreBytes
       let same = rows-same flags m v in
       let faces = faces-left same in
       let links = links-left s left rows (marks m) (rowsOf (kept m)) same are in
+      let nodes : LeftNodes (nodesOf (bare m) (v .wellFormed .2)) (marks m) (nodesOf (kept m) (valid .wellFormed .2)) =
+      subst (λ w. LeftNodes (nodesOf (bare m) (v .wellFormed .2)) (marks m) (nodesOf (kept m) w)) (sym (kept-well flags m v)) (nodes-kept m (v .wellFormed .2)) in
       record {
         marked = length-marks m ∙ sym (length-rows (bare m) noParent 0 16);
         onlyUnknown = only-unknown same;
@@ -120,9 +125,14 @@ module _ (flags : ℕ) (m : Marked) (v : Valid flags (bare m)) (bytes : AreBytes
         sameLength = ap length tally ∙ same-length s rows (marks m) inside ∙ ap length (sym cut-file);
         differ =
             rw (tally, cut-file) (differ s rows (marks m) bytes (omega (arith, length-file flags (bare m))) inside);
-        bodies = subst (λ rs. map (bodyOf left) rs ≡ map (bodyOf s) (unmarkedRows rows (marks m))) are (bodies-left same);
-        linkRows = link-rows s left rows (marks m) (rowsOf (kept m)) same;
-        links = subst (λ rs. linksOf left rs ≡ map (movedLink rows (marks m)) (linksOf s rows)) are links;
+        bodies = subst (λ rs. map (bodyOf left) rs ≡ map (bodyOf s) (unmarkedOf rows (marks m))) are (bodies-left same);
+        before = record { flags = flags; forest = bare m; valid = v; bytes = refl };
+        after = record { flags = flags; forest = kept m; valid = valid; bytes = refl };
+        nodes = nodes-are nodes;
+        linksStay = links-stay nodes;
+        links = links-moved nodes;
+        rowLinksStay = link-rows s left rows (marks m) (rowsOf (kept m)) same;
+        rowLinks = subst (λ rs. linksOf left rs ≡ map (movedLink rows (marks m)) (linksOf s rows)) are links;
         linkCount = new .links ∙ ap length links ∙ length-map (linksOf s rows) (movedLink rows (marks m)) ∙ sym (old .links);
         charges = λ t h.
             ap (λ u. map ownBytes (rowsAt u 0 (length (rowsOf (kept m))))) (is-read flags (kept m) valid .table t h)
@@ -130,8 +140,9 @@ module _ (flags : ℕ) (m : Marked) (v : Valid flags (bare m)) (bytes : AreBytes
             ∙ owns-left same;
         known = known-left same;
         unknown = unknown-left 0 same;
-        nodeFaces = subst (λ rs. map (rowFaces left) rs ≡ map (rowFaces s) (unmarkedRows rows (marks m))) are (node-faces-left same);
-        faces = subst (λ rs. facesOf left rs ≡ facesOf s rows) are faces;
+        nodeFaces = ap (map meshFaces) (nodes-are nodes);
+        faces = all-faces nodes;
+        rowFaceLists = subst (λ rs. map (rowFaces left) rs ≡ map (rowFaces s) (unmarkedOf rows (marks m))) are (node-faces-left same);
         faceCount = new .faces ∙ ap length faces ∙ sym (old .faces);
         degenerate = new .degenerates ∙ ap degenerateIn faces ∙ sym (old .degenerates);
       }

@@ -22,7 +22,7 @@ use Rattle.links.specs.Links.{reached, linksAt, rowLinks, linksFrom, linksOf}
 use Rattle.reader.specs.Reading.{ownKnown, ownUnknown}
 use Rattle.reader.specs.Acceptance.{rowFaces, facesOf}
 use Rattle.removal.specs.Tally.{sumOverMarked}
-use Rattle.removal.specs.Left.{unmarked, numberOf, Stays, unmarkedRows, rowsLeft, LinkStays, movedLink}
+use Rattle.removal.specs.Left.{unmarked, numberOf, Stays, unmarkedOf, rowsLeft, LinkStays, movedLink}
 use Rattle.removal.proofs.Marked.{SameNode, Left, none, gone, same}
 use Rattle.removal.proofs.Targets.{target-at, unlike}
 
@@ -36,20 +36,20 @@ module _ {s s′ : List ℕ} where
 
   -- what is the same of the same node is so of all rows that are left
   map-left : {B : Type 0} (f g : Row → B) → ((r r′ : Row) → SameNode s s′ r r′ → f r′ ≡ g r)
-      → {rows : List Row} {ms : List Bool} {rows′ : List Row} → Left s s′ rows ms rows′ → map f rows′ ≡ map g (unmarkedRows rows ms)
-  unfolding unmarkedRows
+      → {rows : List Row} {ms : List Bool} {rows′ : List Row} → Left s s′ rows ms rows′ → map f rows′ ≡ map g (unmarkedOf rows ms)
+  unfolding unmarkedOf
   map-left f g e none = refl
   map-left f g e (gone u l) = map-left f g e l
   map-left f g e (same {r = r} {r′ = r′} n l) = rw (e r r′ n, map-left f g e l)
 
   module _ {rows : List Row} {ms : List Bool} {rows′ : List Row} (l : Left s s′ rows ms rows′) where
-    pub owns-left : map ownBytes rows′ ≡ map ownBytes (unmarkedRows rows ms)
+    pub owns-left : map ownBytes rows′ ≡ map ownBytes (unmarkedOf rows ms)
     owns-left = map-left ownBytes ownBytes (λ r r′ n. n .own) l
 
-    pub bodies-left : map (bodyOf s′) rows′ ≡ map (bodyOf s) (unmarkedRows rows ms)
+    pub bodies-left : map (bodyOf s′) rows′ ≡ map (bodyOf s) (unmarkedOf rows ms)
     bodies-left = map-left (bodyOf s′) (bodyOf s) (λ r r′ n. n .body) l
 
-    pub node-faces-left : map (rowFaces s′) rows′ ≡ map (rowFaces s) (unmarkedRows rows ms)
+    pub node-faces-left : map (rowFaces s′) rows′ ≡ map (rowFaces s) (unmarkedOf rows ms)
     node-faces-left = map-left (rowFaces s′) (rowFaces s) (λ r r′ n. rw (n .kind, n .body, n .properties)) l
 
   pub known-left : {rows : List Row} {ms : List Bool} {rows′ : List Row} → Left s s′ rows ms rows′ → ownKnown rows′ ≡ ownKnown rows

@@ -18,3 +18,4 @@ pub mod OneReading
 pub mod EveryList
 pub mod RefusedFile
 pub mod Numbers
+pub mod NodesLeft

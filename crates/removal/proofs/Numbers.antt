@@ -8,7 +8,7 @@ use mathlib.Core.Option.{some}
 use mathlib.Core.List.{List, [], _∷_}
 use lib.ListN.{getD}
 use Rattle.removal.specs.Tally.{rowNumbered}
-use Rattle.removal.specs.Left.{unmarked, numberOf, Stays, unmarkedRows}
+use Rattle.removal.specs.Left.{unmarked, numberOf, Stays, unmarkedOf}
 use Rattle.removal.specs.Numbers.{SameNumber, OnlyNumber, NoNumber, SameRow}
 use Rattle.removal.proofs.Marking.{numbered-none}
 
@@ -55,7 +55,7 @@ pub noNumber : NoNumber
 noNumber marks n few = numbered-none 0 marks n few
 
 pub sameRow : SameRow
-unfolding unmarkedRows unmarked
+unfolding unmarkedOf unmarked
 sameRow rows [] i l e = absurd (true≢false e)
 sameRow [] (mark ∷ marks) i l e = absurd (omega arith)
 sameRow (r ∷ rows) (true ∷ marks) zero l e = absurd (true≢false e)

@@ -19,7 +19,7 @@ use Rattle.valid.specs.Valid.{Valid, bones, EachKnown, reaches, Links}
 use Rattle.removal.proofs.Marked.{Marked, mend, mkn, mun, bare, kept, length-kept, count-kept, nodes-kept}
 use Rattle.removal.proofs.Targets.{targets-known, unlike}
 
-well-kept : (m : Marked) → WellFormed (bare m) → WellFormed (kept m)
+unfoldable pub well-kept : (m : Marked) → WellFormed (bare m) → WellFormed (kept m)
 well-kept mend w = tt
 well-kept (mkn k h p body kids next) (known, (a, b, c, d, e), bytes, good, below, beside) =
     let shorter = length-kept kids in
@@ -86,3 +86,7 @@ valid-kept flags m v =
           (each-kept (λ beside kind count body p good. each-map (links-kept m well kind) (good .properties) (p good))
           (bones (bare m)) m well (v .linked));
     }
+
+pub kept-well : (flags : ℕ) (m : Marked) (v : Valid flags (bare m)) → valid-kept flags m v .wellFormed .2 ≡ well-kept m (v .wellFormed .2)
+unfolding valid-kept
+kept-well flags m v = refl

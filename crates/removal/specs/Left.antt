@@ -10,6 +10,7 @@ use Rattle.table.specs.declared.Row.{Row}
 use Rattle.table.specs.Table.{noParent, blank}
 use Rattle.format.specs.Layout.{Each}
 use Rattle.links.specs.Links.{Link}
+use Rattle.valid.specs.Nodes.{NodeProperty, NodeLink}
 use Rattle.writer.specs.Forest.{laidOut}
 use Rattle.removal.specs.Tally.{isAround, countFall}
 
@@ -32,12 +33,12 @@ Stays marks i = getD marks i true ≡ false
 abbrev pub ParentStays : List Bool → Row → Type 0
 ParentStays marks r = (r .parent ≡ noParent) ⊎ Stays marks (r .parent)
 
--- the unmarked ones of some rows
-unfoldable pub unmarkedRows : List Row → List Bool → List Row
-unmarkedRows [] marks = []
-unmarkedRows (r ∷ rows) [] = []
-unmarkedRows (r ∷ rows) (true ∷ marks) = unmarkedRows rows marks
-unmarkedRows (r ∷ rows) (false ∷ marks) = r ∷ unmarkedRows rows marks
+-- the unmarked ones of some rows, or of what there is one of for each row
+unfoldable pub unmarkedOf : {A : Type 0} → List A → List Bool → List A
+unmarkedOf [] marks = []
+unmarkedOf (x ∷ xs) [] = []
+unmarkedOf (x ∷ xs) (true ∷ marks) = unmarkedOf xs marks
+unmarkedOf (x ∷ xs) (false ∷ marks) = x ∷ unmarkedOf xs marks
 
 -- row i with its parent renumbered, and its child count less its marked children; `all` and `marked` are those of all rows
 abbrev pub renumbered : (all : List Row) (marked : List Bool) (i : ℕ) → Row → Row
@@ -102,6 +103,17 @@ abbrev pub InCount : (rows : List Row) (marks : List Bool) (at : ℕ) → Type 0
 InCount rows marks at = InHeader (λ i j. getD rows j blank .parent ≡ i) 20 rows marks at
 
 -- ---- links
+
+-- a link's node and the node that it reaches stay: node i is that of row i
+abbrev pub NodeLinkStays : List Bool → NodeLink → Type 0
+NodeLinkStays marks x = Stays marks (x .source .node) × Stays marks (x .target)
+
+-- a link with its nodes renumbered; its property is the same
+abbrev pub movedSource : List Bool → NodeProperty → NodeProperty
+movedSource marks x = record { node = numberOf marks (x .node); kind = x .kind; property = x .property }
+
+abbrev pub movedNodeLink : List Bool → NodeLink → NodeLink
+movedNodeLink marks x = record { source = movedSource marks (x .source); target = numberOf marks (x .target) }
 
 -- a link's row and the rows that it reaches stay
 abbrev pub LinkStays : List Bool → Link → Type 0

@@ -9,7 +9,7 @@ use lib.ListN.{length, getD}
 use Rattle.table.specs.declared.Row.{Row}
 use Rattle.table.specs.Table.{blank}
 use Rattle.removal.specs.Tally.{rowNumbered}
-use Rattle.removal.specs.Left.{unmarked, numberOf, Stays, unmarkedRows}
+use Rattle.removal.specs.Left.{unmarked, numberOf, Stays, unmarkedOf}
 
 -- each row that stays has a number
 abbrev pub SameNumber : Type 0
@@ -26,4 +26,4 @@ NoNumber = (marks : List Bool) (n : ℕ) → unmarked marks ≤ n → rowNumbere
 -- the unmarked row with a row's number is that row
 abbrev pub SameRow : Type 0
 SameRow = (rows : List Row) (marks : List Bool) (i : ℕ) → length rows ≡ length marks → Stays marks i
-    → getD (unmarkedRows rows marks) (numberOf marks i) blank ≡ getD rows i blank
+    → getD (unmarkedOf rows marks) (numberOf marks i) blank ≡ getD rows i blank

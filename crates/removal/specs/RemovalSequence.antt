@@ -18,11 +18,12 @@ use Rattle.reader.specs.declared.Account.{Account}
 use Rattle.reader.specs.declared.Reading.the-variants.{Accepted}
 use Rattle.reader.specs.Reading.{readingOf}
 use Rattle.reader.specs.Reading.{tableAfter as readTable}
-use Rattle.reader.specs.Acceptance.{rowFaces, facesOf}
+use Rattle.valid.specs.Nodes.{Node, nodesOf, meshFaces, allFaces, NodeLink, LinksAre}
+use Rattle.reader.specs.Acceptance.{IsValid, rowFaces}
 use Rattle.emit.specs.declared.Written.{Written}
 use Rattle.removal.specs.Trimmer.{trimmedOf, trimmedOutput, trimmedTable}
 use Rattle.removal.specs.Tally.{Fed, noMarks, sumOverMarked, fileLeft, answers, marksAfter}
-use Rattle.removal.specs.Left.{ParentStays, unmarkedRows, rowsLeft, bytesLeft, InSize, InCount, LinkStays, movedLink}
+use Rattle.removal.specs.Left.{ParentStays, unmarkedOf, rowsLeft, bytesLeft, InSize, InCount, NodeLinkStays, movedNodeLink, LinkStays, movedLink}
 
 -- ---- a list of trimmings
 
@@ -109,6 +110,10 @@ pub record Leaves (s : List ℕ) (c : Trimming) : Type 0 where
   pub table : trimmedTable s (c .row) (c .table) (length (c .output))
       ≡ cond (eqb (answerTo s c .number) 0) (readTable (fileFrom s c) (c .table)) (cleared (c .table))
 
+-- the nodes of a valid file: there is one list (`OneForest`)
+abbrev pub nodesIn : {s : List ℕ} → IsValid s → List Node
+nodesIn v = nodesOf (v .forest) (v .valid .wellFormed .2)
+
 -- ---- the file after a list, given the marks; the first file is s, with these rows and this account
 pub record IsLeft (s : List ℕ) (rows : List Row) (a : Account) (marks : List Bool) (file : List ℕ) : Type 0 where
   -- a mark for each row, and only rows of unknown kinds are marked
@@ -127,21 +132,30 @@ pub record IsLeft (s : List ℕ) (rows : List Row) (a : Account) (marks : List B
   -- differ"
   pub sameLength : length file ≡ length (bytesLeft s rows marks)
   pub differ : (at : ℕ) → (getD file at 0 ≡ getD (bytesLeft s rows marks) at 0) ⊎ (InSize rows marks at ⊎ InCount rows marks at)
-  pub bodies : map (bodyOf file) (rowsLeft rows marks) ≡ map (bodyOf s) (unmarkedRows rows marks)
-  -- "Every link reaches the same node": its row and the row that it reaches stay, and the links are the old ones, renumbered
-  pub linkRows : Each (LinkStays marks) (linksOf s rows)
-  pub links : linksOf file (rowsLeft rows marks) ≡ map (movedLink rows marks) (linksOf s rows)
+  pub bodies : map (bodyOf file) (rowsLeft rows marks) ≡ map (bodyOf s) (unmarkedOf rows marks)
+  -- both files by demand 2's nodes: kinds, hashes and properties are the old ones, without the removed nodes
+  pub before : IsValid s
+  pub after : IsValid file
+  pub nodes : nodesIn after ≡ unmarkedOf (nodesIn before) marks
+  -- "Every link reaches the same node": its node and the node that it reaches stay, and the links are the old ones, renumbered
+  pub linksStay : (links : List NodeLink) → LinksAre (nodesIn before) links → Each (NodeLinkStays marks) links
+  pub links : (links : List NodeLink) → LinksAre (nodesIn before) links → LinksAre (nodesIn after) (map (movedNodeLink marks) links)
   pub linkCount : account .links ≡ a .links
+  -- by the rows, as the reading resolves them
+  pub rowLinksStay : Each (LinkStays marks) (linksOf s rows)
+  pub rowLinks : linksOf file (rowsLeft rows marks) ≡ map (movedLink rows marks) (linksOf s rows)
   -- "every other node is charged the same"
   pub charges : (t : List ℕ) → hasRoom t ≡ true
-      → map ownBytes (rowsAt (readTable file t) 0 (account .nodes)) ≡ map ownBytes (unmarkedRows rows marks)
+      → map ownBytes (rowsAt (readTable file t) 0 (account .nodes)) ≡ map ownBytes (unmarkedOf rows marks)
   pub known : account .known .0 ≡ a .known .0
   pub unknown : a .unknown .0 ≡ sumOverMarked (λ j r. ownBytes r) 0 rows marks + account .unknown .0
   -- "and the face counts stay", of each node and of all
-  pub nodeFaces : map (rowFaces file) (rowsLeft rows marks) ≡ map (rowFaces s) (unmarkedRows rows marks)
-  pub faces : facesOf file (rowsLeft rows marks) ≡ facesOf s rows
+  pub nodeFaces : map meshFaces (nodesIn after) ≡ map meshFaces (unmarkedOf (nodesIn before) marks)
+  pub faces : allFaces (nodesIn after) ≡ allFaces (nodesIn before)
   pub faceCount : account .faces .0 ≡ a .faces .0
   pub degenerate : account .degenerate ≡ a .degenerate
+  -- by the rows, as the reading counts them
+  pub rowFaceLists : map (rowFaces file) (rowsLeft rows marks) ≡ map (rowFaces s) (unmarkedOf rows marks)
 
 -- ---- demand 3 of one list from such a file
 pub record HoldsOf (s : List ℕ) (rows : List Row) (a : Account) (list : List Trimming) : Type 0 where

@@ -1,14 +1,16 @@
--- Exactly those of a list that have a property: of two lists, of a list of the same properties, and the degenerate faces.
+-- Exactly those of a list that have a property; and the degenerate faces as those with two equal values.
 use Prim.Native.Nat.{ℕ, suc}
 use mathlib.Core.Path.{_≡_, refl, ap, _∙_}
-use mathlib.Core.Bool.{Bool, _||_}
+use mathlib.Core.Logic.{_↔_, inl, inr}
+use mathlib.Core.Bool.{_||_}
 use mathlib.Core.List.{List, [], _∷_, _++_, map}
 use lib.Dec.{eqb}
 use lib.ListN.{length}
 use Rattle.le.proofs.Tests.{by-test}
+use Rattle.format.specs.Layout.{Each}
 use Rattle.faces.specs.declared.Face.{Face}
 use Rattle.faces.specs.Faces.{isDegenerate, degenerate}
-use Rattle.valid.specs.Among.{Picks, none, taken, left}
+use Rattle.valid.specs.Among.{Some, Picks, none, taken, left}
 use Rattle.valid.specs.Nodes.{TwoEqual}
 use Rattle.valid.proofs.Says.{Says, says-eqb, says-or, fails}
 use Rattle.valid.proofs.Agree.{turned}
@@ -17,6 +19,29 @@ pub picks-append : {A : Type 0} {P : A → Type 0} {xs ys us vs : List A} → Pi
 picks-append none q = q
 picks-append (taken h p) q = taken h (picks-append p q)
 picks-append (left h p) q = left h (picks-append p q)
+
+-- a map that keeps what is asked
+pub picks-map : {A B : Type 0} {P : A → Type 0} {Q : B → Type 0} (g : A → B) → ((x : A) → P x ↔ Q (g x)) → {xs ys : List A} → Picks P xs ys → Picks Q (map g xs) (map g ys)
+picks-map g e none = none
+picks-map g e (taken {x} h p) = taken (e x .0 h) (picks-map g e p)
+picks-map g e (left {x} h p) = left (λ q. h (e x .1 q)) (picks-map g e p)
+
+-- what holds of each of a list holds of each that is picked
+pub picks-each : {A : Type 0} {P : A → Type 0} (Q : A → Type 0) {xs ys : List A} → Picks P xs ys → Each Q xs → Each Q ys
+picks-each Q none h = tt
+picks-each Q (taken a p) h = (h .0, picks-each Q p (h .1))
+picks-each Q (left a p) h = picks-each Q p (h .1)
+
+-- and what is asked holds of each of them
+pub picks-holds : {A : Type 0} {P : A → Type 0} {xs ys : List A} → Picks P xs ys → Each P ys
+picks-holds none = tt
+picks-holds (taken a p) = (a, picks-holds p)
+picks-holds (left a p) = picks-holds p
+
+pub each-some : {A : Type 0} {R : Type 0} (P Q : A → Type 0) (xs : List A) → ((x : A) → P x → Q x → R) → Each P xs → Some Q xs → R
+each-some P Q [] f e h = absurd h
+each-some P Q (x ∷ xs) f e (inl h) = f x (e .0) h
+each-some P Q (x ∷ xs) f e (inr h) = each-some P Q xs f (e .1) h
 
 -- a list that is picked, and its length
 pub record Picked {A : Type 0} (P : A → Type 0) (xs : List A) (n : ℕ) : Type 0 where
