@@ -4,6 +4,7 @@ pub mod Order
 pub mod Judged
 pub mod Rebuilt
 pub mod Placed
+pub mod Ancestors
 pub mod Plans
 pub mod Writing
 pub mod Written
