@@ -1,3 +1,4 @@
 pub mod Reading
 pub mod Contract
 pub mod Acceptance
+pub mod Examples
