@@ -10,3 +10,4 @@ pub mod Sizes
 pub mod Whole
 pub mod Numbers
 pub mod Accepted
+pub mod Leaves
