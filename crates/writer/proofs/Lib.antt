@@ -9,4 +9,5 @@ pub mod Plans
 pub mod Writing
 pub mod Written
 pub mod Writable
+pub mod Numbers
 pub mod RoundTrip

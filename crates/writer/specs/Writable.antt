@@ -14,7 +14,7 @@ use lib.ListN.{length, getD}
 use Rattle.le.specs.Le.{AreBytes}
 use Rattle.kinds.specs.Kinds.{root, isKnown}
 use Rattle.table.specs.declared.Row.{Row}
-use Rattle.table.specs.Table.{noParent, blank}
+use Rattle.table.specs.Table.{noParent, blank, flat}
 use Rattle.format.specs.Forest.{fileOf}
 use Rattle.format.specs.Rows.{rowsOf, bodyOf, allOwnBytes}
 use Rattle.format.specs.Layout.{GoodBody, WellFormedFile, Few}
@@ -83,6 +83,10 @@ pub record Writable (plan s : List ℕ) (room : ℕ) : Type 0 where
 -- a plan is written exactly when none of 20 to 26 speaks, whatever its numbers and the flags are
 abbrev pub WritesExactly : Type 0
 WritesExactly = (plan s : List ℕ) (flags room : ℕ) → AreBytes s → ((writtenOf plan s flags room .number ≡ 0) ↔ Writable plan s room)
+
+-- ---- what a plan's rows are: all of its numbers, eight by eight
+abbrev pub RowsOfThePlan : Type 0
+RowsOfThePlan = (plan : List ℕ) (count : ℕ) → length plan ≡ 8 * count → (length (planRows plan) ≡ count) × (flat (planRows plan) ≡ plan)
 
 -- ---- what follows: the rows of such a plan are those of its forest, which is well-formed and as long as they say
 pub record Described (plan s : List ℕ) (flags : ℕ) : Type 0 where
