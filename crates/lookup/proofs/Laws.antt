@@ -29,11 +29,11 @@ module _ (s name : List ℕ) (k : ℕ) where
     by-end h = rw (eq-eqb _ _ right, ne-eqb _ _ h)
 
     module _ (whole : properties s k .at ≡ length s) where
-      by-none : firstNamed s name (properties s k .starts) ≡ length (properties s k .starts) → Refused 43 ≡ inBody s k name
+      pub by-none : firstNamed s name (properties s k .starts) ≡ length (properties s k .starts) → Refused 43 ≡ inBody s k name
       unfolding inBody exactly
       by-none e = rw (eq-eqb _ _ right, eq-eqb _ _ whole, eq-eqb _ _ e)
 
-      by-first : (firstNamed s name (properties s k .starts) ≡ length (properties s k .starts) → ⊥) →
+      pub by-first : (firstNamed s name (properties s k .starts) ≡ length (properties s k .starts) → ⊥) →
           At (dataAt s (getD (places (properties s k)) (firstNamed s name (properties s k .starts)) 0)) (getD (places (properties s k)) (firstNamed s name (properties s k .starts) + 1) 0) ≡ inBody s k name
       unfolding inBody exactly
       by-first h = rw (eq-eqb _ _ right, eq-eqb _ _ whole, ne-eqb _ _ h)

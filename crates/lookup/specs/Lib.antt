@@ -1,2 +1,3 @@
 pub mod Lookup
+pub mod Statements
 pub mod Examples

@@ -12,3 +12,4 @@ pub mod Numbers
 pub mod Accepted
 pub mod InStep
 pub mod NodeLinks
+pub mod Leaves

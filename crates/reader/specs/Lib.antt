@@ -1,3 +1,5 @@
 pub mod Reading
 pub mod Contract
 pub mod Acceptance
+pub mod Leaves
+pub mod Examples

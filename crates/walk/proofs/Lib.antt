@@ -8,3 +8,4 @@ pub mod Found
 pub mod Sound
 pub mod Outcomes
 pub mod Complete
+pub mod Depth

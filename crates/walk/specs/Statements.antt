@@ -47,3 +47,10 @@ Unbounded = (parent : Parent) (above depth at row : ℕ) (bs : List ℕ) → nod
 -- What the code answers by, beside 3 to 12.
 abbrev pub Limited : Type 0
 Limited = (s : List ℕ) → (length s ≤ 16777216 → limited s ≡ walkOf s) × (16777216 < length s → limited s ≡ refuse 2 0)
+
+-- Document 01's 8, "depth over 8 (a root has depth 1)", is never given, whatever the bytes are. Each kind stands only under its
+-- parents: Root lies at depth 1, the kinds under Root at 2, those under Model and Animation at 3, and Bone, IKHandle, Constraint
+-- and File at 4 at most. An unknown node below one of these lies at 5, and what follows its header is not read. A known node that
+-- would lie deeper is refused with 6, which is judged before 8.
+abbrev pub NeverTooDeep : Type 0
+NeverTooDeep = (s : List ℕ) → walkOf s .number ≡ 8 → ⊥

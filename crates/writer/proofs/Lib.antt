@@ -4,8 +4,10 @@ pub mod Order
 pub mod Judged
 pub mod Rebuilt
 pub mod Placed
+pub mod Ancestors
 pub mod Plans
 pub mod Writing
 pub mod Written
 pub mod Writable
+pub mod Numbers
 pub mod RoundTrip

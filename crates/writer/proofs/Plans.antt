@@ -48,7 +48,7 @@ wide-hash r w = omega (arith, w .low, w .high)
 bytes-body : (s : List ℕ) (r : Row) → AreBytes s → AreBytes (bodyOf s r)
 bytes-body s r h = bytes-take (r .end - r .start) (drop (r .start) s) (bytes-drop (r .start) s h)
 
-exactly-good : (s : List ℕ) (r : Row) → AreBytes s → exactly (bodyOf s r) (r .properties) ≡ true → GoodBody (r .properties) (bodyOf s r)
+pub exactly-good : (s : List ℕ) (r : Row) → AreBytes s → exactly (bodyOf s r) (r .properties) ≡ true → GoodBody (r .properties) (bodyOf s r)
 unfolding exactly
 exactly-good s r bytes e =
     let body = bodyOf s r in

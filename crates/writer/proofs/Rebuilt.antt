@@ -107,7 +107,7 @@ rows-names f p k at j n o = none-names j (rows f p k at) (each-map other (rows f
     other r (inl e) h = n (sym e ∙ h)
     other r (inr e) h = omega (arith, e .0, e .1, h, o (omega (arith, e .0, h)))
 
-good-exactly : (p : ℕ) (body : List ℕ) → GoodBody p body → exactly body p ≡ true
+pub good-exactly : (p : ℕ) (body : List ℕ) → GoodBody p body → exactly body p ≡ true
 unfolding exactly
 good-exactly p body good =
     let e = rw (append-nil body) at (body-good p body [] good) in

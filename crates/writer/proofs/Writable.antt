@@ -1,176 +1,168 @@
--- A plan is written exactly when its forest is well-formed and has its rows, its Roots are at the top, and its bodies lie in the
--- source; and the file is short, and has room.
-use Prim.Native.Nat.{ℕ, suc, _+_, _-_, _^_, _≤_, _<_}
+-- A plan is written exactly when its rows are right, row by row, and the file is short and has room; and what its forest then is.
+use Prim.Native.Nat.{ℕ, zero, suc, _+_, _*_, _%_, _^_, _≤_, _<_}
 use native.Mathlib.Omega.{arith}
-use mathlib.Core.Path.{_≡_, refl, ap, sym, subst, _∙_}
-use mathlib.Core.Bool.{false}
-use mathlib.Core.List.{List, [], _∷_, _++_, map, append-nil}
-use lib.ListN.{length, getD, drop}
-use borrow.Author.Tests.{le-ltb}
+use mathlib.Core.Path.{_≡_, refl, ap, sym, _∙_}
+use mathlib.Core.Bool.{true, cond, and-eq-true-iff}
+use mathlib.Core.List.{List, [], _∷_}
+use mathlib.Core.Logic.{ite}
+use native.Mathlib.Decide.{ℕ-discrete}
+use lib.Dec.{eqb, leb}
+use lib.ListN.{length}
+use borrow.Author.Tests.{eq-eqb, ne-eqb, eqb-true, le-leb, le-ltb}
 use Rattle.le.specs.Le.{AreBytes}
-use Rattle.kinds.specs.Kinds.{root}
-use Rattle.kinds.specs.declared.Parent.{Parent}
-use Rattle.kinds.specs.declared.Parent.the-variants.{None, Kind}
 use Rattle.table.specs.declared.Row.{Row}
-use Rattle.table.specs.Table.{noParent}
+use Rattle.table.specs.Table.{rowCount, isPlan}
+use Rattle.table.proofs.Rests.{length-rowsAt}
 use Rattle.body.specs.Body.{exactly}
-use Rattle.format.specs.Forest.{Forest, end, known, unknown, count, nodes, encode, fileHeader, fileOf}
-use Rattle.format.specs.Rows.{rows, rowsOf, bodyOf, ownBytes}
+use Rattle.format.specs.Rows.{bodyOf, allOwnBytes}
 use Rattle.format.specs.Layout.{Each}
-use Rattle.format.proofs.Each.{each-append, each-map}
-use Rattle.format.proofs.Headers.{length-fileHeader}
-use Rattle.format.proofs.Rows.{length-rows}
+use Rattle.format.proofs.Each.{each-map}
 use Rattle.plan.specs.declared.Judged.{Judged}
-use Rattle.plan.specs.Plan.{pathOf, rightParent, outside, naming, judged}
-use Rattle.emit.specs.Emission.{nodesBytes}
+use Rattle.plan.specs.Plan.{naming, judged}
+use Rattle.emit.specs.Emission.{fileBytes}
+use Rattle.emit.proofs.Sizes.{owns, length-nodesBytes}
+use Rattle.emit.proofs.Whole.{length-fileBytes}
 use Rattle.writer.specs.Writer.{planRows, writtenOf}
-use Rattle.writer.specs.Forest.{forestOf, movedTo, laidOut}
-use Rattle.writer.specs.RoundTrip.{AreNumbers, Writable, WritesExactly}
-use Rattle.writer.proofs.Paths.{Right, Older}
-use Rattle.writer.proofs.Order.{Counts, bytes-along}
-use Rattle.writer.proofs.Judged.{Parents, Fitting, judged-parts, each-judged, RootOnly, parents-right, parents-roots, named-counts}
-use Rattle.writer.proofs.Rebuilt.{Rebuilt, rebuilt}
-use Rattle.writer.proofs.Placed.{Top, Tops, over-self, rows-parents}
-use Rattle.writer.proofs.Plans.{Inside, fitting-inside, whole-body, length-laid, laid-bodies, plan-bytes, plan-rows, plan-wellFormed}
-use Rattle.writer.proofs.Writing.{goes-on, emission-done}
+use Rattle.writer.specs.RoundTrip.{AreNumbers}
+use Rattle.writer.specs.Writable.{rowOf, IsKnown, rowsNaming, RightRow, Writable, WritesExactly, Described, WritableEncodes}
+use Rattle.writer.proofs.Order.{Whole}
+use Rattle.writer.proofs.Judged.{Fitting, Named, judged-parts, each-judged}
+use Rattle.writer.proofs.Rebuilt.{good-exactly}
+use Rattle.writer.proofs.Ancestors.{parents-are}
+use Rattle.writer.proofs.Plans.{Inside, exactly-good, fitting-inside, whole-body, plan-bytes, plan-rows, plan-few, plan-wellFormed}
+use Rattle.writer.proofs.Writing.{count-few, goes-on, emission-done}
 use Rattle.writer.proofs.Written.{number, written-right, rows-few, wide-rows}
 
--- ---- what does not depend on where bodies lie
-parents-laid : (k at : ℕ) (previous : List ℕ) (rs : List Row) → Parents k previous (laidOut at rs) → Parents k previous rs
-unfolding laidOut rightParent pathOf
-parents-laid k at previous [] w = tt
-parents-laid k at previous (r ∷ rs) w = (w .0, parents-laid (suc k) (at + ownBytes r) (pathOf k r previous) rs (w .1))
+-- ---- what holds of each row, by its number
+each-at : (P : Row → Type 0) (rs : List Row) → Each P rs → (k : ℕ) → k < length rs → P (rowOf rs k)
+each-at P [] h k b = absurd (omega (arith, b))
+each-at P (r ∷ rs) h zero b = h .0
+each-at P (r ∷ rs) h (suc k) b = each-at P rs (h .1) k (omega (arith, b))
 
-naming-laid : (at : ℕ) (rs : List Row) (j : ℕ) → naming (laidOut at rs) j ≡ naming rs j
-unfolding laidOut naming
-naming-laid at [] j = refl
-naming-laid at (r ∷ rs) j = rw (naming-laid (at + ownBytes r) rs j)
+at-each : (P : Row → Type 0) (rs : List Row) → ((k : ℕ) → k < length rs → P (rowOf rs k)) → Each P rs
+at-each P [] h = tt
+at-each P (r ∷ rs) h = (h 0 (omega arith), at-each P rs (λ k b. h (suc k) (omega (arith, b))))
 
-counts-laid : (k at : ℕ) (rs : List Row) → Counts k (laidOut at rs) → Counts k rs
-unfolding laidOut
-counts-laid k at [] c = tt
-counts-laid k at (r ∷ rs) c = (λ t. c .0 t ∙ naming-laid (at + ownBytes r) rs k, counts-laid (suc k) (at + ownBytes r) rs (c .1))
+-- ---- the rows naming a row
+naming-filter : (rs : List Row) (k : ℕ) → naming rs k ≡ length (rowsNaming rs k)
+unfolding naming
+naming-filter [] k = refl
+naming-filter (r ∷ rs) k = by (ℕ-discrete (r .parent) k) (naming-filter rs k)
+  where
+    by : (d : Dec (r .parent ≡ k)) → naming rs k ≡ length (rowsNaming rs k)
+        → cond (eqb (r .parent) k) (suc (naming rs k)) (naming rs k) ≡ length (ite {C = List Row} d (r ∷ rowsNaming rs k) (rowsNaming rs k))
+    by (yes e) ih = rw (eq-eqb (r .parent) k e) (ap suc ih)
+    by (no n) ih = rw (ne-eqb (r .parent) k n) ih
 
-roots-laid : (at : ℕ) (rs : List Row) → Each RootOnly rs → Each RootOnly (laidOut at rs)
-unfolding laidOut
-roots-laid at [] h = tt
-roots-laid at (r ∷ rs) h = (h .0, roots-laid (at + ownBytes r) rs (h .1))
+module _ (all : List Row) where
+  named-at : (k : ℕ) (rs : List Row) → Named all k rs → (i : ℕ) → i < length rs → IsKnown (rowOf rs i) → rowOf rs i .children ≡ naming all (k + i)
+  named-at k [] h i b t = absurd (omega (arith, b))
+  named-at k (r ∷ rs) h zero b t = h .0 t ∙ ap (naming all) (omega arith)
+  named-at k (r ∷ rs) h (suc i) b t = named-at (suc k) rs (h .1) i (omega (arith, b)) t ∙ ap (naming all) (omega arith)
 
--- the bodies being the same
-fitting-laid : (s file : List ℕ) (at : ℕ) (rs : List Row) → Each (Inside s) rs → map (bodyOf file) (laidOut at rs) ≡ map (bodyOf s) rs
-    → Each (Fitting file) (laidOut at rs) → Each (Fitting s) rs
-unfolding laidOut
-fitting-laid s file at [] i e f = tt
-fitting-laid s file at (r ∷ rs) i e f =
-    let same : bodyOf file (movedTo at r) ≡ bodyOf s r = ap (λ (l : List (List ℕ)). getD l 0 []) e in
-    let others = ap (λ (l : List (List ℕ)). drop 1 l) e in
-    let inside : outside (length s) r ≡ false = rw (le-ltb (r .end) (r .start) (i .0 .0), le-ltb (length s) (r .end) (i .0 .1)) in
-    ((inside, λ t. ap (λ b. exactly b (r .properties)) (sym same) ∙ f .0 .1 t), fitting-laid s file (at + ownBytes r) rs (i .1) others (f .1))
+  at-named : (k : ℕ) (rs : List Row) → ((i : ℕ) → i < length rs → IsKnown (rowOf rs i) → rowOf rs i .children ≡ naming all (k + i)) → Named all k rs
+  at-named k [] h = tt
+  at-named k (r ∷ rs) h =
+      (λ t. h 0 (omega arith) t ∙ ap (naming all) (omega arith), at-named (suc k) rs (λ i b t. h (suc i) (omega (arith, b)) t ∙ ap (naming all) (omega arith)))
 
--- ---- Roots at the top, by the rows
-abbrev Under : Parent → ℕ → Type 0
-Under None p = p ≡ noParent
-Under (Kind q) p = p < 1024
+-- ---- own bytes
+owns-all : (s : List ℕ) (rs : List Row) → Each (Whole s) rs → owns s rs ≡ allOwnBytes rs
+unfolding owns
+owns-all s [] h = refl
+owns-all s (r ∷ rs) h = omega (arith, h .0, owns-all s rs (h .1))
 
-top-by : (parent : Parent) (p kind : ℕ) → Under parent p → ((kind ≡ root → p ≡ noParent) × (p ≡ noParent → kind ≡ root)) → Top parent kind
-top-by None p kind u h = h .1 u
-top-by (Kind q) p kind u h = λ e. omega (arith, h .0 e, u)
+file-long : (flags : ℕ) (s : List ℕ) (rs : List Row) → Each (Inside s) rs → length (fileBytes flags s rs) ≡ 16 + allOwnBytes rs
+file-long flags s rs h =
+    omega (arith, length-fileBytes flags s rs, length-nodesBytes s 0 rs, owns-all s rs (each-map (whole-body s) rs h))
 
-rows-tops : (f : Forest) (parent : Parent) (p k at : ℕ) → Under parent p → k + nodes f ≤ 1024 → Each RootOnly (rows f p k at) → Tops parent f
-rows-tops end parent p k at u few h = tt
-rows-tops (known kind h ps body kids next) parent p k at u few e =
-    let here : ℕ = at + 24 + length body in
-    let split = each-append RootOnly (rows kids k (suc k) here) (rows next p (suc k + nodes kids) (here + length (encode kids))) .0 (e .1) in (
-      top-by parent p kind u (e .0),
-      rows-tops kids (Kind kind) k (suc k) here (omega (arith, few)) (omega (arith, few)) (split .0),
-      rows-tops next parent p (suc k + nodes kids) (here + length (encode kids)) u (omega (arith, few)) (split .1),
-    )
-rows-tops (unknown kind h ps c rest next) parent p k at u few e =
-    (top-by parent p kind u (e .0), rows-tops next parent p (suc k) (at + 24 + length rest) u (omega (arith, few)) (e .1))
+inside-fitting : (s : List ℕ) (r : Row) → Inside s r → (IsKnown r → exactly (bodyOf s r) (r .properties) ≡ true) → Fitting s r
+inside-fitting s r i b = (rw (le-ltb (r .end) (r .start) (i .0), le-ltb (length s) (r .end) (i .1)), b)
 
-module _ (plan s : List ℕ) (flags room : ℕ) where
+-- ---- 20
+whole-plan : (plan : List ℕ) → isPlan plan ≡ true → length plan ≡ 8 * rowCount plan
+whole-plan plan e =
+    let none = eqb-true (length plan % 8) 0 (and-eq-true-iff (eqb (length plan % 8) 0) (leb (rowCount plan) 1024) .0 e .0) in
+    omega (arith, none)
+
+module _ (plan s : List ℕ) (flags room : ℕ) (source : AreBytes s) where
   abbrev rs : List Row
   rs = planRows plan
 
-  abbrev f : Forest
-  f = forestOf s rs
-
   -- ---- what is written is writable
-  pub is-writable : AreNumbers plan → AreBytes s → flags < 256 ^ 4 → writtenOf plan s flags room .number ≡ 0 → Writable plan s flags room
-  is-writable numbers source bits e =
-      let right = written-right plan s flags room e in
-      let few = rows-few plan (right .whole) in
-      let wide = wide-rows plan 0 _ numbers in
-      let each = judged-parts s rs (right .right) in
-      let size = ap length (plan-bytes flags s rs few (right .right)) in
+  is-writable : writtenOf plan s flags room .number ≡ 0 → Writable plan s room
+  is-writable e =
+      let passed = written-right plan s flags room e in
+      let few = rows-few plan (passed .whole) in
+      let each = judged-parts s rs (passed .right) in
+      let parents = parents-are rs few .0 (each .0) in
+      let long = file-long flags s rs (each-map (fitting-inside s) rs (each .1)) in
       record {
-        whole = right .whole;
-        rows = plan-rows flags s rs few (right .right) (each-map (λ r w. w .low) rs wide);
-        tops = parents-roots 0 [] rs (each .0) tt (omega (arith, few));
-        within = each-map (fitting-inside s) rs (each .1);
-        wellFormed = plan-wellFormed flags s rs few (right .right) bits source wide (right .short);
-        short = omega (arith, size, right .short);
-        fits = omega (arith, size, right .fits);
+        count = rowCount plan;
+        whole = whole-plan plan (passed .whole);
+        few = count-few plan (passed .whole);
+        right = λ k b.
+            let in-rows : k < length rs = omega (arith, b, length-rowsAt plan 0 (rowCount plan)) in
+            let fitting = each-at (Fitting s) rs (each .1) k in-rows in
+            record {
+              parent = parents k in-rows;
+              within = fitting-inside s (rowOf rs k) fitting;
+              body = λ t. exactly-good s (rowOf rs k) source (fitting .1 t);
+              children = λ t. named-at rs 0 rs (each .2) k in-rows t ∙ ap (naming rs) (omega arith) ∙ naming-filter rs k;
+            };
+        short = omega (arith, long, passed .short);
+        fits = omega (arith, long, passed .fits);
       }
 
   -- ---- what is writable is written
-  module _ (w : Writable plan s flags room) where
+  module _ (w : Writable plan s room) where
+    rows-counted : length rs ≡ w .count
+    rows-counted = omega (arith, length-rowsAt plan 0 (rowCount plan), w .whole)
+
+    is-plan : isPlan plan ≡ true
+    is-plan = rw (eq-eqb (length plan % 8) 0 (omega (arith, w .whole)), le-leb (rowCount plan) 1024 (omega (arith, w .whole, w .few)))
+
     few : length rs ≤ 1024
-    few = rows-few plan (w .whole)
+    few = omega (arith, rows-counted, w .few)
 
-    all : nodes f ≡ length rs
-    all = sym (length-rows f noParent 0 16) ∙ ap length (w .rows) ∙ length-laid 16 rs
+    at : (k : ℕ) → k < length rs → RightRow s rs k
+    at k b = w .right k (omega (arith, b, rows-counted))
 
-    abbrev file : List ℕ
-    file = fileOf flags f
+    inside : Each (Inside s) rs
+    inside = at-each (Inside s) rs (λ k b. at k b .within)
 
-    file-parts : file ≡ fileHeader (count f) flags ++ encode f
-    unfolding fileOf
-    file-parts = refl
+    fitting : Each (Fitting s) rs
+    fitting = at-each (Fitting s) rs (λ k b. inside-fitting s (rowOf rs k) (at k b .within) (λ t. good-exactly (rowOf rs k .properties) (bodyOf s (rowOf rs k)) (at k b .body t)))
 
-    back : Rebuilt file f noParent 0 16
-    back = rebuilt file f (fileHeader (count f) flags) [] noParent 0 16 (w .wellFormed .2)
-        (file-parts ∙ ap (λ l. fileHeader (count f) flags ++ l) (sym (append-nil (encode f)))) (sym (length-fileHeader (count f) flags)) (λ b. omega arith) (omega (arith, all, few))
-
-    counts : Counts 0 rs
-    counts = counts-laid 0 16 rs (subst (Counts 0) (w .rows) (back .counts))
-
-    tops : Tops None f
-    tops = rows-tops f None noParent 0 16 refl (omega (arith, all, few)) (subst (Each RootOnly) (sym (w .rows)) (roots-laid 16 rs (w .tops)))
-
-    parents : Parents 0 [] rs
-    parents =
-        let of-rows : Parents 0 [] (rowsOf f ++ [])
-        = rows-parents f None noParent 0 0 16 [] [] [] (w .wellFormed .2) tops (refl, refl) (λ b. omega arith) (omega arith) (over-self 0 []) (omega (arith, all, few)) (λ then u. tt) in
-        parents-laid 0 16 [] rs (subst (Parents 0 []) (append-nil (rowsOf f) ∙ w .rows) of-rows)
-
-    path : Right 0 (noParent ∷ []) rs
-    path = parents-right 0 [] rs parents tt (omega (arith, few))
-
-    older : Each (Older 0) (noParent ∷ [])
-    older = (λ b. omega arith, tt)
-
-    bytes : nodesBytes s 0 rs ≡ encode f
-    bytes = bytes-along s 0 (noParent ∷ []) rs path (tt, tt) older (omega (arith, few)) counts ∙ append-nil (encode f)
-
-    bodies : map (bodyOf file) (laidOut 16 rs) ≡ map (bodyOf s) rs
-    bodies = laid-bodies s file (fileHeader (count f) flags) 0 16 rs (each-map (whole-body s) rs (w .within))
-        (file-parts ∙ ap (λ l. fileHeader (count f) flags ++ l) (sym bytes)) (sym (length-fileHeader (count f) flags))
+    named : Named rs 0 rs
+    named = at-named rs 0 rs (λ k b t. at k b .children t ∙ sym (naming-filter rs k) ∙ ap (naming rs) (omega arith))
 
     is-judged : judged s rs ≡ record { number = 0; row = 0 }
     unfolding judged
-    is-judged = each-judged s rs 0 [] rs parents
-        (fitting-laid s file 16 rs (w .within) bodies (subst (Each (Fitting file)) (w .rows) (back .fitting)))
-        (named-counts rs 0 (noParent ∷ []) rs path older (omega (arith, few)) (λ j a b. refl) .1 counts)
+    is-judged = each-judged s rs 0 [] rs (parents-are rs few .1 (λ k b. at k b .parent)) fitting named
 
     right : judged s rs .number ≡ 0
     right = ap (λ (j : Judged). j .number) is-judged
 
-    pub is-written : writtenOf plan s flags room .number ≡ 0
-    is-written =
-        ap number (goes-on plan s flags room (w .whole) right
-        ∙ emission-done flags s rs room (length file) (ap length (plan-bytes flags s rs few right)) (w .short) (w .fits))
+    long : length (fileBytes flags s rs) ≡ 16 + allOwnBytes rs
+    long = file-long flags s rs inside
+
+    is-written : writtenOf plan s flags room .number ≡ 0
+    is-written = ap number (goes-on plan s flags room is-plan right ∙ emission-done flags s rs room (16 + allOwnBytes rs) long (w .short) (w .fits))
+
+    -- ---- and its forest
+    described : AreNumbers plan → flags < 256 ^ 4 → Described plan s flags
+    described numbers bits =
+        let wide = wide-rows plan 0 _ numbers in
+        let low = each-map (λ r n. n .low) rs wide in
+        record {
+          rows = plan-rows flags s rs few right low;
+          wellFormed = plan-wellFormed flags s rs few right bits source wide (omega (arith, long, w .short));
+          few = plan-few flags s rs few right low;
+          size = sym (ap length (plan-bytes flags s rs few right)) ∙ long;
+        }
 
 pub writesExactly : WritesExactly
-writesExactly plan s flags room numbers source bits =
-    (is-writable plan s flags room numbers source bits, is-written plan s flags room)
+writesExactly plan s flags room source = (is-writable plan s flags room source, is-written plan s flags room source)
+
+pub writableEncodes : WritableEncodes
+writableEncodes plan s flags room numbers source bits w = described plan s flags room source w numbers bits

@@ -1,13 +1,18 @@
 -- Small plans, written by the definition.
 use Prim.Native.Nat.{ℕ}
-use mathlib.Core.Path.{_≡_, refl}
+use native.Mathlib.Decide.{ℕ-discrete}
+use native.Mathlib.Omega.{arith}
+use mathlib.Core.Path.{_≡_, refl, ap, sym, subst}
+use mathlib.Core.Logic.{inl, inr}
+use mathlib.Core.Bool.{true≢false}
 use mathlib.Core.List.{List, [], _∷_, _++_}
-use lib.ListN.{replicate}
+use lib.ListN.{length, replicate}
 use Rattle.le.specs.Le.{val, numberAt, le}
 use Rattle.names.specs.Names.{bytesOk}
-use Rattle.kinds.specs.Kinds.{root, lines, lineIn, lineOf, isKnown}
+use Rattle.kinds.specs.Kinds.{root, model, mesh, lines, lineIn, lineOf, isKnown}
 use Rattle.props.specs.Step.{headerRefusal, dataRefusal, toZero, dataOf, nameAt, stepAt}
 use Rattle.body.specs.Body.{pass, properties, exactly}
+use Rattle.table.specs.declared.Row.{Row}
 use Rattle.table.specs.Table.{noParent, hasRow, rowAt, rowsAt}
 use Rattle.format.specs.Forest.{end, known, unknown, header, fileHeader}
 use Rattle.plan.specs.Plan.{upFrom, pathOf, isOn, rightParent, naming, rowRefusal, judgedFrom, judged}
@@ -15,6 +20,7 @@ use Rattle.emit.specs.declared.Written.{Written}
 use Rattle.emit.specs.Emission.{under, sizes, nodesBytes, roots, fileBytes, refused, done, emission, leftBy}
 use Rattle.writer.specs.Writer.{planRows, writtenOf, outputAfter}
 use Rattle.writer.specs.Forest.{nodesUnder, forestOf, laidOut}
+use Rattle.writer.specs.Writable.{rowOf, Ancestor, nearest, higher, Near, MayHold, rowsNaming}
 
 unfoldable write : (plan s : List ℕ) (room : ℕ) → Written
 unfolding val numberAt le bytesOk lines lineIn lineOf isKnown headerRefusal dataRefusal toZero dataOf nameAt stepAt pass properties exactly hasRow rowAt rowsAt header fileHeader upFrom pathOf isOn rightParent naming rowRefusal judgedFrom judged under sizes nodesBytes roots fileBytes emission writtenOf
@@ -54,3 +60,50 @@ places : laidOut 16 (planRows (rootRow 1 ++ noteRow 1 4)) ≡
     record { kind = 0x6E676177; low = 0; high = 0; parent = 0; start = 64; end = 67; properties = 0; children = 0 } ∷ []
 unfolding hasRow rowAt rowsAt laidOut
 places = refl
+
+-- ---- 21 by ancestors: a Root, under it a private node, a Model after that, a second Model, and a Mesh under the second
+abbrev model-row : (children : ℕ) → List ℕ
+model-row children = model ∷ 0 ∷ 0 ∷ 0 ∷ 0 ∷ 0 ∷ 0 ∷ children ∷ []
+
+abbrev five : List Row
+five = planRows (rootRow 3 ++ (noteRow 0 0 ++ (model-row 0 ++ (model-row 1 ++ (mesh ∷ 0 ∷ 0 ∷ 3 ∷ 0 ∷ 0 ∷ 0 ∷ 0 ∷ [])))))
+
+-- the Root may hold the Model: it is an ancestor of the previous row, which is unknown and may not
+held : MayHold five 2 0 × (MayHold five 2 1 → ⊥)
+unfolding hasRow rowAt rowsAt lines lineIn lineOf isKnown
+held = (record { earlier = omega arith; known = refl; near = inr (nearest {j = 1} (omega arith) refl) }, λ m. true≢false (sym (m .known)))
+
+-- the second Model, the previous row, may hold the Mesh, and so may the Root; the first one, which is not around the previous
+-- row, may not
+last : MayHold five 4 3 × MayHold five 4 0 × (MayHold five 4 2 → ⊥)
+unfolding hasRow rowAt rowsAt lines lineIn lineOf isKnown
+last = (
+  record { earlier = omega arith; known = refl; near = inl refl },
+  record { earlier = omega arith; known = refl; near = inr (nearest {j = 3} (omega arith) refl) },
+  λ m. by (m .near),
+)
+  where
+    top : (j : ℕ) → j ≡ noParent → Ancestor five 2 j → ⊥
+    top j e (nearest b p) = omega (arith, b, e)
+    top j e (higher b a) = omega (arith, b, e)
+
+    above : (j : ℕ) → j ≡ 0 → Ancestor five 2 j → ⊥
+    above j e (nearest b p) = let z : noParent ≡ 2 = subst (λ i. rowOf five i .parent ≡ 2) e p in omega (arith, z)
+    above j e (higher b a) = top (rowOf five j .parent) (ap (λ i. rowOf five i .parent) e) a
+
+    previous : (j : ℕ) → j ≡ 3 → Ancestor five 2 j → ⊥
+    previous j e (nearest b p) = let z : _≡_ {A = ℕ} 0 2 = subst (λ i. rowOf five i .parent ≡ 2) e p in omega (arith, z)
+    previous j e (higher b a) = above (rowOf five j .parent) (ap (λ i. rowOf five i .parent) e) a
+
+    by : Near five 4 2 → ⊥
+    by (inl e) = omega (arith, e)
+    by (inr a) = previous 3 refl a
+
+-- row 0 has no previous row: no row may hold it
+first : (p : ℕ) → MayHold five 0 p → ⊥
+first p m = m .near
+
+-- 24: the rows naming the Root are three, the second Model's is one
+named : (length (rowsNaming five 0) ≡ 3) × (length (rowsNaming five 3) ≡ 1) × (length (rowsNaming five 2) ≡ 0)
+unfolding hasRow rowAt rowsAt ℕ-discrete
+named = (refl, refl, refl)

@@ -1,4 +1,5 @@
 pub mod Writer
 pub mod Forest
 pub mod RoundTrip
+pub mod Writable
 pub mod Examples

@@ -4,16 +4,14 @@
 -- `writer::write`.
 use Prim.Native.Nat.{ℕ, _≤_, _<_, _^_}
 use mathlib.Core.Path.{_≡_}
-use mathlib.Core.Logic.{_⊎_, _↔_}
-use mathlib.Core.Bool.{true}
+use mathlib.Core.Logic.{_⊎_}
 use mathlib.Core.List.{List, _++_, map}
 use lib.ListN.{length, getD, take, drop}
 use Rattle.le.specs.Le.{AreBytes}
-use Rattle.kinds.specs.Kinds.{root}
-use Rattle.table.specs.Table.{noParent, rowsAt, rowCount, isPlan, firstRows}
+use Rattle.table.specs.Table.{rowsAt, rowCount, firstRows}
 use Rattle.format.specs.Forest.{fileOf}
 use Rattle.format.specs.Rows.{rowsOf, bodyOf}
-use Rattle.format.specs.Layout.{Each, WellFormedFile, Few}
+use Rattle.format.specs.Layout.{WellFormedFile, Few}
 use Rattle.reader.specs.declared.Account.{Account}
 use Rattle.reader.specs.declared.Reading.the-variants.{Accepted, Refused}
 use Rattle.reader.specs.Reading.{readingOf, tableAfter}
@@ -35,27 +33,6 @@ WriteAfterRead = (s t out : List ℕ) (a : Account) → AreBytes s → readingOf
 -- numbers of 32 bits, as a plan's are
 abbrev pub AreNumbers : List ℕ → Type 0
 AreNumbers ns = (i : ℕ) → getD ns i 0 < 256 ^ 4
-
--- A plan is written exactly when it meets document 01's rules, here as propositions, with no number, place or order. Its rows
--- are those of its forest: so each lies under a row before it that is known, in the order of the nodes (21), and has the
--- child count of its node (24).
-pub record Writable (plan s : List ℕ) (flags room : ℕ) : Type 0 where
-  -- not 20
-  pub whole : isPlan plan ≡ true
-  pub rows : rowsOf (forestOf s (planRows plan)) ≡ laidOut 16 (planRows plan)
-  -- 21: "none exactly for Root"
-  pub tops : Each (λ r. (r .kind ≡ root) ↔ (r .parent ≡ noParent)) (planRows plan)
-  -- not 22: "body end before its start or past the source"
-  pub within : Each (λ r. (r .start ≤ r .end) × (r .end ≤ length s)) (planRows plan)
-  -- not 23, as each known node's body is its count of good properties
-  pub wellFormed : WellFormedFile flags (forestOf s (planRows plan))
-  -- not 25, not 26
-  pub short : length (fileOf flags (forestOf s (planRows plan))) ≤ 16777216
-  pub fits : length (fileOf flags (forestOf s (planRows plan))) ≤ room
-
-abbrev pub WritesExactly : Type 0
-WritesExactly = (plan s : List ℕ) (flags room : ℕ) → AreNumbers plan → AreBytes s → flags < 256 ^ 4
-    → ((writtenOf plan s flags room .number ≡ 0) ↔ Writable plan s flags room)
 
 -- the file that a plan, a source and flags were written as: the first bytes of the output, as many as the answer says
 pub record Wrote (plan s : List ℕ) (flags : ℕ) (file : List ℕ) : Type 0 where
