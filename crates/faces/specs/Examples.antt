@@ -21,6 +21,14 @@ worked :
 unfolding scanned
 worked = refl
 
+-- two equal values, wherever they stand: 0 1 0, 0 0 1, 0 0 0
+equal : (scanned 3 0x62 1 (0 ∷ 1 ∷ 0 ∷ []) ∷ scanned 3 0x62 1 (0 ∷ 0 ∷ 1 ∷ []) ∷ scanned 3 0x62 1 (0 ∷ 0 ∷ 0 ∷ []) ∷ []) ≡
+    record { values = Below; faces = record { 0 = 1 }; degenerate = 1 } ∷
+    record { values = Below; faces = record { 0 = 1 }; degenerate = 1 } ∷
+    record { values = Below; faces = record { 0 = 1 }; degenerate = 1 } ∷ []
+unfolding scanned
+equal = refl
+
 -- of width 2: 256 1 0, 7 7 7
 wide : scanned 257 0x68 2 (0 ∷ 1 ∷ 1 ∷ 0 ∷ 0 ∷ 0 ∷ 7 ∷ 0 ∷ 7 ∷ 0 ∷ 7 ∷ 0 ∷ []) ≡ record { values = Below; faces = record { 0 = 2 }; degenerate = 1 }
 unfolding scanned

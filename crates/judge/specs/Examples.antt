@@ -48,6 +48,15 @@ meshes : (judge mesh 2 0 (vp ++ f) ∷ judge mesh 3 0 (vp ++ (f ++ vp)) ∷ judg
 unfolding judge property
 meshes = refl
 
+-- degenerate faces: 0 1 0, 0 0 1, 0 0 0, each counted once; and 0 1 2 beside them, which is none
+abbrev faced : (elements : ℕ) → List ℕ → List ℕ
+faced n values = judge mesh 2 0 (vp ++ property byte "f" n values)
+
+degenerates : (faced 3 (0 ∷ 1 ∷ 0 ∷ []) ∷ faced 3 (0 ∷ 0 ∷ 1 ∷ []) ∷ faced 3 (0 ∷ 0 ∷ 0 ∷ []) ∷ faced 12 (0 ∷ 1 ∷ 0 ∷ 0 ∷ 1 ∷ 2 ∷ 0 ∷ 0 ∷ 1 ∷ 0 ∷ 0 ∷ 0 ∷ []) ∷ []) ≡
+    (0 ∷ 0 ∷ 1 ∷ 1 ∷ 0 ∷ []) ∷ (0 ∷ 0 ∷ 1 ∷ 1 ∷ 0 ∷ []) ∷ (0 ∷ 0 ∷ 1 ∷ 1 ∷ 0 ∷ []) ∷ (0 ∷ 0 ∷ 4 ∷ 3 ∷ 0 ∷ []) ∷ []
+unfolding judge property
+degenerates = refl
+
 -- "V = 0 with an empty f: accepted. f of length 2: 15."
 bare : (judge mesh 2 0 (property v3 "vp" 0 [] ++ property byte "f" 0 []) ∷ judge mesh 2 0 (vp ++ property byte "f" 2 (0 ∷ 1 ∷ [])) ∷ []) ≡
     right ∷ refused 15 70 ∷ []
