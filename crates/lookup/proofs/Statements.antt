@@ -21,7 +21,7 @@ use Rattle.format.proofs.Bodies.{body-sound}
 use Rattle.lookup.specs.declared.Found.{Found}
 use Rattle.lookup.specs.declared.Found.the-variants.{At, Refused}
 use Rattle.lookup.specs.Lookup.{inBody, shifted, lookupOf, numberOf, partOf, Within}
-use Rattle.lookup.specs.Statements.{IsRow, LiesIn, IsBody, NoneNamed, FirstNamed, Among, Answers, LooksUp}
+use Rattle.lookup.specs.Statements.{IsRow, LiesIn, IsBody, NoneNamed, FirstNamed, Finds, Answers, LooksUp}
 use Rattle.lookup.proofs.Laws.{body-within}
 use Rattle.lookup.proofs.Rows.{no-row, reversed, outside, inside, length-body}
 use Rattle.lookup.proofs.Among.{there-or-not, good-exactly, none-in, first-in}
@@ -108,7 +108,7 @@ module _ (bs t : List ℕ) (row : ℕ) (name : List ℕ) (bytes : AreBytes bs) w
           ∙ sym (part-of (at .start) (at .stop - at .start) (r .end - r .start) (drop (r .start) bs) (omega (arith, within .0, within .1, long)))
           ∙ at .content
 
-      among : (b : IsBody bs r) → Among bs t row name (b .properties)
+      among : (b : IsBody bs r) → Finds bs t row name (b .properties)
       among b = record {
         absent = (λ e. absent-by e (there-or-not name (b .properties)), none-43 b);
         found = (λ e. found-by e (there-or-not name (b .properties)), λ f. found-0 b (f .0) (f .1));

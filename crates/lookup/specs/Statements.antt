@@ -40,7 +40,7 @@ pub record FirstNamed (name : List ℕ) (ps : List Property) (p : Property) : Ty
 
 -- in a body that is these properties: 43 exactly when none has the name; found, which is number 0, exactly when one has it, and
 -- then the part is the first such one's data
-pub record Among (bs t : List ℕ) (row : ℕ) (name : List ℕ) (ps : List Property) : Type 0 where
+pub record Finds (bs t : List ℕ) (row : ℕ) (name : List ℕ) (ps : List Property) : Type 0 where
   pub absent : (numberOf (lookupOf bs t row name) ≡ 43) ↔ NoneNamed name ps
   pub found : (numberOf (lookupOf bs t row name) ≡ 0) ↔ ((p : Property) × FirstNamed name ps p)
   pub content : (p : Property) → FirstNamed name ps p → partOf bs (lookupOf bs t row name) ≡ p .content
@@ -49,7 +49,7 @@ pub record Answers (bs t : List ℕ) (row : ℕ) (name : List ℕ) (r : Row) : T
   pub noRow : (numberOf (lookupOf bs t row name) ≡ 40) ↔ (IsRow t row → ⊥)
   pub outside : (numberOf (lookupOf bs t row name) ≡ 41) ↔ (IsRow t row × (LiesIn bs r → ⊥))
   pub noBody : (numberOf (lookupOf bs t row name) ≡ 42) ↔ (IsRow t row × LiesIn bs r × (IsBody bs r → ⊥))
-  pub inBody : IsRow t row → LiesIn bs r → (body : IsBody bs r) → Among bs t row name (body .properties)
+  pub inBody : IsRow t row → LiesIn bs r → (body : IsBody bs r) → Finds bs t row name (body .properties)
   -- "an empty part on refusal"
   pub empty : (numberOf (lookupOf bs t row name) ≡ 0 → ⊥) → partOf bs (lookupOf bs t row name) ≡ []
 

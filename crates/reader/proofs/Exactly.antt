@@ -12,6 +12,7 @@ use Rattle.le.specs.Le.{val, AreBytes}
 use Rattle.le.proofs.Tests.{by-test}
 use Rattle.table.specs.declared.Row.{Row}
 use Rattle.table.specs.Table.{noParent, hasRoom}
+use Rattle.table.proofs.Clearing.{fits-hasRoom}
 use Rattle.body.specs.Body.{properties}
 use Rattle.rules.specs.Table.{lines}
 use Rattle.rules.specs.Rules.{linesOf}
@@ -39,11 +40,11 @@ use Rattle.reader.specs.declared.Account.{Account}
 use Rattle.reader.specs.declared.Reading.{Reading}
 use Rattle.reader.specs.declared.Reading.the-variants.{Accepted, Refused}
 use Rattle.reader.specs.Reading.{bonesUnder, judgedRow, ruled, byNumber, accountOf, checked, verdict, readingOf, tableAfter}
-use Rattle.reader.specs.Acceptance.{IsValid, Exactly, byRow, byNode, AnswerOf, RowsGive, AnswersTheRules, OneForest}
+use Rattle.reader.specs.Acceptance.{IsValid, Exactly, rowsOfLink, nodesOfLink, AnswerOf, RowsGive, AnswersTheRules, OneForest}
 use Rattle.reader.proofs.Counts.{own-under, reached-nodes}
 use Rattle.reader.proofs.Nodes.{KnownRow, UnknownRow, each-known}
 use Rattle.reader.proofs.Charges.{own-split, ruled-counts, resolved-counts}
-use Rattle.reader.proofs.InStep.{valid-step, length-step, faces-step, known-bytes, unknown-bytes}
+use Rattle.reader.proofs.InStep.{valid-step, length-step, kinds-step, faces-step, known-bytes, unknown-bytes}
 use Rattle.reader.proofs.NodeLinks.{links-step}
 use Rattle.reader.proofs.Judging.{judged-known, judged-unknown}
 use Rattle.reader.proofs.Stages.{RightRow, LinkedRow, ruled-each, linked-each}
@@ -200,9 +201,9 @@ unfolding readingOf
 in-room s t h = rw h
 
 pub exactly : Exactly
-exactly s t bytes room = (
-  λ h. verdict-valid s bytes (sym (in-room s t room) ∙ h .accepts),
-  λ h. record { account = _; accepts = in-room s t room ∙ valid-verdict s (h .flags) (h .forest) (h .valid) (h .bytes) },
+exactly s t bytes long = (
+  λ h. verdict-valid s bytes (sym (in-room s t (fits-hasRoom t long)) ∙ h .accepts),
+  λ h. record { account = _; accepts = in-room s t (fits-hasRoom t long) ∙ valid-verdict s (h .flags) (h .forest) (h .valid) (h .bytes) },
 )
 
 -- ---- what is answered
@@ -256,12 +257,13 @@ module _ (s : List ℕ) (flags : ℕ) (f : Forest) (v : Valid flags f) (e : s �
         twoEqual = two .those;
         areDegenerate = two .picks;
         degenerates = rows-give .degenerates ∙ ap degenerate faces ∙ two .count;
-        nodeLinks = links .links;
+        linkList = links .links;
         areLinks = links .are;
         links =
-            rows-give .links ∙ sym (length-map (linksOf s (rowsOf f)) byRow) ∙ ap length (links .tied) ∙ length-map (links .links) byNode;
-        rowFaces = faces;
-        rowLinks = links .tied;
+            rows-give .links ∙ sym (length-map (linksOf s (rowsOf f)) rowsOfLink) ∙ ap length (links .tied) ∙ length-map (links .links) nodesOfLink;
+        inStep = kinds-step step;
+        facesByRow = faces;
+        linksByRow = links .tied;
       }
 
   module _ (a : Account) (r : verdict s ≡ Accepted a) where

@@ -4,7 +4,7 @@ use native.Mathlib.Omega.{arith}
 use mathlib.Core.Path.{_≡_, refl, ap, sym, _∙_}
 use mathlib.Core.Logic.{_⊎_, inl, inr, ⊎-elim}
 use mathlib.Core.Bool.{true, false}
-use mathlib.Core.List.{List, [], _∷_, _++_, append-assoc, append-nil, flatMap}
+use mathlib.Core.List.{List, [], _∷_, _++_, append-assoc, append-nil, map, flatMap}
 use lib.Dec.{eqb}
 use lib.ListN.{length, length-append}
 use Rattle.le.proofs.Tests.{by-test}
@@ -24,7 +24,7 @@ use Rattle.valid.specs.Valid.{bones, EachKnown, NodeRuled, Valid}
 use Rattle.valid.specs.Nodes.{Node, nodesOf, knownBytes, unknownBytes, meshFaces, allFaces}
 use Rattle.valid.proofs.Meshes.{node-faces}
 use Rattle.reader.specs.Reading.{ownKnown, ownUnknown}
-use Rattle.reader.specs.Acceptance.{rowFaces, facesOf}
+use Rattle.reader.specs.Acceptance.{ofRow, ofNode, rowFaces, facesOf}
 
 pub record KnownAs (s : List ℕ) (r : Row) (n : Node) : Type 0 where
   pub isOne : isKnown (r .kind) ≡ true
@@ -93,6 +93,11 @@ valid-step s flags f v e =
 pub length-step : {s : List ℕ} {rs : List Row} {ns : List Node} → InStep s rs ns → length rs ≡ length ns
 length-step none = refl
 length-step (one h a) = ap suc (length-step a)
+
+pub kinds-step : {s : List ℕ} {rs : List Row} {ns : List Node} → InStep s rs ns
+    → map ofRow rs ≡ map ofNode ns
+kinds-step none = refl
+kinds-step (one {r} {n} {rs} {ns} h a) = rw (h .kind, h .hash) (ap (λ l. ofRow r ∷ l) (kinds-step a))
 
 -- ---- faces
 node-by : (n : Node) {kind : ℕ} {ps : List Property} → n .kind ≡ kind → n .properties ≡ ps

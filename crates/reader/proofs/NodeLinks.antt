@@ -23,7 +23,7 @@ use Rattle.format.proofs.Each.{each-append}
 use Rattle.links.specs.Links.{Link, reached, linksAt, rowLinks, linksFrom, linksOf}
 use Rattle.valid.specs.Among.{Picks, none, taken, left}
 use Rattle.valid.specs.Obeys.{Obeys}
-use Rattle.valid.specs.Nodes.{Node, NodeProperty, propertiesFrom, IsLink, noNode, IsNode, IsOnly, NodeLink, Reaches, LinksAre}
+use Rattle.valid.specs.Nodes.{Node, NodeProperty, propertiesFrom, IsLink, noNode, IsNode, IsOnly, NodeLink, ReachesOne, LinksAre}
 use Rattle.valid.proofs.Described.{Described, described}
 use Rattle.valid.proofs.Described as Found
 use Rattle.valid.proofs.Ruled.{FitsRules}
@@ -32,7 +32,7 @@ use Rattle.valid.proofs.Lines.{link-line}
 use Rattle.valid.proofs.Values.{takes-long, hash-read}
 use Rattle.valid.proofs.Listed.{to-line, some-line}
 use Rattle.valid.proofs.Picks.{picks-append}
-use Rattle.reader.specs.Acceptance.{byRow, byNode}
+use Rattle.reader.specs.Acceptance.{rowsOfLink, nodesOfLink}
 use Rattle.reader.proofs.InStep as Step
 use Rattle.reader.proofs.InStep.{KnownAs, SameAs, InStep}
 
@@ -108,8 +108,8 @@ One l = length (l .targets) ≡ 1
 pub record Same (nodes : List Node) (xs : List NodeProperty) (ls : List Link) : Type 0 where
   pub links : List NodeLink
   pub sources : Picks IsLink xs (map (λ x. x .source) links)
-  pub targets : Each (Reaches nodes) links
-  pub tied : map byRow ls ≡ map byNode links
+  pub targets : Each (ReachesOne nodes) links
+  pub tied : map rowsOfLink ls ≡ map nodesOfLink links
 
 module _ (nodes : List Node) where
   same-none : Same nodes [] []
@@ -119,8 +119,8 @@ module _ (nodes : List Node) where
   same-append {xs} {ys} {ls} {ms} a b = record {
     links = a .links ++ b .links;
     sources = rw (map-append (λ x. x .source) (a .links) (b .links)) (picks-append (a .sources) (b .sources));
-    targets = each-append (Reaches nodes) (a .links) (b .links) .1 (a .targets, b .targets);
-    tied = map-append byRow ls ms ∙ rw (a .tied, b .tied) (sym (map-append byNode (a .links) (b .links)));
+    targets = each-append (ReachesOne nodes) (a .links) (b .links) .1 (a .targets, b .targets);
+    tied = map-append rowsOfLink ls ms ∙ rw (a .tied, b .tied) (sym (map-append nodesOfLink (a .links) (b .links)));
   }
 
 alone : (l : List ℕ) → length l ≡ 1 → l ≡ getD l 0 0 ∷ []
@@ -161,7 +161,7 @@ module _ {s : List ℕ} {all : List Row} {nodes : List Node} (whole : InStep s a
           links = link ∷ ih .links;
           sources = taken (isLink .0 held) (ih .sources);
           targets = (to-line kind (p .name) (λ l. l .held ≡ linkTo 0 .held → IsOnly nodes (l .target) (val (p .content)) (here .place)) (λ e. here .only), ih .targets);
-          tied = ap (map byRow) split ∙ ap (λ ts. (row, ts) ∷ map byRow rest) target ∙ ap (λ r. (row, here .place ∷ []) ∷ r) (ih .tied);
+          tied = ap (map rowsOfLink) split ∙ ap (λ ts. (row, ts) ∷ map rowsOfLink rest) target ∙ ap (λ r. (row, here .place ∷ []) ∷ r) (ih .tied);
         })
         (λ t.
         let ih = node-links more (fits .1) (rw (a .name, t) at h) in
@@ -198,7 +198,7 @@ module _ {s : List ℕ} {all : List Row} {nodes : List Node} (whole : InStep s a
   pub record FileLinks : Type 0 where
     pub links : List NodeLink
     pub are : LinksAre nodes links
-    pub tied : map byRow (linksOf s all) ≡ map byNode links
+    pub tied : map rowsOfLink (linksOf s all) ≡ map nodesOfLink links
 
   pub links-step : Each One (linksOf s all) → FileLinks
   links-step h = let same = links-from 0 whole h in record { links = same .links; are = record { sources = same .sources; targets = same .targets }; tied = same .tied }

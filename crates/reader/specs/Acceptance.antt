@@ -1,27 +1,27 @@
 -- Demand 2, first half, as named statements. `Valid` (crate valid) is acceptance by propositions, with no number, place or
 -- order; `readingOf` and `tableAfter` are the ordered reading and the table that it leaves: the contract of `reader::read`.
-use Prim.Native.Nat.{ℕ, _+_}
+use Prim.Native.Nat.{ℕ, _+_, _≤_}
 use mathlib.Core.Path.{_≡_}
 use mathlib.Core.Logic.{_↔_}
-use mathlib.Core.Bool.{true, cond}
+use mathlib.Core.Bool.{cond}
 use mathlib.Core.List.{List, [], _∷_, map, flatMap}
 use lib.ListN.{length}
 use Rattle.le.specs.Le.{AreBytes}
 use Rattle.kinds.specs.Kinds.{isKnown}
 use Rattle.table.specs.declared.Row.{Row}
-use Rattle.table.specs.Table.{hasRoom, filled}
+use Rattle.table.specs.Table.{filled}
 use Rattle.body.specs.Body.{properties}
 use Rattle.faces.specs.declared.Face.{Face}
 use Rattle.faces.specs.Faces.{degenerate}
 use Rattle.rules.specs.Rules.{linesOf}
 use Rattle.judge.specs.Judge.{nodeFaces}
 use Rattle.format.specs.Forest.{Forest, fileOf}
-use Rattle.format.specs.Rows.{rowsOf, bodyOf}
+use Rattle.format.specs.Rows.{hashOf, rowsOf, bodyOf}
 use Rattle.format.specs.Layout.{Each, WellFormed}
 use Rattle.links.specs.Links.{Link, linksOf}
 use Rattle.valid.specs.Among.{Picks}
 use Rattle.valid.specs.Valid.{Valid}
-use Rattle.valid.specs.Nodes.{nodesOf, knownBytes, unknownBytes, allFaces, TwoEqual, NodeLink, LinksAre}
+use Rattle.valid.specs.Nodes.{Node, nodesOf, knownBytes, unknownBytes, allFaces, TwoEqual, NodeLink, LinksAre}
 use Rattle.reader.specs.declared.Account.{Account}
 use Rattle.reader.specs.declared.Reading.the-variants.{Accepted}
 use Rattle.reader.specs.Reading.{ownKnown, ownUnknown, readingOf, tableAfter}
@@ -38,9 +38,10 @@ pub record IsAccepted (s t : List ℕ) : Type 0 where
   pub account : Account
   pub accepts : readingOf s t ≡ Accepted account
 
--- "A file is accepted exactly when it meets the published Cast layout and document 01's rules", with any table that has room
+-- "A file is accepted exactly when it meets the published Cast layout and document 01's rules", with any table that is not
+-- "shorter than 8,192 numbers"
 abbrev pub Exactly : Type 0
-Exactly = (s t : List ℕ) → AreBytes s → hasRoom t ≡ true → (IsAccepted s t ↔ IsValid s)
+Exactly = (s t : List ℕ) → AreBytes s → 8192 ≤ length t → (IsAccepted s t ↔ IsValid s)
 
 -- ---- what is answered of an accepted file
 
@@ -51,12 +52,19 @@ rowFaces s r = cond (isKnown (r .kind)) (nodeFaces (linesOf (r .kind)) (bodyOf s
 unfoldable pub facesOf : (s : List ℕ) → List Row → List Face
 facesOf s rows = flatMap (rowFaces s) rows
 
--- a link's row and the rows that it reaches; its node and the node that it reaches
-abbrev pub byRow : Link → ℕ × List ℕ
-byRow l = (l .row, l .targets)
+-- the kind and the hash of a row, and of a node
+abbrev pub ofRow : Row → ℕ × ℕ
+ofRow r = (r .kind, hashOf r)
 
-abbrev pub byNode : NodeLink → ℕ × List ℕ
-byNode x = (x .source .node, x .target ∷ [])
+abbrev pub ofNode : Node → ℕ × ℕ
+ofNode n = (n .kind, n .hash)
+
+-- a link's row and the rows that it reaches; its node and the node that it reaches
+abbrev pub rowsOfLink : Link → ℕ × List ℕ
+rowsOfLink l = (l .row, l .targets)
+
+abbrev pub nodesOfLink : NodeLink → ℕ × List ℕ
+nodesOfLink x = (x .source .node, x .target ∷ [])
 
 -- Over the nodes and their properties (crate valid, Nodes.antt), which no count of the reading enters. Document 01's charges are
 -- the own bytes of known and of unknown nodes, and the faces.
@@ -70,12 +78,13 @@ pub record AnswerOf (s : List ℕ) (f : Forest) (well : WellFormed f) (a : Accou
   pub twoEqual : List Face
   pub areDegenerate : Picks TwoEqual (allFaces (nodesOf f well)) twoEqual
   pub degenerates : a .degenerate ≡ length twoEqual
-  pub nodeLinks : List NodeLink
-  pub areLinks : LinksAre (nodesOf f well) nodeLinks
-  pub links : a .links ≡ length nodeLinks
-  -- the rows have the same faces, in the same order, and the same links: node i is that of row i
-  pub rowFaces : facesOf s (rowsOf f) ≡ allFaces (nodesOf f well)
-  pub rowLinks : map byRow (linksOf s (rowsOf f)) ≡ map byNode nodeLinks
+  pub linkList : List NodeLink
+  pub areLinks : LinksAre (nodesOf f well) linkList
+  pub links : a .links ≡ length linkList
+  -- node i is that of row i, and the rows have the same faces, in the same order, and the same links
+  pub inStep : map ofRow (rowsOf f) ≡ map ofNode (nodesOf f well)
+  pub facesByRow : facesOf s (rowsOf f) ≡ allFaces (nodesOf f well)
+  pub linksByRow : map rowsOfLink (linksOf s (rowsOf f)) ≡ map nodesOfLink linkList
 
 -- The same by the rows and the bytes, as the reading counts: "demand 2, which ties each to the rows"
 pub record RowsGive (s : List ℕ) (rows : List Row) (a : Account) : Type 0 where

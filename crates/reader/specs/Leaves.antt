@@ -14,7 +14,7 @@ use Rattle.reader.specs.Reading.{readingOf, tableAfter}
 abbrev pub numberIn : List ℕ → (i : ℕ) → ℕ
 numberIn t i = getD t i 1
 
-pub record Leaves (s t : List ℕ) : Type 0 where
+pub record TableLeft (s t : List ℕ) : Type 0 where
   -- "table shorter than 8,192 numbers"
   pub untouched : length t < 8192 → (readingOf s t ≡ Refused 1 0) × (tableAfter s t ≡ t)
   pub refused : 8192 ≤ length t → (n place : ℕ) → readingOf s t ≡ Refused n place → (i : ℕ) → i < 8192 → numberIn (tableAfter s t) i ≡ 0
@@ -25,7 +25,7 @@ pub record Leaves (s t : List ℕ) : Type 0 where
 
 -- of any file and any table
 abbrev pub LeavesTable : Type 0
-LeavesTable = (s t : List ℕ) → AreBytes s → Leaves s t
+LeavesTable = (s t : List ℕ) → AreBytes s → TableLeft s t
 
 -- Refusal 8 is never given (`NeverTooDeep` of the crate walk), with any bytes and any table
 abbrev pub NoRefusal8 : Type 0

@@ -7,6 +7,7 @@ use lib.ListN.{length, length-map}
 use Rattle.le.specs.Le.{AreBytes}
 use Rattle.table.specs.declared.Row.{Row}
 use Rattle.table.specs.Table.{noParent, rowsAt, filled}
+use Rattle.table.proofs.Clearing.{fits-hasRoom}
 use Rattle.table.proofs.Plans.{rows-filled}
 use Rattle.faces.specs.Faces.{degenerate as degenerateIn}
 use Rattle.format.specs.Forest.{Forest, fileOf}
@@ -131,18 +132,18 @@ module _ (flags : ℕ) (m : Marked) (v : Valid flags (bare m)) (bytes : AreBytes
         nodes = nodes-are nodes;
         linksStay = links-stay nodes;
         links = links-moved nodes;
-        rowLinksStay = link-rows s left rows (marks m) (rowsOf (kept m)) same;
-        rowLinks = subst (λ rs. linksOf left rs ≡ map (movedLink rows (marks m)) (linksOf s rows)) are links;
+        linksByRowStay = link-rows s left rows (marks m) (rowsOf (kept m)) same;
+        linksByRow = subst (λ rs. linksOf left rs ≡ map (movedLink rows (marks m)) (linksOf s rows)) are links;
         linkCount = new .links ∙ ap length links ∙ length-map (linksOf s rows) (movedLink rows (marks m)) ∙ sym (old .links);
         charges = λ t h.
             ap (λ u. map ownBytes (rowsAt u 0 (length (rowsOf (kept m))))) (is-read flags (kept m) valid .table t h)
-            ∙ ap (map ownBytes) (rows-filled t (rowsOf (kept m)) h (omega (arith, length-rows (kept m) noParent 0 16, valid .few)))
+            ∙ ap (map ownBytes) (rows-filled t (rowsOf (kept m)) (fits-hasRoom t h) (omega (arith, length-rows (kept m) noParent 0 16, valid .few)))
             ∙ owns-left same;
         known = known-left same;
         unknown = unknown-left 0 same;
         nodeFaces = ap (map meshFaces) (nodes-are nodes);
         faces = all-faces nodes;
-        rowFaceLists = subst (λ rs. map (rowFaces left) rs ≡ map (rowFaces s) (unmarkedOf rows (marks m))) are (node-faces-left same);
+        facesByRow = subst (λ rs. map (rowFaces left) rs ≡ map (rowFaces s) (unmarkedOf rows (marks m))) are (node-faces-left same);
         faceCount = new .faces ∙ ap length faces ∙ sym (old .faces);
         degenerate = new .degenerates ∙ ap degenerateIn faces ∙ sym (old .degenerates);
       }

@@ -13,6 +13,7 @@ use borrow.Author.Tests.{ne-eqb, eqb-true, eqb-false}
 use Rattle.le.proofs.Tests.{by-test}
 use Rattle.le.specs.Le.{AreBytes}
 use Rattle.kinds.specs.Kinds.{isKnown}
+use Rattle.table.proofs.Clearing.{hasRoom-fits}
 use Rattle.table.specs.declared.Row.{Row}
 use Rattle.table.specs.Table.{noParent, blank, hasRoom, filled}
 use Rattle.format.specs.Forest.{Forest, nodes, fileOf}
@@ -84,7 +85,7 @@ module _ (flags : ℕ) (m : Marked) (v : Valid flags (bare m)) {k i : ℕ} (a : 
         (ap (λ n. 16 + n) (sym (own-laid 16 (without k (limited s .rows))) ∙ ap allOwnBytes (sym laid) ∙ own-rows (kept (mark a)) noParent 0 16)
         ∙ sym (length-file flags (kept (mark a))));
     short = rw new (valid .short);
-    read = λ t h. ap (λ b. readTable b t) new ∙ is-read flags (kept (mark a)) valid .table t h ∙ ap (λ rs. filled rs t) laid;
+    read = λ t h. ap (λ b. readTable b t) new ∙ is-read flags (kept (mark a)) valid .table t (hasRoom-fits t h) ∙ ap (λ rs. filled rs t) laid;
   }
 
 -- row k of an accepted file, of an unknown kind

@@ -12,7 +12,7 @@ use Rattle.rules.specs.declared.Line.{Line}
 use Rattle.rules.specs.Table.{lines, linkTo}
 use Rattle.format.specs.Layout.{Each, Property, WellFormed}
 use Rattle.format.proofs.Each.{each-append, each-both, each-map}
-use Rattle.valid.specs.Nodes.{Node, nodesOf, meshFaces, allFaces, NodeProperty, propertiesFrom, IsLink, noNode, IsNode, IsOnly, NodeLink, Reaches, LinksAre}
+use Rattle.valid.specs.Nodes.{Node, nodesOf, meshFaces, allFaces, NodeProperty, propertiesFrom, IsLink, noNode, IsNode, IsOnly, NodeLink, ReachesOne, LinksAre}
 use Rattle.valid.proofs.Picks.{picks-map, picks-each, picks-holds, each-some}
 use Rattle.reader.proofs.InStep.{bare-faces}
 use Rattle.removal.specs.Left.{unmarked, numberOf, Stays, unmarkedOf, NodeLinkStays, movedSource, movedNodeLink}
@@ -136,12 +136,12 @@ module _ {ns : List Node} {ms : List Bool} {ns′ : List Node} (l : LeftNodes ns
   abbrev Known : Line → Type 0
   Known r = r .held ≡ linkTo 0 .held → isKnown (r .target) ≡ true
 
-  link-moves : (x : NodeLink) → Reaches ns x → Reaches ns′ (movedNodeLink ms x)
+  link-moves : (x : NodeLink) → ReachesOne ns x → ReachesOne ns′ (movedNodeLink ms x)
   link-moves x h =
       each-map (λ r b k n e. only-stays (r .target) (val (x .source .property .content)) (b .0 e) l (x .target) (b .1 k n e) .0) lines
       (each-both Known _ lines .0 (targets-known, h))
 
-  target-stays : (x : NodeLink) → Reaches ns x → IsLink (x .source) → Stays ms (x .target)
+  target-stays : (x : NodeLink) → ReachesOne ns x → IsLink (x .source) → Stays ms (x .target)
   target-stays x h i =
       each-some _ _ lines
       (λ r b k. only-stays (r .target) (val (x .source .property .content)) (b .0 (k .2)) l (x .target) (b .1 (k .0) (k .1) (k .2)) .1)
@@ -160,7 +160,7 @@ module _ {ns : List Node} {ms : List Bool} {ns′ : List Node} (l : LeftNodes ns
       targets = all-moved links (are .targets);
     }
       where
-        all-moved : (xs : List NodeLink) → Each (Reaches ns) xs → Each (Reaches ns′) (map (movedNodeLink ms) xs)
+        all-moved : (xs : List NodeLink) → Each (ReachesOne ns) xs → Each (ReachesOne ns′) (map (movedNodeLink ms) xs)
         all-moved [] h = tt
         all-moved (x ∷ xs) h = (link-moves x (h .0), all-moved xs (h .1))
 
@@ -169,4 +169,4 @@ module _ {ns : List Node} {ms : List Bool} {ns′ : List Node} (l : LeftNodes ns
         let rows = each-of-map (SourceStays ms) source links (picks-each (SourceStays ms) (are .sources) (sources-stay ms 0 refl l)) in
         let is = each-of-map IsLink source links (picks-holds (are .sources)) in
         each-map (λ x b. (b .0, target-stays x (b .1 .0) (b .1 .1))) links
-        (each-both (λ x. SourceStays ms (x .source)) _ links .0 (rows, each-both (Reaches ns) (λ x. IsLink (x .source)) links .0 (are .targets, is)))
+        (each-both (λ x. SourceStays ms (x .source)) _ links .0 (rows, each-both (ReachesOne ns) (λ x. IsLink (x .source)) links .0 (are .targets, is)))

@@ -5,8 +5,7 @@ use mathlib.Core.Path.{_≡_, ap, sym, _∙_}
 use mathlib.Core.Bool.{true}
 use mathlib.Core.List.{List}
 use lib.ListN.{length, replicate, length-replicate}
-use borrow.Author.Tests.{le-leb}
-use Rattle.table.specs.Table.{hasRoom, rowsAt, flat, filled, firstRows}
+use Rattle.table.specs.Table.{rowsAt, flat, filled, firstRows}
 use Rattle.table.proofs.Plans.{first-filled, rows-flat}
 use Rattle.reader.specs.declared.Account.{Account}
 use Rattle.reader.specs.declared.Reading.the-variants.{Accepted}
@@ -16,9 +15,8 @@ pub account-same : (a b : Account) → Accepted a ≡ Accepted b → b ≡ a
 account-same a b e = cc
 
 -- a table with room
-roomy : (n : ℕ) → 8192 ≤ n → hasRoom (replicate n 0) ≡ true
-unfolding hasRoom
-roomy n h = rw (length-replicate {A = ℕ} n 0) (le-leb 8192 n h)
+roomy : (n : ℕ) → 8192 ≤ n → 8192 ≤ length (replicate n 0)
+roomy n h = rw (length-replicate {A = ℕ} n 0) h
 
 pub oneReading : OneReading
 oneReading s rows rows′ a a′ x y =

@@ -14,7 +14,7 @@ use Rattle.le.proofs.Tests.{by-test}
 use Rattle.kinds.specs.Kinds.{isKnown}
 use Rattle.table.specs.declared.Row.{Row}
 use Rattle.table.specs.Table.{noParent, blank, hasRoom}
-use Rattle.table.proofs.Clearing.{hasRoom-fits}
+use Rattle.table.proofs.Clearing.{hasRoom-fits, fits-hasRoom}
 use Rattle.format.specs.Forest.{Forest, nodes, fileOf}
 use Rattle.format.specs.Rows.{rowsOf, ownBytes}
 use Rattle.format.proofs.Rows.{length-rows}
@@ -48,8 +48,8 @@ is-read flags f v = record {
   table = λ t h. answersTheRules (fileOf flags f) t flags f (accountFor flags f) v refl (reads t h) .2;
 }
   where
-    reads : (t : List ℕ) → hasRoom t ≡ true → readingOf (fileOf flags f) t ≡ Accepted (accountFor flags f)
-    reads t h = in-room (fileOf flags f) t h ∙ valid-verdict (fileOf flags f) flags f v refl
+    reads : (t : List ℕ) → 8192 ≤ length t → readingOf (fileOf flags f) t ≡ Accepted (accountFor flags f)
+    reads t h = in-room (fileOf flags f) t (fits-hasRoom t h) ∙ valid-verdict (fileOf flags f) flags f v refl
 
 -- ---- a table's length
 no-room : (t : List ℕ) → hasRoom t ≡ false → ltb (length t) 8192 ≡ true

@@ -10,7 +10,7 @@ use lib.ListN.{length, getD, set, take, drop}
 use Rattle.le.specs.Le.{AreBytes}
 use Rattle.kinds.specs.Kinds.{isKnown}
 use Rattle.table.specs.declared.Row.{Row}
-use Rattle.table.specs.Table.{blank, hasRoom, rowsAt, cleared, filled}
+use Rattle.table.specs.Table.{blank, rowsAt, cleared, filled}
 use Rattle.format.specs.Rows.{bodyOf, ownBytes}
 use Rattle.format.specs.Layout.{Each}
 use Rattle.links.specs.Links.{linksOf}
@@ -74,9 +74,9 @@ marksBy s rows list = marksAfter s rows (noMarks rows) (map fedBy list)
 
 -- a file is accepted with this account, and its rows are these, whatever the table held
 pub record IsRead (s : List ℕ) (rows : List Row) (a : Account) : Type 0 where
-  pub accepts : (t : List ℕ) → hasRoom t ≡ true → readingOf s t ≡ Accepted a
+  pub accepts : (t : List ℕ) → 8192 ≤ length t → readingOf s t ≡ Accepted a
   pub nodes : a .nodes ≡ length rows
-  pub table : (t : List ℕ) → hasRoom t ≡ true → readTable s t ≡ filled rows t
+  pub table : (t : List ℕ) → 8192 ≤ length t → readTable s t ≡ filled rows t
 
 -- there is one such account, and one such list of rows
 abbrev pub OneReading : Type 0
@@ -142,10 +142,10 @@ pub record IsLeft (s : List ℕ) (rows : List Row) (a : Account) (marks : List B
   pub links : (links : List NodeLink) → LinksAre (nodesIn before) links → LinksAre (nodesIn after) (map (movedNodeLink marks) links)
   pub linkCount : account .links ≡ a .links
   -- by the rows, as the reading resolves them
-  pub rowLinksStay : Each (LinkStays marks) (linksOf s rows)
-  pub rowLinks : linksOf file (rowsLeft rows marks) ≡ map (movedLink rows marks) (linksOf s rows)
+  pub linksByRowStay : Each (LinkStays marks) (linksOf s rows)
+  pub linksByRow : linksOf file (rowsLeft rows marks) ≡ map (movedLink rows marks) (linksOf s rows)
   -- "every other node is charged the same"
-  pub charges : (t : List ℕ) → hasRoom t ≡ true
+  pub charges : (t : List ℕ) → 8192 ≤ length t
       → map ownBytes (rowsAt (readTable file t) 0 (account .nodes)) ≡ map ownBytes (unmarkedOf rows marks)
   pub known : account .known .0 ≡ a .known .0
   pub unknown : a .unknown .0 ≡ sumOverMarked (λ j r. ownBytes r) 0 rows marks + account .unknown .0
@@ -155,7 +155,7 @@ pub record IsLeft (s : List ℕ) (rows : List Row) (a : Account) (marks : List B
   pub faceCount : account .faces .0 ≡ a .faces .0
   pub degenerate : account .degenerate ≡ a .degenerate
   -- by the rows, as the reading counts them
-  pub rowFaceLists : map (rowFaces file) (rowsLeft rows marks) ≡ map (rowFaces s) (unmarkedOf rows marks)
+  pub facesByRow : map (rowFaces file) (rowsLeft rows marks) ≡ map (rowFaces s) (unmarkedOf rows marks)
 
 -- ---- demand 3 of one list from such a file
 pub record HoldsOf (s : List ℕ) (rows : List Row) (a : Account) (list : List Trimming) : Type 0 where

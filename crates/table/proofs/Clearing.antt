@@ -9,7 +9,7 @@ use lib.ListN.{length, getD, set, drop, replicate, length-append, length-replica
 use lib.Dec.{ltb}
 use lib.Seq.{sets, sets-eq, drop-at, drop-append-le}
 use borrow.Author.Fill.{fill-none, fill-more}
-use borrow.Author.Tests.{leb-true, ltb-true, ltb-false}
+use borrow.Author.Tests.{leb-true, ltb-true, ltb-false, le-leb}
 use Rattle.table.specs.declared.Row.{Row}
 use Rattle.table.specs.Table.{hasRow, rowAt, putRows, flat, blank, hasRoom, zeroed, cleared, filled}
 use Rattle.le.proofs.Tests.{by-test}
@@ -63,6 +63,10 @@ module _ (t : List ℕ) where
   pub hasRoom-fits : hasRoom t ≡ true → 8192 ≤ length t
   unfolding hasRoom
   hasRoom-fits h = leb-true 8192 (length t) h
+
+  pub fits-hasRoom : 8192 ≤ length t → hasRoom t ≡ true
+  unfolding hasRoom
+  fits-hasRoom h = le-leb 8192 (length t) h
 
   pub hasRoom-hasRow : (j : ℕ) → hasRoom t ≡ true → j < 1024 → hasRow t j ≡ true
   hasRoom-hasRow j h b = fits-hasRow t j (omega (arith, hasRoom-fits h))

@@ -102,11 +102,11 @@ pub record NodeLink : Type 0 where
   pub source : NodeProperty
   pub target : ℕ
 
-abbrev pub Reaches : List Node → NodeLink → Type 0
-Reaches ns x = ByLine (x .source .kind) (x .source .property .name)
+abbrev pub ReachesOne : List Node → NodeLink → Type 0
+ReachesOne ns x = ByLine (x .source .kind) (x .source .property .name)
     (λ l. l .held ≡ linkTo 0 .held → IsOnly ns (l .target) (val (x .source .property .content)) (x .target))
 
 -- the links of some nodes: "one per link property present", and each reaches its node
 pub record LinksAre (ns : List Node) (links : List NodeLink) : Type 0 where
   pub sources : Picks IsLink (propertiesFrom 0 ns) (map (λ x. x .source) links)
-  pub targets : Each (Reaches ns) links
+  pub targets : Each (ReachesOne ns) links

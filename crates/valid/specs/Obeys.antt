@@ -103,7 +103,7 @@ pub record Keeps (l : Line) (ps : List Property) (bones : ℕ) (p : Property) : 
   pub perIndex : l .held ≡ indices .held → p .elements ≡ elementsOf (letters "vi") ps
   -- "as have Curve kb and kv; kv is v4 for rq, N for vb, f for any other kp"
   pub perKey : l .held ≡ keys .held → (p .elements ≡ elementsOf (letters "kb") ps) × KeyTyped ps (p .code)
-  -- "Bone p is read as signed"
+  -- "Bone p is read as signed": a number of 32 bits is read as one z
   pub parentRight : l .held ≡ boneNumber .held → (z : ℤ) → ReadSigned (value p 0) z → BoneParent z bones
 
 -- all of it

@@ -50,7 +50,7 @@ Limited = (s : List ℕ) → (length s ≤ 16777216 → limited s ≡ walkOf s) 
 
 -- Document 01's 8, "depth over 8 (a root has depth 1)", is never given, whatever the bytes are. Each kind stands only under its
 -- parents: Root lies at depth 1, the kinds under Root at 2, those under Model and Animation at 3, and Bone, IKHandle, Constraint
--- and File at 4 at most. An unknown node below one of these lies at 5, and what follows its header is not read. A known node that
+-- and File at 4 at most. An unknown node below one of these lies at 5 at most, and what follows its header is not read. A known node that
 -- would lie deeper is refused with 6, which is judged before 8.
 abbrev pub NeverTooDeep : Type 0
 NeverTooDeep = (s : List ℕ) → walkOf s .number ≡ 8 → ⊥
