@@ -1,8 +1,9 @@
--- The search through the lines agrees with document 01's lists: line by line for the kinds, kind by kind for the parents.
+-- The search through the lines agrees with document 01's lists. Lines and pairs are looked at once, by computation; no proof
+-- goes by cases over the kinds.
 use Prim.Native.Nat.{ℕ}
-use mathlib.Core.Path.{_≡_, refl, sym, ap, _∙_, subst}
+use mathlib.Core.Path.{_≡_, refl, sym, _∙_, subst}
 use mathlib.Core.Logic.{_↔_, _⊎_, inl, inr, ⊎-elim}
-use mathlib.Core.Bool.{Bool, true, false, cond, _&&_, _||_, true≢false, false≢true}
+use mathlib.Core.Bool.{Bool, true, false, cond, _&&_, _||_, true≢false, false≢true, and-eq-true-iff}
 use mathlib.Core.List.{List, [], _∷_, map}
 use lib.Dec.{eqb}
 use borrow.Author.Tests.{eqb-true, eq-eqb}
@@ -10,8 +11,9 @@ use Rattle.kinds.specs.declared.Line.{Line}
 use Rattle.kinds.specs.declared.Listed.{Listed}
 use Rattle.kinds.specs.declared.Listed.the-variants.{At, Unknown}
 use Rattle.kinds.specs.declared.Parent.the-variants.{None, Kind}
-use Rattle.kinds.specs.Kinds.{root, material, instance, lines, lineIn, lineOf, isListed, isKnown, underBy, standsAtTop, standsUnder, mayStand}
+use Rattle.kinds.specs.Kinds.{root, lines, lineIn, lineOf, isListed, isKnown, underBy, standsAtTop, standsUnder, mayStand}
 use Rattle.kinds.specs.Statements.{OneOf, sixteen, IsOneOfSixteen, KnownExactly, UnknownExactly, parents, IsParent, StandsExactly}
+use Rattle.kinds.proofs.Related.{right, rightLine, allRight, related}
 use Rattle.kinds.proofs.Tops.{top-root}
 
 -- ---- kinds
@@ -47,7 +49,7 @@ unknownExactly k = by (isKnown k) (knownExactly k)
 -- ---- parents
 
 -- the pairs, searched
-isPair : List (ℕ × ℕ) → (parent k : ℕ) → Bool
+unfoldable isPair : List (ℕ × ℕ) → (parent k : ℕ) → Bool
 isPair [] p k = false
 isPair (x ∷ xs) p k = (eqb (x .1) k && eqb p (x .0)) || isPair xs p k
 
@@ -62,40 +64,29 @@ pairs (x ∷ xs) p k = by (eqb (x .1) k) (eqb p (x .0)) refl refl (pairs xs p k)
     by true false f g ih = (λ e. inr (ih .0 e), ⊎-elim (λ e. absurd (true≢false (sym (eq-eqb _ _ (e .0)) ∙ g))) (ih .1))
     by false c f g ih = (λ e. inr (ih .0 e), ⊎-elim (λ e. absurd (true≢false (sym (eq-eqb _ _ (sym (e .1))) ∙ f))) (ih .1))
 
--- each of the sixteen stands under exactly those of its pairs: its line, and its pairs, are looked at once, by computation
-Each : List ℕ → (ℕ → Type 0) → Type 0
-Each [] P = Unit {0}
-Each (x ∷ xs) P = P x × Each xs P
+-- what stands under a known kind does so by a pair: computed once over the lines
+all-pairs : allRight (isPair parents) lines ≡ true
+unfolding lines allRight rightLine right isPair
+all-pairs = refl
 
-or-false : (b : Bool) → (b || false) ≡ b
-or-false true = refl
-or-false false = refl
+-- and the kind of each pair is known, and stands there: computed once over the pairs
+allStand : List (ℕ × ℕ) → Bool
+allStand [] = true
+allStand (x ∷ xs) = (isKnown (x .1) && standsUnder (x .0) (x .1)) && allStand xs
 
-by-pairs : (p : ℕ) → Each sixteen (λ k. standsUnder p k ≡ isPair parents p k)
-unfolding standsUnder lineOf lineIn lines isPair Each
-by-pairs p =
-    let either = ap (λ b. eqb p material || b) (sym (or-false (eqb p instance))) in
-    (refl, (refl, (refl, (refl, (refl, (refl, (refl, (refl, (refl, (refl, (refl, (refl, (refl, (either, (refl, (refl, tt))))))))))))))))
+all-stand : allStand parents ≡ true
+unfolding allStand isKnown standsUnder lineOf lineIn lines
+all-stand = refl
 
-one-of : (P : ℕ → Type 0) (xs : List ℕ) (k : ℕ) → Each xs P → OneOf xs (λ x. k ≡ x) → P k
-unfolding Each
-one-of P [] k h s = absurd s
-one-of P (x ∷ xs) k h (inl e) = subst P (sym e) (h .0)
-one-of P (x ∷ xs) k h (inr s) = one-of P xs k (h .1) s
+pair-stands : (xs : List (ℕ × ℕ)) → allStand xs ≡ true → (p k : ℕ) → OneOf xs (λ pair. (p ≡ pair .0) × (k ≡ pair .1))
+    → (isKnown k && standsUnder p k) ≡ true
+unfolding allStand
+pair-stands [] h p k s = absurd s
+pair-stands (x ∷ xs) h p k (inl e) = rw (e .0, e .1) (and-eq-true-iff (isKnown (x .1) && standsUnder (x .0) (x .1)) (allStand xs) .0 h .0)
+pair-stands (x ∷ xs) h p k (inr s) = pair-stands xs (and-eq-true-iff (isKnown (x .1) && standsUnder (x .0) (x .1)) (allStand xs) .0 h .1) p k s
 
--- each pair is of one of the sixteen
-pairs-known : (xs : List (ℕ × ℕ)) → Each (map (λ pair. pair .1) xs) (λ k. isKnown k ≡ true) → (p k : ℕ)
-    → OneOf xs (λ pair. (p ≡ pair .0) × (k ≡ pair .1)) → isKnown k ≡ true
-unfolding Each
-pairs-known [] h p k s = absurd s
-pairs-known (x ∷ xs) h p k (inl e) = subst (λ k. isKnown k ≡ true) (sym (e .1)) (h .0)
-pairs-known (x ∷ xs) h p k (inr s) = pairs-known xs (h .1) p k s
-
-parents-known : (p k : ℕ) → IsParent p k → isKnown k ≡ true
-unfolding isKnown lineOf lineIn lines Each
-parents-known =
-    pairs-known parents
-    (refl, (refl, (refl, (refl, (refl, (refl, (refl, (refl, (refl, (refl, (refl, (refl, (refl, (refl, (refl, (refl, tt))))))))))))))))
+parent-stands : (p k : ℕ) → IsParent p k → (isKnown k ≡ true) × (standsUnder p k ≡ true)
+parent-stands p k s = and-eq-true-iff (isKnown k) (standsUnder p k) .0 (pair-stands parents all-stand p k s)
 
 unknown-under : (p k : ℕ) → isKnown k ≡ false → standsUnder p k ≡ isKnown p
 unfolding isKnown standsUnder lineOf
@@ -115,12 +106,12 @@ standsExactly None k = (top-root k, λ e. subst (λ k. mayStand None k ≡ true)
 standsExactly (Kind p) k = by (isKnown k) refl
   where
     by : (b : Bool) → isKnown k ≡ b → (standsUnder p k ≡ true) ↔ IsParent p k ⊎ ((IsOneOfSixteen k → ⊥) × IsOneOfSixteen p)
-    by true h =
-        let one : IsOneOfSixteen k = knownExactly k .0 h in
-        let same : standsUnder p k ≡ isPair parents p k = one-of (λ k. standsUnder p k ≡ isPair parents p k) sixteen k (by-pairs p) one in
-        (λ e. inl (pairs parents p k .0 (sym same ∙ e)), ⊎-elim (λ s. same ∙ pairs parents p k .1 s) (λ n. absurd (n .0 one)))
+    by true h = (
+      λ e. inl (pairs parents p k .0 (related (isPair parents) all-pairs p k h e)),
+      ⊎-elim (λ s. parent-stands p k s .1) (λ n. absurd (n .0 (knownExactly k .0 h))),
+    )
     by false h =
         let same : standsUnder p k ≡ isKnown p = unknown-under p k h in (
           λ e. inr (unknownExactly k .0 h, knownExactly p .0 (sym same ∙ e)),
-          ⊎-elim (λ s. absurd (true≢false (sym (parents-known p k s) ∙ h))) (λ n. same ∙ knownExactly p .1 (n .1)),
+          ⊎-elim (λ s. parent-stands p k s .1) (λ n. same ∙ knownExactly p .1 (n .1)),
         )
