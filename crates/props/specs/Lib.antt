@@ -1,3 +1,4 @@
 pub mod Types
+pub mod Statements
 pub mod Step
 pub mod Examples

@@ -18,3 +18,4 @@ pub mod Held
 pub mod Rules
 pub mod Links
 pub mod Sizes
+pub mod Statements

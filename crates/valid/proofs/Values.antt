@@ -46,7 +46,7 @@ module _ (types code : ℕ) (h : takes types code ≡ true) where
   takes-string = takes-one string refl
 
 -- ---- numbers of b h i
-width-size : (code : ℕ) → isN code ≡ true → sizeOf code ≡ Bytes (widthOf code)
+pub width-size : (code : ℕ) → isN code ≡ true → sizeOf code ≡ Bytes (widthOf code)
 unfolding widthOf
 width-size code h =
     by-test (eqb code 0x62) (λ e. rw e)

@@ -1,5 +1,6 @@
 pub mod Among
 pub mod Lines
+pub mod Statements
 pub mod Obeys
 pub mod Valid
 pub mod Nodes
