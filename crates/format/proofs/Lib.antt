@@ -6,3 +6,4 @@ pub mod Properties
 pub mod Bodies
 pub mod Unique
 pub mod Within
+pub mod OneBody

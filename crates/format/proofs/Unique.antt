@@ -15,7 +15,7 @@ use Rattle.format.proofs.Bodies.{body-prefix}
 use Rattle.format.proofs.Headers.{header-drop, header-kind, header-size, header-hash, header-properties, header-children, fileHeader-drop, fileHeader-roots, fileHeader-flags}
 
 -- equal bytes, cut at the same length
-cut : (a b x y : List ℕ) → length a ≡ length b → a ++ x ≡ b ++ y → (a ≡ b) × (x ≡ y)
+pub cut : (a b x y : List ℕ) → length a ≡ length b → a ++ x ≡ b ++ y → (a ≡ b) × (x ≡ y)
 cut a b x y l e = (
   sym (take-at a x (length b) l) ∙ ap (take (length b)) e ∙ take-append-seam b y,
   sym (drop-at a x (length b) l) ∙ ap (drop (length b)) e ∙ drop-append-seam b y,

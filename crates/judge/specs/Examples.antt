@@ -6,11 +6,11 @@ use mathlib.Core.List.{List, [], _∷_, _++_, map}
 use lib.ListN.{length, replicate}
 use Rattle.le.specs.Le.{val, numberAt, le}
 use Rattle.names.specs.Names.{bytesOk, same, decimal, number, numbered}
-use Rattle.kinds.specs.Kinds.{root, mesh, bone, curve}
+use Rattle.kinds.specs.Kinds.{root, mesh, blendShape, bone, curve}
 use Rattle.props.specs.Step.{headerRefusal, dataRefusal, toZero, dataOf, nameAt, stepAt}
 use Rattle.body.specs.Body.{pass, properties, firstNamed}
 use Rattle.faces.specs.Faces.{widthOf, facesIn, below, degenerate}
-use Rattle.rules.specs.Table.{letters, lines, unpacked, texts, byte, short, int, float, string, v3, v4}
+use Rattle.rules.specs.Table.{letters, lines, unpacked, texts, byte, short, int, long, float, string, v3, v4}
 use Rattle.rules.specs.Rules.{lists, ruleIn, ofKind, linesOf, isText, inSet, isOneOf}
 use Rattle.judge.specs.declared.Judged.{Judged}
 use Rattle.judge.specs.Properties.{lengthOf, valueOf, typesOf, besideOf}
@@ -91,6 +91,35 @@ curves : (curved "rq" v4 16 ∷ curved "vb" short 2 ∷ curved "tx" float 4 ∷ 
     right ∷ right ∷ right ∷ refused 15 59 ∷ refused 15 35 ∷ []
 unfolding judge property right letters
 curves = refl
+
+-- a BlendShape's vi and vp: of equal lengths; unequal ones are 15 at vp, also where vi comes later
+abbrev shaped : (before after : List ℕ) → List ℕ
+shaped before after = judge blendShape 4 0 (property string "n" 1 (0 ∷ []) ++ (property long "b" 1 (replicate 8 0) ++ (before ++ after)))
+
+abbrev vi : (elements : ℕ) → List ℕ
+vi n = property byte "vi" n (replicate n 0)
+
+shapes : (shaped (vi 3) vp ∷ shaped (vi 2) vp ∷ shaped vp (vi 2) ∷ []) ≡
+    (0 ∷ 0 ∷ 0 ∷ 0 ∷ 1 ∷ []) ∷ refused 15 63 ∷ refused 15 51 ∷ []
+unfolding judge property
+shapes = refl
+
+-- a Curve's kb and kv: unequal ones are 15 at kv, also where kb comes later
+abbrev keyed : (before after : List ℕ) → List ℕ
+keyed before after =
+    judge curve 5 0 (property string "nn" 1 (0 ∷ []) ++ (property string "kp" 1 (letters "tx" ++ (0 ∷ [])) ++
+    (before ++ (after ++ property string "m" 1 (letters "absolute" ++ (0 ∷ []))))))
+
+keysTold : (keyed (property byte "kb" 2 (0 ∷ 0 ∷ [])) (property float "kv" 1 (replicate 4 0)) ∷
+    keyed (property float "kv" 1 (replicate 4 0)) (property byte "kb" 2 (0 ∷ 0 ∷ [])) ∷ []) ≡ refused 15 60 ∷ refused 15 48 ∷ []
+unfolding judge property letters
+keysTold = refl
+
+-- one node that breaks 14 and 15 is refused with 14, and one that breaks 13 too with 13
+boneFaults : (judge bone 1 0 (property byte "ssc" 1 (2 ∷ [])) ∷ judge bone 2 0 (property byte "ssc" 1 (2 ∷ []) ++ property byte "p" 1 (0 ∷ [])) ∷ []) ≡
+    refused 14 0 ∷ refused 13 36 ∷ []
+unfolding judge property
+boneFaults = refl
 
 -- any name is free on a Root, but not twice: equal in their first eight letters is not equal
 roots : (judge root 2 0 (property byte "longname1" 0 [] ++ property int "longname2" 0 []) ∷

@@ -110,7 +110,7 @@ pub record Leaves (s : List ℕ) (c : Trimming) : Type 0 where
   pub table : trimmedTable s (c .row) (c .table) (length (c .output))
       ≡ cond (eqb (answerTo s c .number) 0) (readTable (fileFrom s c) (c .table)) (cleared (c .table))
 
--- the nodes of a valid file: there is one list (`OneForest`)
+-- the nodes of a valid file: there is one forest (`OneForest`), and of it one list (`OneNodeList`)
 abbrev pub nodesIn : {s : List ℕ} → IsValid s → List Node
 nodesIn v = nodesOf (v .forest) (v .valid .wellFormed .2)
 

@@ -24,7 +24,7 @@ pub record Node : Type 0 where
   pub hash : ℕ
   pub properties : List Property
 
--- all nodes, "in the file order of their headers". (A well-formed known node is of one list of properties.)
+-- all nodes, "in the file order of their headers". (A well-formed known node is of one list of properties: `OneBody`.)
 abbrev pub nodesOf : (f : Forest) → WellFormed f → List Node
 nodesOf end w = []
 nodesOf (known k h p body kids next) w =

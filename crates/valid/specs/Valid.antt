@@ -30,7 +30,7 @@ EachKnown P beside end = Unit {0}
 EachKnown P beside (known k h p body kids next) = P beside k p body × EachKnown P (bones kids) kids × EachKnown P beside next
 EachKnown P beside (unknown k h p c rest next) = EachKnown P beside next
 
--- its properties obey the rules (a well-formed node is of one list of properties)
+-- its properties obey the rules (a well-formed node is of one list of properties: `OneBody`)
 abbrev pub NodeRuled : (beside kind count : ℕ) (body : List ℕ) → Type 0
 NodeRuled beside kind count body = (good : GoodBody count body) → Obeys kind (good .properties) beside
 
