@@ -111,9 +111,9 @@ fn put_node(out: &mut [u8], at: usize, source: &[u8], row: table::Row, size: u32
 // Writes the nodes of the rows, one behind the other.
 fn put_nodes(out: &mut [u8], plan: &[u32], rows: usize, source: &[u8], sizes: &[u32])
     requires rows { ⌜ rows ≤ 1024 ⌝ }
-    requires room { ⌜ length (now sizes) ≡ 1024 ⌝ }
+    requires length { ⌜ length (now sizes) ≡ 1024 ⌝ }
     requires sizes { ⌜ Sized (now sizes) (now source) (now plan) rows ⌝ }
-    requires output { ⌜ 16 + length (nodesBytes (now source) 0 (rowsAt (now plan) 0 rows)) ≤ length (now out) ⌝ }
+    requires room { ⌜ 16 + length (nodesBytes (now source) 0 (rowsAt (now plan) 0 rows)) ≤ length (now out) ⌝ }
     ensures { λ _. ⌜ now (out .exit) ≡ sets (now (out .entry)) 16 (nodesBytes (now (source .entry)) 0 (rowsAt (now (plan .entry)) 0 rows)) ⌝ }
 {
     let mut at: usize = 16;

@@ -30,7 +30,8 @@ pub struct Scanned {
 
 // The width of a value, by its type.
 pub fn width_of(code: u16) -> u32
-    ensures { λ r. ⌜ (r ≡ widthOf code) × (r ≤ 4) ⌝ }
+    ensures result { λ r. ⌜ r ≡ widthOf code ⌝ }
+    ensures bound { λ r. ⌜ r ≤ 4 ⌝ }
 {
     match code {
         0x62 => 1,

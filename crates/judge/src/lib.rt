@@ -447,7 +447,8 @@ fn judge_at(
 // Judges a node by its kind, its property count, its body and the number of Bones beside it. Judged are the properties that
 // a walk over so many passes: all, of a body that is exactly so many, and none where they are over 64.
 pub fn judge(kind: u32, count: u32, body: &[u8], bones: u32) -> Judged
-    ensures { λ r. ⌜ (r ≡ judged kind count (now (body .entry)) bones) × Bounded r (length (now (body .entry))) ⌝ }
+    ensures result { λ r. ⌜ r ≡ judged kind count (now (body .entry)) bones ⌝ }
+    ensures bounds { λ r. ⌜ Bounded r (length (now (body .entry))) ⌝ }
 {
     let index = body::index_of(body, count);
     let starts = index.starts;

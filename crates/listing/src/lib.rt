@@ -276,7 +276,7 @@ fn accepted(out: &mut [u8], bytes: u64, table: &[u32], a: reader::Account) -> us
 // Puts the listing of an input at the start of the buffer where it has room for all of it, and answers its length. Else it
 // answers 0 and leaves the buffer.
 pub fn list(input: &[u8], out: &mut [u8]) -> usize
-    ensures place { λ r. ⌜ r ≡ behind (now (out .entry)) 0 (listingOf (now (input .entry))) ⌝ }
+    ensures length { λ r. ⌜ r ≡ behind (now (out .entry)) 0 (listingOf (now (input .entry))) ⌝ }
     ensures output { λ r. ⌜ now (out .exit) ≡ written (now (out .entry)) 0 (listingOf (now (input .entry))) ⌝ }
 {
     if 32768 < input.len() {

@@ -88,8 +88,8 @@ stepAt s at =
     (unless Refused (nameRefusal (nameAt s at))
     (past at (startAt s at) (dataOf (sizeOf (codeAt s at)) (lengthAt s at) (drop (startAt s at) s))))
 
--- document 01's number and values of an answer: the refusal's number, 0 for none; where the name and the data start, and where
--- the next property does
+-- document 01's number and values of an answer: the refusal's number, 0 for none; where the name and the data start, and
+-- where the next property does
 pub record StepNumbers : Type 0 where
   pub number : ℕ
   pub name : ℕ

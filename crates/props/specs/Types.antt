@@ -32,7 +32,8 @@ pub record SizeNumbers : Type 0 where
 abbrev pub sizeNumbers : Size → SizeNumbers
 -- "0x62 `b` 1, 0x68 `h` 2, ..": no refusal, and the element's size
 sizeNumbers (Bytes w) = record { number = 0; size = w }
--- "0x73 `s`: .. the data runs up to and including the first zero byte": no refusal, and no size by the type; 0, which no other type has
+-- "0x73 `s`: .. the data runs up to and including the first zero byte": no refusal, and 0 for a size that only the data
+-- tells; no other type has it
 sizeNumbers Text = record { number = 0; size = 0 }
 -- "type code .. wrong": 11
 sizeNumbers NoSuch = record { number = 11; size = 0 }
@@ -41,8 +42,8 @@ sizeNumbers NoSuch = record { number = 11; size = 0 }
 abbrev pub sized : ℕ → SizeNumbers
 sized w = record { number = 0; size = w }
 
--- the same by type code, without the enum: "0x62 `b` 1, 0x68 `h` 2, 0x69 `i` 4, 0x6C `l` 8, 0x66 `f` 4, 0x64 `d` 8, 0x7632 `v2`
--- 8, 0x7633 `v3` 12, 0x7634 `v4` 16. 0x73 `s`", any other 11
+-- the same by type code, without the enum: "0x62 `b` 1, 0x68 `h` 2, 0x69 `i` 4, 0x6C `l` 8, 0x66 `f` 4, 0x64 `d` 8,
+-- 0x7632 `v2` 8, 0x7633 `v3` 12, 0x7634 `v4` 16. 0x73 `s`"; any other type code is "wrong", 11
 abbrev pub elementOf : ℕ → SizeNumbers
 elementOf code =
     cond (eqb code 0x62) (sized 1)

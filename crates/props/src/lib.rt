@@ -218,7 +218,8 @@ impl Cursor {
 
 // Where the data of the property at a place starts, by its name size; at most the body's end.
 pub fn data_at(body: &[u8], at: usize) -> usize
-    ensures { λ r. ⌜ (r ≡ dataAt (now (body .entry)) at) × (r ≤ length (now (body .entry))) ⌝ }
+    ensures result { λ r. ⌜ r ≡ dataAt (now (body .entry)) at ⌝ }
+    ensures within { λ r. ⌜ r ≤ length (now (body .entry)) ⌝ }
 {
     let n = body.len();
     if n < at {

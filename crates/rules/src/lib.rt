@@ -210,7 +210,7 @@ fn span_of(kind: u32) -> Span
 pub fn put_lines(kind: u32, rows: &mut [Columns]) -> usize
     ensures count { λ r. ⌜ r ≡ length (fitting (linesOf kind) (length (now (rows .entry)))) ⌝ }
     ensures rows { λ r. ⌜ now (rows .exit) ≡ sets (now (rows .entry)) 0 (map rowOf (fitting (linesOf kind) (length (now (rows .entry))))) ⌝ }
-    ensures lines { λ r. ⌜ length (linesOf kind) ≤ 14 ⌝ }
+    ensures bound { λ r. ⌜ length (linesOf kind) ≤ 14 ⌝ }
 {
     let span = span_of(kind);
     let from = span.from;

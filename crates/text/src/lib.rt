@@ -16,7 +16,8 @@ fn glyph(d: u64) -> u8
 
 // How many digits a number has in decimal.
 pub fn decimal_size(n: u64) -> usize
-    ensures { λ r. ⌜ (r ≡ Text·decimalSize n) × (r ≤ 20) ⌝ }
+    ensures result { λ r. ⌜ r ≡ Text·decimalSize n ⌝ }
+    ensures bound { λ r. ⌜ r ≤ 20 ⌝ }
 {
     let mut k: usize = 1;
     let mut rest = n;

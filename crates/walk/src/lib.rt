@@ -230,7 +230,7 @@ fn is_cast(file: &[u8]) -> bool
 pub fn walk(file: &[u8], table: &mut [u32]) -> Answer
     ensures result { λ r. ⌜ r ≡ answer (now (file .entry)) ⌝ }
     ensures table { λ r. ⌜ now (table .exit) ≡ tableAfter (now (file .entry)) (now (table .entry)) ⌝ }
-    ensures rows { λ r. ⌜ length (limited (now (file .entry)) .rows) ≤ 1024 ⌝ }
+    ensures bound { λ r. ⌜ length (limited (now (file .entry)) .rows) ≤ 1024 ⌝ }
 {
     if 16777216 < file.len() {
         return refused(2, 0);
