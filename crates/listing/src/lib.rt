@@ -179,7 +179,8 @@ fn put_line(out: &mut [u8], at: usize, line: Line) -> usize
 // Puts a line at the start of the buffer where it has room for all of it, and answers its length. Else it answers 0 and
 // leaves the buffer.
 pub fn put(out: &mut [u8], line: Line) -> usize
-    ensures { λ r. ⌜ (r ≡ behind (now (out .entry)) 0 (textOf line)) × (now (out .exit) ≡ written (now (out .entry)) 0 (textOf line)) ⌝ }
+    ensures length { λ r. ⌜ r ≡ behind (now (out .entry)) 0 (textOf line) ⌝ }
+    ensures output { λ r. ⌜ now (out .exit) ≡ written (now (out .entry)) 0 (textOf line) ⌝ }
 {
     if out.len() < size(line) {
         return 0;
