@@ -53,7 +53,8 @@ pub struct Index {
 
 // Walks over so many properties, at most 64, and notes where they start.
 pub fn index_of(body: &[u8], count: u32) -> Index
-    ensures { λ r. ⌜ (r ≡ indexOf (properties (now (body .entry)) count)) × (r .count ≤ 64) ⌝ }
+    ensures result { λ r. ⌜ r ≡ indexOf (properties (now (body .entry)) count) ⌝ }
+    ensures bound { λ r. ⌜ r .count ≤ 64 ⌝ }
 {
     let mut starts = [0usize; 65];
     if 64 < count {
@@ -94,7 +95,8 @@ pub fn index_of(body: &[u8], count: u32) -> Index
 
 // The first of the properties that start at these places which has the name; their number where none has.
 pub fn find(body: &[u8], starts: &[usize], name: &[u8]) -> usize
-    ensures { λ r. ⌜ (r ≡ firstNamed (now (body .entry)) (now (name .entry)) (now (starts .entry))) × (r ≤ length (now (starts .entry))) ⌝ }
+    ensures result { λ r. ⌜ r ≡ firstNamed (now (body .entry)) (now (name .entry)) (now (starts .entry)) ⌝ }
+    ensures within { λ r. ⌜ r ≤ length (now (starts .entry)) ⌝ }
 {
     let mut i: usize = 0;
     while i < starts.len() {

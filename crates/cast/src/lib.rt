@@ -24,7 +24,8 @@ pub struct CastReading {
 // Reads a file, and puts its rows into the table.
 #[no_mangle]
 pub extern "C" fn cast_read(file: &[u8], table: &mut [u32]) -> CastReading
-    ensures { λ r. ⌜ (r ≡ answerOf (readingOf (now (file .entry)) (now (table .entry)))) × (now (table .exit) ≡ tableAfter (now (file .entry)) (now (table .entry))) ⌝ }
+    ensures result { λ r. ⌜ r ≡ answerOf (readingOf (now (file .entry)) (now (table .entry))) ⌝ }
+    ensures table { λ r. ⌜ now (table .exit) ≡ tableAfter (now (file .entry)) (now (table .entry)) ⌝ }
 {
     let reading = reader::read(file, table);
     match reading {
@@ -73,7 +74,9 @@ pub struct CastFound {
 // Finds a property of a row by its name: its data is bytes[start..end].
 #[no_mangle]
 pub extern "C" fn cast_lookup(bytes: &[u8], table: &[u32], row: usize, name: &[u8]) -> CastFound
-    ensures { λ r. ⌜ (r ≡ foundOf (lookupOf (now (bytes .entry)) (now (table .entry)) row (now (name .entry)))) × (r .start ≤ r .end) × (r .end ≤ length (now (bytes .entry))) ⌝ }
+    ensures result { λ r. ⌜ r ≡ foundOf (lookupOf (now (bytes .entry)) (now (table .entry)) row (now (name .entry))) ⌝ }
+    ensures order { λ r. ⌜ r .start ≤ r .end ⌝ }
+    ensures within { λ r. ⌜ r .end ≤ length (now (bytes .entry)) ⌝ }
 {
     let found = lookup::find(bytes, table, row, name);
     let lookup::Found::At { start, end } = found else {
@@ -112,7 +115,8 @@ fn numbers_of(written: emit::Written) -> CastWritten
 // Writes a plan's rows, with their bodies out of the source, as a file.
 #[no_mangle]
 pub extern "C" fn cast_write(plan: &[u32], source: &[u8], flags: u32, out: &mut [u8]) -> CastWritten
-    ensures { λ r. ⌜ (r ≡ writtenAs (writtenOf (now (plan .entry)) (now (source .entry)) flags (length (now (out .entry))))) × (now (out .exit) ≡ outputAfter (now (plan .entry)) (now (source .entry)) flags (now (out .entry))) ⌝ }
+    ensures result { λ r. ⌜ r ≡ writtenAs (writtenOf (now (plan .entry)) (now (source .entry)) flags (length (now (out .entry)))) ⌝ }
+    ensures output { λ r. ⌜ now (out .exit) ≡ outputAfter (now (plan .entry)) (now (source .entry)) flags (now (out .entry)) ⌝ }
 {
     numbers_of(writer::write(plan, source, flags, out))
 }
@@ -125,7 +129,9 @@ pub extern "C" fn cast_trim(
     table: &mut [u32],
     out: &mut [u8],
 ) -> CastWritten
-    ensures { λ r. ⌜ (r ≡ writtenAs (trimmedOf (now (file .entry)) row (now (table .entry)) (length (now (out .entry))))) × (now (out .exit) ≡ trimmedOutput (now (file .entry)) row (now (table .entry)) (now (out .entry))) × (now (table .exit) ≡ trimmedTable (now (file .entry)) row (now (table .entry)) (length (now (out .entry)))) ⌝ }
+    ensures result { λ r. ⌜ r ≡ writtenAs (trimmedOf (now (file .entry)) row (now (table .entry)) (length (now (out .entry)))) ⌝ }
+    ensures output { λ r. ⌜ now (out .exit) ≡ trimmedOutput (now (file .entry)) row (now (table .entry)) (now (out .entry)) ⌝ }
+    ensures table { λ r. ⌜ now (table .exit) ≡ trimmedTable (now (file .entry)) row (now (table .entry)) (length (now (out .entry))) ⌝ }
 {
     numbers_of(trimmer::trim(file, row, table, out))
 }

@@ -2,11 +2,18 @@
 use Prim.Native.Nat.{ℕ, _+_, _-_, _≤_, _<_}
 use mathlib.Core.Path.{_≡_}
 use mathlib.Core.Bool.{Bool, true, false}
-use mathlib.Core.List.{List}
+use mathlib.Core.List.{List, _++_}
 use lib.ListN.{length, getD}
+use Rattle.table.specs.declared.Row.{Row}
 use Rattle.table.specs.Table.{rowAt, rowsAt}
+use Rattle.format.specs.Forest.{header}
+use Rattle.format.specs.Rows.{hashOf, bodyOf}
 use Rattle.emit.specs.declared.Measured.{Measured}
 use Rattle.emit.specs.Emission.{sizeOf, nodesBytes, roots}
+
+-- a row's header with a size, and its body
+abbrev pub nodeBytes : (s : List ℕ) (size : ℕ) → Row → List ℕ
+nodeBytes s size r = header (r .kind) size (hashOf r) (r .properties) (r .children) ++ bodyOf s r
 
 -- at place i, the size of row i, of n rows
 abbrev pub Sized : (sizes s t : List ℕ) (n : ℕ) → Type 0

@@ -1,15 +1,22 @@
 -- The bytes that any rows give over a source. Sizes and the root count are computed; kinds, hashes and the two counts are the
 -- rows'. No row is judged. Document 01's refusals 25 and 26 go by the length of these bytes.
-use Prim.Native.Nat.{ℕ, suc, _+_}
+use Prim.Native.Nat.{ℕ, suc, _+_, min}
 use mathlib.Core.Bool.{cond}
 use mathlib.Core.List.{List, [], _∷_, _++_}
 use lib.Dec.{eqb, ltb}
 use lib.ListN.{length, drop}
 use Rattle.kinds.specs.Kinds.{root}
 use Rattle.table.specs.declared.Row.{Row}
+use Rattle.table.specs.Table.{rowsAt}
 use Rattle.format.specs.Forest.{header, fileHeader}
 use Rattle.format.specs.Rows.{hashOf, bodyOf}
 use Rattle.emit.specs.declared.Written.{Written}
+
+-- ---- rows
+
+-- the rows to emit: the first of a table, as many as are asked for, and at most 1,024
+abbrev pub emittedRows : (t : List ℕ) (rows : ℕ) → List Row
+emittedRows t rows = rowsAt t 0 (min rows 1024)
 
 -- ---- sizes
 

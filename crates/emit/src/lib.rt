@@ -1,15 +1,14 @@
 // Emitting a plan: the bytes of a file from rows and a source, in a lent output. Sizes, the root count and the length are
 // computed from the rows.
 ghost use mathlib.Core.Path.{_≡_};
-ghost use mathlib.Core.List.{_++_};
-ghost use Prim.Native.Nat.{ℕ, _+_, _≤_, _<_, min};
+ghost use Prim.Native.Nat.{ℕ, _+_, _≤_, _<_};
 ghost use lib.ListN.{length, getD};
 ghost use lib.Seq.{sets};
 ghost use Rattle.table.specs.Table.{rowsAt};
 ghost use Rattle.format.specs.Forest.{header, fileHeader};
 ghost use Rattle.format.specs.Rows.{hashOf, bodyOf};
-ghost use Rattle.emit.specs.Emission.{nodesBytes, emission, outputOf};
-ghost use Rattle.emit.specs.Contract.{Sized, Measures};
+ghost use Rattle.emit.specs.Emission.{emittedRows, nodesBytes, emission, outputOf};
+ghost use Rattle.emit.specs.Contract.{nodeBytes, Sized, Measures};
 
 const ROOT: u32 = 0x746F6F72;
 
@@ -99,7 +98,8 @@ fn put_header(out: &mut [u8], row: table::Row, size: u32)
 // Writes a node's header and body, and answers the place behind them.
 fn put_node(out: &mut [u8], at: usize, source: &[u8], row: table::Row, size: u32) -> usize
     requires { ⌜ at + (24 + length (bodyOf (now source) row)) ≤ length (now out) ⌝ }
-    ensures { λ r. ⌜ (r ≡ at + (24 + length (bodyOf (now (source .entry)) row))) × (now (out .exit) ≡ sets (now (out .entry)) at (header (row .kind) size (hashOf row) (row .properties) (row .children) ++ bodyOf (now (source .entry)) row)) ⌝ }
+    ensures place { λ r. ⌜ r ≡ at + (24 + length (bodyOf (now (source .entry)) row)) ⌝ }
+    ensures output { λ r. ⌜ now (out .exit) ≡ sets (now (out .entry)) at (nodeBytes (now (source .entry)) size row) ⌝ }
 {
     // Lent just its 24 bytes, the header is stored without a test.
     put_header(&mut out[at..at + 24], row, size);
@@ -110,7 +110,10 @@ fn put_node(out: &mut [u8], at: usize, source: &[u8], row: table::Row, size: u32
 
 // Writes the nodes of the rows, one behind the other.
 fn put_nodes(out: &mut [u8], plan: &[u32], rows: usize, source: &[u8], sizes: &[u32])
-    requires { ⌜ (rows ≤ 1024) × (length (now sizes) ≡ 1024) × Sized (now sizes) (now source) (now plan) rows × (16 + length (nodesBytes (now source) 0 (rowsAt (now plan) 0 rows)) ≤ length (now out)) ⌝ }
+    requires rows { ⌜ rows ≤ 1024 ⌝ }
+    requires length { ⌜ length (now sizes) ≡ 1024 ⌝ }
+    requires sizes { ⌜ Sized (now sizes) (now source) (now plan) rows ⌝ }
+    requires room { ⌜ 16 + length (nodesBytes (now source) 0 (rowsAt (now plan) 0 rows)) ≤ length (now out) ⌝ }
     ensures { λ _. ⌜ now (out .exit) ≡ sets (now (out .entry)) 16 (nodesBytes (now (source .entry)) 0 (rowsAt (now (plan .entry)) 0 rows)) ⌝ }
 {
     let mut at: usize = 16;
@@ -124,7 +127,8 @@ fn put_nodes(out: &mut [u8], plan: &[u32], rows: usize, source: &[u8], sizes: &[
 
 // Writes the file that the first rows of a table, at most 1,024, give over the source. The rows are not judged.
 pub fn emit(plan: &[u32], rows: usize, source: &[u8], flags: u32, out: &mut [u8]) -> Written
-    ensures { λ r. ⌜ (r ≡ emission flags (now (source .entry)) (rowsAt (now (plan .entry)) 0 (min rows 1024)) (length (now (out .entry)))) × (now (out .exit) ≡ outputOf flags (now (source .entry)) (rowsAt (now (plan .entry)) 0 (min rows 1024)) (now (out .entry))) ⌝ }
+    ensures result { λ r. ⌜ r ≡ emission flags (now (source .entry)) (emittedRows (now (plan .entry)) rows) (length (now (out .entry))) ⌝ }
+    ensures output { λ r. ⌜ now (out .exit) ≡ outputOf flags (now (source .entry)) (emittedRows (now (plan .entry)) rows) (now (out .entry)) ⌝ }
 {
     let n = if rows < 1024 { rows } else { 1024 };
     let mut sizes = [0u32; 1024];

@@ -1,7 +1,7 @@
 // The faces of a mesh: whether each of their values is a vertex, how many faces there are, and how many are degenerate.
 ghost use mathlib.Core.Path.{_≡_};
 ghost use Prim.Native.Nat.{_≤_, _*_};
-ghost use Rattle.faces.specs.Faces.{widthOf, faceAt, facesIn, isDegenerate, countedBy, scanOf};
+ghost use Rattle.faces.specs.Faces.{widthOf, faceAt, facesIn, isDegenerate, countedBy, scanOf, numbersOf};
 ghost use Rattle.faces.specs.declared.Values.the-variants.{Past};
 ghost use mathlib.Core.List.{[]};
 
@@ -30,7 +30,8 @@ pub struct Scanned {
 
 // The width of a value, by its type.
 pub fn width_of(code: u16) -> u32
-    ensures { λ r. ⌜ (r ≡ widthOf code) × (r ≤ 4) ⌝ }
+    ensures result { λ r. ⌜ r ≡ widthOf code ⌝ }
+    ensures bound { λ r. ⌜ r ≤ 4 ⌝ }
 {
     match code {
         0x62 => 1,
@@ -90,7 +91,8 @@ fn past(k: u64) -> Scanned
 
 // Passes over so many faces once.
 pub fn scan(bytes: &[u8], code: u16, count: u32, vertices: u32) -> Scanned
-    ensures { λ r. ⌜ r ≡ scanOf vertices (facesIn (widthOf code) count (now (bytes .entry))) ⌝ }
+    ensures result { λ r. ⌜ r ≡ scanOf vertices (facesIn (widthOf code) count (now (bytes .entry))) ⌝ }
+    ensures numbers { λ r. ⌜ numbersOf r ≡ numbersOf (scanOf vertices (facesIn (widthOf code) count (now (bytes .entry)))) ⌝ }
 {
     let width = width_of(code);
     let step = 3 * width as usize;

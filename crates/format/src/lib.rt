@@ -9,7 +9,8 @@ pub struct OwnBytes(pub u64);
 
 // The own bytes of the node in a row. A body that ends before its start has none.
 pub fn own_bytes(row: table::Row) -> OwnBytes
-    ensures { λ r. ⌜ (r .0 ≡ ownBytes row) × (r .0 < 8589934592) ⌝ }
+    ensures result { λ r. ⌜ r .0 ≡ ownBytes row ⌝ }
+    ensures bound { λ r. ⌜ r .0 < 8589934592 ⌝ }
 {
     let start = row.start as u64;
     let end = row.end as u64;

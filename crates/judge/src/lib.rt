@@ -62,7 +62,10 @@ fn misfit(l: rules::Line, body: &[u8], at: usize) -> bool
 // property's line stands among the lines of the kind.
 fn typed(lines: &[rules::Columns], body: &[u8], starts: &[usize], numbers: &mut [usize]) -> Verdict
     requires { ⌜ (length (now starts) ≤ 64) × (length (now starts) ≤ length (now numbers)) × Within (now body) (now starts) ⌝ }
-    ensures { λ r. ⌜ (r ≡ typed (linesFrom (now (lines .entry))) (now (body .entry)) [] (now (starts .entry))) × (r .number ≡ 0 → now (numbers .exit) ≡ sets (now (numbers .entry)) 0 (map (lineNumber (linesFrom (now (lines .entry))) (now (body .entry))) (now (starts .entry)))) × (r .at ≤ 24 + length (now (body .entry))) ⌝ }
+    ensures result { λ r. ⌜ r ≡ typed (linesFrom (now (lines .entry))) (now (body .entry)) [] (now (starts .entry)) ⌝ }
+    ensures numbers { λ r. ⌜ (r .number ≡ 0 → now (numbers .exit)
+        ≡ sets (now (numbers .entry)) 0 (map (lineNumber (linesFrom (now (lines .entry))) (now (body .entry))) (now (starts .entry)))) ⌝ }
+    ensures place { λ r. ⌜ r .at ≤ 24 + length (now (body .entry)) ⌝ }
 {
     let mut keys = [0u64; 64];
     let mut i: usize = 0;
@@ -169,7 +172,8 @@ struct Content {
 }
 
 fn content_of(body: &[u8], starts: &[usize], name: &[u8]) -> Content
-    ensures { λ r. ⌜ (r .length ≡ lengthOf (now (body .entry)) (now (starts .entry)) (now (name .entry))) × (r .value ≡ valueOf (now (body .entry)) (now (starts .entry)) (now (name .entry))) ⌝ }
+    ensures length { λ r. ⌜ r .length ≡ lengthOf (now (body .entry)) (now (starts .entry)) (now (name .entry)) ⌝ }
+    ensures value { λ r. ⌜ r .value ≡ valueOf (now (body .entry)) (now (starts .entry)) (now (name .entry)) ⌝ }
 {
     let i = body::find(body, starts, name);
     if i < starts.len() {
@@ -374,8 +378,13 @@ fn valued(
     numbers: &[usize],
     bones: u32,
 ) -> Judged
-    requires { ⌜ (length (now starts) ≤ 64) × (now numbers ≡ map (lineNumber (linesFrom (now lines)) (now body)) (now starts)) × Within (now body) (now starts) ⌝ }
-    ensures { λ r. ⌜ (r ≡ valuedTo (linesFrom (now (lines .entry))) (now (body .entry)) (besideOf kind (now (body .entry)) (now (starts .entry)) bones) (now (starts .entry))) × Bounded r (length (now (body .entry))) ⌝ }
+    requires count { ⌜ length (now starts) ≤ 64 ⌝ }
+    requires numbers { ⌜ now numbers ≡ map (lineNumber (linesFrom (now lines)) (now body)) (now starts) ⌝ }
+    requires places { ⌜ Within (now body) (now starts) ⌝ }
+    ensures result { λ r. ⌜ r
+        ≡ valuedTo (linesFrom (now (lines .entry))) (now (body .entry))
+        (besideOf kind (now (body .entry)) (now (starts .entry)) bones) (now (starts .entry)) ⌝ }
+    ensures bounds { λ r. ⌜ Bounded r (length (now (body .entry))) ⌝ }
 {
     let b = beside_of(kind, body, starts, bones);
     let mut faces: u64 = 0;
@@ -420,7 +429,8 @@ fn judge_at(
     bones: u32,
 ) -> Judged
     requires { ⌜ (length (now starts) ≤ 64) × Within (now body) (now starts) ⌝ }
-    ensures { λ r. ⌜ (r ≡ judgedAt kind (linesFrom (now (lines .entry))) (now (body .entry)) (now (starts .entry)) bones) × Bounded r (length (now (body .entry))) ⌝ }
+    ensures result { λ r. ⌜ r ≡ judgedAt kind (linesFrom (now (lines .entry))) (now (body .entry)) (now (starts .entry)) bones ⌝ }
+    ensures bounds { λ r. ⌜ Bounded r (length (now (body .entry))) ⌝ }
 {
     let mut numbers = [0usize; 64];
     let v = typed(lines, body, starts, &mut numbers);
@@ -437,7 +447,8 @@ fn judge_at(
 // Judges a node by its kind, its property count, its body and the number of Bones beside it. Judged are the properties that
 // a walk over so many passes: all, of a body that is exactly so many, and none where they are over 64.
 pub fn judge(kind: u32, count: u32, body: &[u8], bones: u32) -> Judged
-    ensures { λ r. ⌜ (r ≡ judged kind count (now (body .entry)) bones) × Bounded r (length (now (body .entry))) ⌝ }
+    ensures result { λ r. ⌜ r ≡ judged kind count (now (body .entry)) bones ⌝ }
+    ensures bounds { λ r. ⌜ Bounded r (length (now (body .entry))) ⌝ }
 {
     let index = body::index_of(body, count);
     let starts = index.starts;

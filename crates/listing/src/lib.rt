@@ -179,7 +179,8 @@ fn put_line(out: &mut [u8], at: usize, line: Line) -> usize
 // Puts a line at the start of the buffer where it has room for all of it, and answers its length. Else it answers 0 and
 // leaves the buffer.
 pub fn put(out: &mut [u8], line: Line) -> usize
-    ensures { λ r. ⌜ (r ≡ behind (now (out .entry)) 0 (textOf line)) × (now (out .exit) ≡ written (now (out .entry)) 0 (textOf line)) ⌝ }
+    ensures length { λ r. ⌜ r ≡ behind (now (out .entry)) 0 (textOf line) ⌝ }
+    ensures output { λ r. ⌜ now (out .exit) ≡ written (now (out .entry)) 0 (textOf line) ⌝ }
 {
     if out.len() < size(line) {
         return 0;
@@ -252,7 +253,8 @@ fn put_foot(
 // Puts the listing of an accepted file of so many bytes, where there is room for all of it.
 fn accepted(out: &mut [u8], bytes: u64, table: &[u32], a: reader::Account) -> usize
     requires { ⌜ Small (Accepted a) ⌝ }
-    ensures { λ r. ⌜ PutsWhole (now (out .entry)) (printed (fileLines bytes (Accepted a) (rowsAt (now (table .entry)) 0 (a .nodes)))) r (now (out .exit)) ⌝ }
+    ensures { λ r. ⌜ PutsWhole (now (out .entry))
+        (printed (fileLines bytes (Accepted a) (rowsAt (now (table .entry)) 0 (a .nodes)))) r (now (out .exit)) ⌝ }
 {
     let known = a.known;
     let unknown = a.unknown;
@@ -275,7 +277,8 @@ fn accepted(out: &mut [u8], bytes: u64, table: &[u32], a: reader::Account) -> us
 // Puts the listing of an input at the start of the buffer where it has room for all of it, and answers its length. Else it
 // answers 0 and leaves the buffer.
 pub fn list(input: &[u8], out: &mut [u8]) -> usize
-    ensures { λ r. ⌜ (r ≡ behind (now (out .entry)) 0 (listingOf (now (input .entry)))) × (now (out .exit) ≡ written (now (out .entry)) 0 (listingOf (now (input .entry)))) ⌝ }
+    ensures length { λ r. ⌜ r ≡ behind (now (out .entry)) 0 (listingOf (now (input .entry))) ⌝ }
+    ensures output { λ r. ⌜ now (out .exit) ≡ written (now (out .entry)) 0 (listingOf (now (input .entry))) ⌝ }
 {
     if 32768 < input.len() {
         return put(out, Line::TooLong);
@@ -290,7 +293,8 @@ pub fn list(input: &[u8], out: &mut [u8]) -> usize
 
 // The listing of the first n bytes.
 fn list_first(bytes: &[u8], n: usize, out: &mut [u8]) -> usize
-    ensures { λ r. ⌜ PutsWhole (now (out .entry)) (listingOf (take n (now (bytes .entry)))) r (now (out .exit)) × (length (listingOf (take n (now (bytes .entry)))) ≤ 98304) ⌝ }
+    ensures whole { λ r. ⌜ PutsWhole (now (out .entry)) (listingOf (take n (now (bytes .entry)))) r (now (out .exit)) ⌝ }
+    ensures size { λ r. ⌜ length (listingOf (take n (now (bytes .entry)))) ≤ 98304 ⌝ }
 {
     if bytes.len() < n {
         return list(bytes, out);
@@ -301,7 +305,9 @@ fn list_first(bytes: &[u8], n: usize, out: &mut [u8]) -> usize
 // Puts the listing of the first n bytes of what was read, and answers its length. What was read has room for one byte more
 // than a file may have, and the buffer for any listing.
 pub fn list_read(read: &[u8; 32769], n: usize, out: &mut [u8; 98304]) -> usize
-    ensures { λ r. ⌜ (r ≡ length (listingOf (take n (now (read .entry))))) × (now (out .exit) ≡ sets (now (out .entry)) 0 (listingOf (take n (now (read .entry))))) × (r ≤ length (now (out .exit))) ⌝ }
+    ensures length { λ r. ⌜ r ≡ length (listingOf (take n (now (read .entry)))) ⌝ }
+    ensures output { λ r. ⌜ now (out .exit) ≡ sets (now (out .entry)) 0 (listingOf (take n (now (read .entry)))) ⌝ }
+    ensures within { λ r. ⌜ r ≤ length (now (out .exit)) ⌝ }
 {
     list_first(read, n, out)
 }

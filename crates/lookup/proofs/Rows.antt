@@ -1,5 +1,5 @@
 -- The cases of the lookup by a row; and what it finds lies within the bytes.
-use mathlib.Core.Path.{_≡_, refl, sym, subst}
+use mathlib.Core.Path.{_≡_, refl, sym, ap, subst}
 use mathlib.Core.Bool.{Bool, true, false, cond, not}
 use mathlib.Core.List.{List}
 use Prim.Native.Nat.{ℕ, _+_, _-_, _<_, _≤_}
@@ -12,7 +12,7 @@ use Rattle.table.specs.declared.Row.{Row}
 use Rattle.table.specs.Table.{hasRow, rowAt}
 use Rattle.lookup.specs.declared.Found.{Found}
 use Rattle.lookup.specs.declared.Found.the-variants.{At, Refused}
-use Rattle.lookup.specs.Lookup.{inBody, shifted, lookupOf, Within}
+use Rattle.lookup.specs.Lookup.{inBody, shifted, lookupOf, Within, numberOf, partOf}
 use Rattle.lookup.proofs.Laws.{body-within}
 
 module _ (bs t : List ℕ) (row : ℕ) (name : List ℕ) where
@@ -59,5 +59,9 @@ module _ (bs t : List ℕ) (row : ℕ) (name : List ℕ) where
   found-within = let r = rowAt t row in within-by r (not (hasRow t row)) (ltb (r .end) (r .start)) (ltb (length bs) (r .end)) refl refl
 
   -- an answer, with that
-  pub told : {f : Found} → f ≡ lookupOf bs t row name → (f ≡ lookupOf bs t row name) × Within (length bs) f
-  told e = (e, subst (Within (length bs)) (sym e) found-within)
+  pub told : {f : Found} → f ≡ lookupOf bs t row name
+      → (f ≡ lookupOf bs t row name)
+      × (Within (length bs) f
+      × ((numberOf f ≡ numberOf (lookupOf bs t row name))
+      × (partOf bs f ≡ partOf bs (lookupOf bs t row name))))
+  told e = (e, (subst (Within (length bs)) (sym e) found-within, (ap numberOf e, ap (partOf bs) e)))

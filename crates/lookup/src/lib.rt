@@ -36,7 +36,11 @@ fn in_body(body: &[u8], count: u32, name: &[u8]) -> Found
 
 // Finds the property of a row: 40 to 43.
 pub fn find(bytes: &[u8], table: &[u32], row: usize, name: &[u8]) -> Found
-    ensures { λ r. ⌜ (r ≡ lookupOf (now (bytes .entry)) (now (table .entry)) row (now (name .entry))) × Within (length (now (bytes .entry))) r ⌝ }
+    ensures result { λ r. ⌜ r ≡ lookupOf (now (bytes .entry)) (now (table .entry)) row (now (name .entry)) ⌝ }
+    ensures within { λ r. ⌜ Within (length (now (bytes .entry))) r ⌝ }
+    ensures number { λ r. ⌜ numberOf r ≡ numberOf (lookupOf (now (bytes .entry)) (now (table .entry)) row (now (name .entry))) ⌝ }
+    ensures part { λ r. ⌜ partOf (now (bytes .entry)) r
+        ≡ partOf (now (bytes .entry)) (lookupOf (now (bytes .entry)) (now (table .entry)) row (now (name .entry))) ⌝ }
 {
     if !table::has_row(table, row) {
         return Found::Refused(40);

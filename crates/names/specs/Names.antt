@@ -44,3 +44,14 @@ number (b ∷ bs) = cond (leb (length bs) 2 && not (eqb b 48 && leb 1 (length bs
 -- a prefix, and then `%d`
 unfoldable pub numbered : List ℕ → List ℕ → Numeral
 numbered name prefix = cond (same (take (length prefix) name) prefix) (number (drop (length prefix) name)) Not
+
+-- ---- document 01's values of an answer: whether a name has a number by `%d`, and which
+pub record Numbers : Type 0 where
+  pub is : Bool
+  pub value : ℕ
+
+abbrev pub numbersOf : Numeral → Numbers
+-- "`%d` is one to three digits": that number
+numbersOf (Is n) = record { is = true; value = n }
+-- another name, for which the rules have no number: 0
+numbersOf Not = record { is = false; value = 0 }

@@ -88,6 +88,21 @@ stepAt s at =
     (unless Refused (nameRefusal (nameAt s at))
     (past at (startAt s at) (dataOf (sizeOf (codeAt s at)) (lengthAt s at) (drop (startAt s at) s))))
 
+-- document 01's number and values of an answer: the refusal's number, 0 for none; where the name and the data start, and
+-- where the next property does
+pub record StepNumbers : Type 0 where
+  pub number : ℕ
+  pub name : ℕ
+  pub start : ℕ
+  pub next : ℕ
+
+abbrev pub stepNumbers : Step → StepNumbers
+-- "steps past one property at a time": no refusal, and its places
+stepNumbers (Past p next) = record { number = 0; name = p .name; start = p .start; next = next .at }
+-- "property's header, name or data passes the node's end" 10, "type code, name or string length wrong" 11; "all other numbers
+-- of it are 0"
+stepNumbers (Refused n) = record { number = n; name = 0; start = 0; next = 0 }
+
 -- where its data starts, or the end of the bytes where that is past it
 unfoldable pub dataAt : List ℕ → ℕ → ℕ
 dataAt s at = cond (ltb (length s) (startAt s at)) (length s) (startAt s at)

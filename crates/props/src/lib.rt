@@ -3,8 +3,8 @@ ghost use mathlib.Core.Path.{_≡_};
 ghost use Prim.Native.Nat.{_+_, _≤_, _<_};
 ghost use lib.Dec.{leb};
 ghost use lib.ListN.{length, drop};
-ghost use Rattle.props.specs.Types.{sizeOf, noSuch};
-ghost use Rattle.props.specs.Step.{headerRefusal, dataRefusal, toZero, dataOf, stepAt, codeAt, lengthAt, nameAt, startAt, dataAt};
+ghost use Rattle.props.specs.Types.{sizeOf, noSuch, sizeNumbers, elementOf};
+ghost use Rattle.props.specs.Step.{headerRefusal, dataRefusal, toZero, dataOf, stepAt, codeAt, lengthAt, nameAt, startAt, dataAt, stepNumbers};
 
 // The size of one element, by type code. A string's size is found in its data.
 pub enum Size {
@@ -14,7 +14,8 @@ pub enum Size {
 }
 
 pub fn size_of(code: u16) -> Size
-    ensures { λ r. ⌜ r ≡ sizeOf code ⌝ }
+    ensures result { λ r. ⌜ r ≡ sizeOf code ⌝ }
+    ensures numbers { λ r. ⌜ sizeNumbers r ≡ elementOf code ⌝ }
 {
     match code {
         0x62 => Size::Bytes(1), // b
@@ -181,7 +182,8 @@ pub enum Step {
 impl Cursor {
     // Steps past one property: header fits, type, name size, name fits, name bytes, string length, data fits.
     pub fn step(self, body: &[u8]) -> Step
-        ensures { λ r. ⌜ r ≡ stepAt (now (body .entry)) (self .at) ⌝ }
+        ensures result { λ r. ⌜ r ≡ stepAt (now (body .entry)) (self .at) ⌝ }
+        ensures numbers { λ r. ⌜ stepNumbers r ≡ stepNumbers (stepAt (now (body .entry)) (self .at)) ⌝ }
     {
         let at = self.at;
         if body.len() < at {
@@ -216,7 +218,8 @@ impl Cursor {
 
 // Where the data of the property at a place starts, by its name size; at most the body's end.
 pub fn data_at(body: &[u8], at: usize) -> usize
-    ensures { λ r. ⌜ (r ≡ dataAt (now (body .entry)) at) × (r ≤ length (now (body .entry))) ⌝ }
+    ensures result { λ r. ⌜ r ≡ dataAt (now (body .entry)) at ⌝ }
+    ensures within { λ r. ⌜ r ≤ length (now (body .entry)) ⌝ }
 {
     let n = body.len();
     if n < at {

@@ -123,6 +123,7 @@ pub record Numbers : Type 0 where
   pub links : ℕ
 
 abbrev pub numbersOf : Reading → Numbers
+-- "A reading answers: node count, flags, own bytes of known and of unknown nodes, faces, degenerate faces, links"
 numbersOf (Accepted a) = record {
   number = 0;
   place = 0;
@@ -134,6 +135,7 @@ numbersOf (Accepted a) = record {
   degenerate = a .degenerate;
   links = a .links;
 }
+-- "The first found is the answer; all other numbers of it are 0."
 numbersOf (Refused n p) = record {
   number = n;
   place = p;

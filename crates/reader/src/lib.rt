@@ -8,7 +8,7 @@ ghost use Rattle.format.specs.Rows.{bodyOf};
 ghost use Rattle.links.specs.Links.{linksOf, linked};
 ghost use Rattle.walk.specs.Walk.{flagsOf};
 ghost use Rattle.reader.specs.declared.Reading.the-variants.{Refused};
-ghost use Rattle.reader.specs.Reading.{judgedWith, ruled, ownKnown, ownUnknown, checked, readingOf, tableAfter};
+ghost use Rattle.reader.specs.Reading.{judgedWith, ruled, ownKnown, ownUnknown, checked, readingOf, tableAfter, numbersOf};
 ghost use Rattle.reader.specs.Contract.{RowsOk, BoneParents, Counted, leftIn, Small};
 
 // What is answered of an accepted file: its nodes and flags; the own bytes of its known and of its unknown nodes; its
@@ -89,7 +89,8 @@ struct Ruled {
 // The rules, row by row.
 fn rules_of(file: &[u8], table: &[u32], nodes: usize, bones: &[u32]) -> Ruled
     requires { ⌜ (nodes ≤ 1024) × RowsOk (length (now file)) (now table) nodes × Counted (now bones) (rowsAt (now table) 0 nodes) ⌝ }
-    ensures { λ r. ⌜ (r ≡ ruled (now (file .entry)) (rowsAt (now (table .entry)) 0 nodes) (rowsAt (now (table .entry)) 0 nodes)) × (r .place ≤ length (now (file .entry))) ⌝ }
+    ensures result { λ r. ⌜ r ≡ ruled (now (file .entry)) (rowsAt (now (table .entry)) 0 nodes) (rowsAt (now (table .entry)) 0 nodes) ⌝ }
+    ensures place { λ r. ⌜ r .place ≤ length (now (file .entry)) ⌝ }
 {
     let mut faces: u64 = 0;
     let mut degenerate: u64 = 0;
@@ -151,7 +152,8 @@ struct Own {
 
 fn own_of(table: &[u32], nodes: usize) -> Own
     requires { ⌜ nodes ≤ 1024 ⌝ }
-    ensures { λ r. ⌜ (r .known .0 ≡ ownKnown (rowsAt (now (table .entry)) 0 nodes)) × (r .unknown .0 ≡ ownUnknown (rowsAt (now (table .entry)) 0 nodes)) ⌝ }
+    ensures known { λ r. ⌜ r .known .0 ≡ ownKnown (rowsAt (now (table .entry)) 0 nodes) ⌝ }
+    ensures unknown { λ r. ⌜ r .unknown .0 ≡ ownUnknown (rowsAt (now (table .entry)) 0 nodes) ⌝ }
 {
     let mut known: u64 = 0;
     let mut unknown: u64 = 0;
@@ -185,7 +187,8 @@ fn refused(number: u32, place: u32, rows: &mut [u32]) -> Reading
 // 13 to 17 of a file that was walked, its rows being the first of the table.
 fn checked(file: &[u8], table: &mut [u32], nodes: u32, flags: u32) -> Reading
     requires { ⌜ (nodes ≤ 1024) × RowsOk (length (now file)) (now table) nodes × (length (now file) ≤ 16777216) × (flags ≡ flagsOf (now file)) ⌝ }
-    ensures { λ r. ⌜ (r ≡ checked (now (file .entry)) (rowsAt (now (table .entry)) 0 nodes)) × (now (table .exit) ≡ leftIn r (now (table .entry))) ⌝ }
+    ensures result { λ r. ⌜ r ≡ checked (now (file .entry)) (rowsAt (now (table .entry)) 0 nodes) ⌝ }
+    ensures table { λ r. ⌜ now (table .exit) ≡ leftIn r (now (table .entry)) ⌝ }
 {
     let n = nodes as usize;
     let mut bones = [0u32; 1024];
@@ -215,7 +218,10 @@ fn checked(file: &[u8], table: &mut [u32], nodes: u32, flags: u32) -> Reading
 // Reads a file, and puts its rows into the table: zeros after them up to 8,192 numbers, and zeros alone on a refusal. A
 // table with fewer numbers is left.
 pub fn read(file: &[u8], table: &mut [u32]) -> Reading
-    ensures { λ r. ⌜ (r ≡ readingOf (now (file .entry)) (now (table .entry))) × (now (table .exit) ≡ tableAfter (now (file .entry)) (now (table .entry))) × Small r ⌝ }
+    ensures result { λ r. ⌜ r ≡ readingOf (now (file .entry)) (now (table .entry)) ⌝ }
+    ensures numbers { λ r. ⌜ numbersOf r ≡ numbersOf (readingOf (now (file .entry)) (now (table .entry))) ⌝ }
+    ensures table { λ r. ⌜ now (table .exit) ≡ tableAfter (now (file .entry)) (now (table .entry)) ⌝ }
+    ensures small { λ r. ⌜ Small r ⌝ }
 {
     if !table::has_room(table) {
         return Reading::Refused {

@@ -208,7 +208,9 @@ fn span_of(kind: u32) -> Span
 // Puts the lines of a kind into some rows, where all have room, and answers how many were put. Nothing else reads the table:
 // each read copies it to the stack, so a node's lines are taken out once a stage and lent.
 pub fn put_lines(kind: u32, rows: &mut [Columns]) -> usize
-    ensures { λ r. ⌜ (r ≡ length (fitting (linesOf kind) (length (now (rows .entry))))) × (now (rows .exit) ≡ sets (now (rows .entry)) 0 (map rowOf (fitting (linesOf kind) (length (now (rows .entry)))))) × (length (linesOf kind) ≤ 14) ⌝ }
+    ensures count { λ r. ⌜ r ≡ length (fitting (linesOf kind) (length (now (rows .entry)))) ⌝ }
+    ensures rows { λ r. ⌜ now (rows .exit) ≡ sets (now (rows .entry)) 0 (map rowOf (fitting (linesOf kind) (length (now (rows .entry))))) ⌝ }
+    ensures bound { λ r. ⌜ length (linesOf kind) ≤ 14 ⌝ }
 {
     let span = span_of(kind);
     let from = span.from;

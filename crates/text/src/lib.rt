@@ -16,7 +16,8 @@ fn glyph(d: u64) -> u8
 
 // How many digits a number has in decimal.
 pub fn decimal_size(n: u64) -> usize
-    ensures { λ r. ⌜ (r ≡ Text·decimalSize n) × (r ≤ 20) ⌝ }
+    ensures result { λ r. ⌜ r ≡ Text·decimalSize n ⌝ }
+    ensures bound { λ r. ⌜ r ≤ 20 ⌝ }
 {
     let mut k: usize = 1;
     let mut rest = n;
@@ -44,7 +45,8 @@ fn write_digits(out: &mut [u8], at: usize, n: u64, base: u64, k: usize)
 // A label, and behind it the k lowest digits of a number in a base.
 fn put_number(out: &mut [u8], at: usize, label: &[u8], n: u64, base: u64, k: usize) -> usize
     requires { ⌜ (2 ≤ base) × (base ≤ 16) ⌝ }
-    ensures { λ r. ⌜ (r ≡ behind (now (out .entry)) at (now (label .entry) ++ digits base k n)) × (now (out .exit) ≡ written (now (out .entry)) at (now (label .entry) ++ digits base k n)) ⌝ }
+    ensures place { λ r. ⌜ r ≡ behind (now (out .entry)) at (now (label .entry) ++ digits base k n) ⌝ }
+    ensures output { λ r. ⌜ now (out .exit) ≡ written (now (out .entry)) at (now (label .entry) ++ digits base k n) ⌝ }
 {
     if out.len() < at {
         return at;
@@ -65,7 +67,8 @@ fn put_number(out: &mut [u8], at: usize, label: &[u8], n: u64, base: u64, k: usi
 // Puts a text at this place if all of it has room there, and answers the place behind it; else answers the place itself, and
 // leaves the buffer. The two below do likewise.
 pub fn put(out: &mut [u8], at: usize, text: &[u8]) -> usize
-    ensures { λ r. ⌜ (r ≡ behind (now (out .entry)) at (now (text .entry))) × (now (out .exit) ≡ written (now (out .entry)) at (now (text .entry))) ⌝ }
+    ensures place { λ r. ⌜ r ≡ behind (now (out .entry)) at (now (text .entry)) ⌝ }
+    ensures output { λ r. ⌜ now (out .exit) ≡ written (now (out .entry)) at (now (text .entry)) ⌝ }
 {
     // A label with no digits behind it.
     put_number(out, at, text, 0, 10, 0)
@@ -73,14 +76,16 @@ pub fn put(out: &mut [u8], at: usize, text: &[u8]) -> usize
 
 // A label and a number in decimal.
 pub fn put_decimal(out: &mut [u8], at: usize, label: &[u8], n: u64) -> usize
-    ensures { λ r. ⌜ (r ≡ behind (now (out .entry)) at (now (label .entry) ++ decimal n)) × (now (out .exit) ≡ written (now (out .entry)) at (now (label .entry) ++ decimal n)) ⌝ }
+    ensures place { λ r. ⌜ r ≡ behind (now (out .entry)) at (now (label .entry) ++ decimal n) ⌝ }
+    ensures output { λ r. ⌜ now (out .exit) ≡ written (now (out .entry)) at (now (label .entry) ++ decimal n) ⌝ }
 {
     put_number(out, at, label, n, 10, decimal_size(n))
 }
 
 // A label and a number in hexadecimal, of eight digits.
 pub fn put_hexadecimal(out: &mut [u8], at: usize, label: &[u8], n: u32) -> usize
-    ensures { λ r. ⌜ (r ≡ behind (now (out .entry)) at (now (label .entry) ++ hexadecimal n)) × (now (out .exit) ≡ written (now (out .entry)) at (now (label .entry) ++ hexadecimal n)) ⌝ }
+    ensures place { λ r. ⌜ r ≡ behind (now (out .entry)) at (now (label .entry) ++ hexadecimal n) ⌝ }
+    ensures output { λ r. ⌜ now (out .exit) ≡ written (now (out .entry)) at (now (label .entry) ++ hexadecimal n) ⌝ }
 {
     put_number(out, at, label, n as u64, 16, 8)
 }

@@ -45,13 +45,13 @@ module _ (s : List ℕ) (k : ℕ) (t out : List ℕ) where
 
   abbrev pub Ends : (w : Written) (o t′ : List ℕ) → Type 0
   Ends w o t′ =
-      (w ≡ removalOf rows k new room) × (o ≡ leftBy (w .number) (newFile s k) out) × (t′ ≡ leftWithout (w .number) s k t)
+      (w ≡ removalOf rows k new room) × ((o ≡ leftBy (w .number) (newFile s k) out) × (t′ ≡ leftWithout (w .number) s k t))
 
   -- a refusal, and then each of them
   refusal-ends : (n : ℕ) {w : Written} {t′ : List ℕ} → removalOf rows k new room ≡ refused (suc n) 0
       → w ≡ refused (suc n) 0 → t′ ≡ cleared t → Ends w out t′
   unfolding leftBy
-  refusal-ends n e a c = (a ∙ sym e, rw (a, ne-eqb (suc n) 0 (λ z. omega (arith, z))), c ∙ rw (a, ne-eqb (suc n) 0 (λ z. omega (arith, z))))
+  refusal-ends n e a c = (a ∙ sym e, (rw (a, ne-eqb (suc n) 0 (λ z. omega (arith, z))), c ∙ rw (a, ne-eqb (suc n) 0 (λ z. omega (arith, z)))))
 
   pub ends-30 : {w : Written} {t′ : List ℕ} → length rows ≤ k → w ≡ refused 30 0 → t′ ≡ cleared t → Ends w out t′
   ends-30 h = refusal-ends 29 (no-row rows k new room h)
@@ -67,4 +67,4 @@ module _ (s : List ℕ) (k : ℕ) (t out : List ℕ) where
       pub ends-done : {w : Written} {o t′ : List ℕ} → new ≤ room → w ≡ done new → o ≡ leftBy 0 (newFile s k) out
           → t′ ≡ readTable (newFile s k) t → Ends w o t′
       ends-done h a b c =
-          (a ∙ sym (all-right rows k new room there unknown h), rw (ap (λ (w : Written). w .number) a) b, rw (ap (λ (w : Written). w .number) a) c)
+          (a ∙ sym (all-right rows k new room there unknown h), (rw (ap (λ (w : Written). w .number) a) b, rw (ap (λ (w : Written). w .number) a) c))

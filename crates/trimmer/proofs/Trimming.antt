@@ -65,13 +65,13 @@ module _ (s t : List ℕ) (bytes : AreBytes s) (a : Account) (r : readingOf s t 
     table : leftWithout (w .number) s k u ≡ leftWithout (w .number) s k t
     table = ap (leftWithout (w .number) s k) (q ∙ left) ∙ rw (read-filled t (limited s .rows) room few-rows (newFile s k), cleared-filled t (limited s .rows) room few-rows)
 
-    pub trimmed : (w ≡ trimmedOf s k t (length out)) × (o ≡ trimmedOutput s k t out) × (t′ ≡ trimmedTable s k t (length out))
+    pub trimmed : (w ≡ trimmedOf s k t (length out)) × ((o ≡ trimmedOutput s k t out) × (t′ ≡ trimmedTable s k t (length out)))
     unfolding trimmedOutput trimmedTable
-    trimmed = (answer, e .1 ∙ rw answer, e .2 ∙ table ∙ rw answer)
+    trimmed = (answer, (e .1 .0 ∙ rw answer, e .1 .1 ∙ table ∙ rw answer))
 
 -- a file that is refused
 pub trimmed-refused : (s t : List ℕ) (n place k : ℕ) (out : List ℕ) (t′ : List ℕ) → readingOf s t ≡ Refused n place → t′ ≡ readTable s t
-    → (refused n place ≡ trimmedOf s k t (length out)) × (out ≡ trimmedOutput s k t out) × (t′ ≡ trimmedTable s k t (length out))
+    → (refused n place ≡ trimmedOf s k t (length out)) × ((out ≡ trimmedOutput s k t out) × (t′ ≡ trimmedTable s k t (length out)))
 trimmed-refused s t n place k out t′ r e =
     let is = refusedFile s t n place k out r in
-    (sym (is .0), sym (is .1), e ∙ sym (is .2))
+    (sym (is .0), (sym (is .1), e ∙ sym (is .2)))

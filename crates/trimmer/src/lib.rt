@@ -1,13 +1,13 @@
 // The trimmer: a file without one node of an unknown kind, or a refusal: the reader's, or 30 to 32.
 ghost use mathlib.Core.Path.{_≡_};
 ghost use mathlib.Core.Bool.{true};
-ghost use Prim.Native.Nat.{_+_, _-_, _≤_, _<_, min};
+ghost use Prim.Native.Nat.{_+_, _-_, _≤_, _<_};
 ghost use lib.ListN.{length};
 ghost use Rattle.table.specs.Table.{rowsAt, putRows, hasRoom, cleared, filled};
 ghost use Rattle.format.specs.Rows.{ownBytes, allOwnBytes};
 ghost use Rattle.walk.specs.Walk.{limited};
 ghost use Rattle.reader.specs.Reading.{tableAfter};
-ghost use Rattle.emit.specs.Emission.{refused, done, emission, leftBy, outputOf};
+ghost use Rattle.emit.specs.Emission.{emittedRows, refused, done, emission, leftBy, outputOf};
 ghost use Rattle.writer.specs.Forest.{movedTo, laidOut};
 ghost use Rattle.removal.specs.Trimmer.{lowered, mended, withoutFrom, newFile, removalOf, trimmedOf, trimmedOutput, trimmedTable};
 ghost use Rattle.trimmer.specs.Contract.{Read, Removes, leftWithout};
@@ -147,7 +147,9 @@ fn emit_and_place(
     out: &mut [u8],
 ) -> emit::Written
     requires { ⌜ (rows ≤ 1024) × (16 + allOwnBytes (rowsAt (now table) 0 rows) ≤ 16777216) ⌝ }
-    ensures { λ r. ⌜ (r ≡ emission flags (now (source .entry)) (rowsAt (now (table .entry)) 0 (min rows 1024)) (length (now (out .entry)))) × (now (out .exit) ≡ outputOf flags (now (source .entry)) (rowsAt (now (table .entry)) 0 (min rows 1024)) (now (out .entry))) × (now (table .exit) ≡ putRows (now (table .entry)) 0 (laidOut 16 (rowsAt (now (table .entry)) 0 rows))) ⌝ }
+    ensures result { λ r. ⌜ r ≡ emission flags (now (source .entry)) (emittedRows (now (table .entry)) rows) (length (now (out .entry))) ⌝ }
+    ensures output { λ r. ⌜ now (out .exit) ≡ outputOf flags (now (source .entry)) (emittedRows (now (table .entry)) rows) (now (out .entry)) ⌝ }
+    ensures table { λ r. ⌜ now (table .exit) ≡ putRows (now (table .entry)) 0 (laidOut 16 (rowsAt (now (table .entry)) 0 rows)) ⌝ }
 {
     let written = emit::emit(table, rows, source, flags, out);
     lay_out(table, rows);
@@ -165,7 +167,9 @@ fn rewrite(
     out: &mut [u8],
 ) -> emit::Written
     requires { ⌜ Removes (now file) (now table) k above nodes flags (length (now out)) ⌝ }
-    ensures { λ r. ⌜ (r ≡ done (length (newFile (now (file .entry)) k))) × (now (out .exit) ≡ leftBy 0 (newFile (now (file .entry)) k) (now (out .entry))) × (now (table .exit) ≡ tableAfter (newFile (now (file .entry)) k) (now (table .entry))) ⌝ }
+    ensures result { λ r. ⌜ r ≡ done (length (newFile (now (file .entry)) k)) ⌝ }
+    ensures output { λ r. ⌜ now (out .exit) ≡ leftBy 0 (newFile (now (file .entry)) k) (now (out .entry)) ⌝ }
+    ensures table { λ r. ⌜ now (table .exit) ≡ tableAfter (newFile (now (file .entry)) k) (now (table .entry)) ⌝ }
 {
     take_out(table, nodes, k, above);
     emit_and_place(table, nodes - 1, file, flags, out)
@@ -190,7 +194,10 @@ fn remove(
     out: &mut [u8],
 ) -> emit::Written
     requires { ⌜ Read (now file) (now table) nodes flags ⌝ }
-    ensures { λ r. ⌜ (r ≡ removalOf (limited (now (file .entry)) .rows) k (length (newFile (now (file .entry)) k)) (length (now (out .entry)))) × (now (out .exit) ≡ leftBy (r .number) (newFile (now (file .entry)) k) (now (out .entry))) × (now (table .exit) ≡ leftWithout (r .number) (now (file .entry)) k (now (table .entry))) ⌝ }
+    ensures result { λ r. ⌜ r
+        ≡ removalOf (limited (now (file .entry)) .rows) k (length (newFile (now (file .entry)) k)) (length (now (out .entry))) ⌝ }
+    ensures output { λ r. ⌜ now (out .exit) ≡ leftBy (r .number) (newFile (now (file .entry)) k) (now (out .entry)) ⌝ }
+    ensures table { λ r. ⌜ now (table .exit) ≡ leftWithout (r .number) (now (file .entry)) k (now (table .entry)) ⌝ }
 {
     let n = nodes as usize;
     if n <= k {
@@ -209,7 +216,9 @@ fn remove(
 // Writes a file without the node of a row, whose kind must be unknown. On success the table has the rows of the new file;
 // a refusal but 1 clears it, and each leaves the output.
 pub fn trim(file: &[u8], row: usize, table: &mut [u32], out: &mut [u8]) -> emit::Written
-    ensures { λ r. ⌜ (r ≡ trimmedOf (now (file .entry)) row (now (table .entry)) (length (now (out .entry)))) × (now (out .exit) ≡ trimmedOutput (now (file .entry)) row (now (table .entry)) (now (out .entry))) × (now (table .exit) ≡ trimmedTable (now (file .entry)) row (now (table .entry)) (length (now (out .entry)))) ⌝ }
+    ensures result { λ r. ⌜ r ≡ trimmedOf (now (file .entry)) row (now (table .entry)) (length (now (out .entry))) ⌝ }
+    ensures output { λ r. ⌜ now (out .exit) ≡ trimmedOutput (now (file .entry)) row (now (table .entry)) (now (out .entry)) ⌝ }
+    ensures table { λ r. ⌜ now (table .exit) ≡ trimmedTable (now (file .entry)) row (now (table .entry)) (length (now (out .entry))) ⌝ }
 {
     let reading = reader::read(file, table);
     match reading {

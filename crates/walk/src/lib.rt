@@ -105,7 +105,9 @@ fn walk_node(
     depth: u32,
 ) -> Reached
     requires { ⌜ (at + length (now bytes) ≤ 16777216) × (row ≤ 1024) × (depth ≤ row + 1) ⌝ }
-    ensures { λ r. ⌜ Came r (nodeAt parent above depth at row (now (bytes .entry))) at row (now (bytes .entry)) (now (table .entry)) (now (table .exit)) ⌝ }
+    ensures { λ r. ⌜ Came r
+        (nodeAt parent above depth at row (now (bytes .entry)))
+        at row (now (bytes .entry)) (now (table .entry)) (now (table .exit)) ⌝ }
 {
     let room = bytes.len();
     let h = header_at(bytes);
@@ -166,7 +168,9 @@ fn walk_children(
     count: u32,
 ) -> Reached
     requires { ⌜ (start + length (now bytes) ≤ 16777216) × (row ≤ 1024) × (depth ≤ row + 1) ⌝ }
-    ensures { λ r. ⌜ Came r (childrenAt parent above depth count start row (now (bytes .entry))) start row (now (bytes .entry)) (now (table .entry)) (now (table .exit)) ⌝ }
+    ensures { λ r. ⌜ Came r
+        (childrenAt parent above depth count start row (now (bytes .entry)))
+        start row (now (bytes .entry)) (now (table .entry)) (now (table .exit)) ⌝ }
 {
     let mut at = start;
     let mut rows = row;
@@ -224,7 +228,9 @@ fn is_cast(file: &[u8]) -> bool
 // Walks over a file, and puts a row for each node into the table, as far as it lies in it. A refused file leaves the rows of
 // the nodes whose body's end was found.
 pub fn walk(file: &[u8], table: &mut [u32]) -> Answer
-    ensures { λ r. ⌜ (r ≡ answer (now (file .entry))) × (now (table .exit) ≡ tableAfter (now (file .entry)) (now (table .entry))) × (length (limited (now (file .entry)) .rows) ≤ 1024) ⌝ }
+    ensures result { λ r. ⌜ r ≡ answer (now (file .entry)) ⌝ }
+    ensures table { λ r. ⌜ now (table .exit) ≡ tableAfter (now (file .entry)) (now (table .entry)) ⌝ }
+    ensures bound { λ r. ⌜ length (limited (now (file .entry)) .rows) ≤ 1024 ⌝ }
 {
     if 16777216 < file.len() {
         return refused(2, 0);

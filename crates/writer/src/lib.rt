@@ -16,7 +16,8 @@ fn refused(number: u32, place: u32) -> emit::Written
 
 // Writes the plan's rows, with their bodies out of the source, as a file. A refusal leaves the output.
 pub fn write(plan: &[u32], source: &[u8], flags: u32, out: &mut [u8]) -> emit::Written
-    ensures { λ r. ⌜ (r ≡ writtenOf (now (plan .entry)) (now (source .entry)) flags (length (now (out .entry)))) × (now (out .exit) ≡ outputAfter (now (plan .entry)) (now (source .entry)) flags (now (out .entry))) ⌝ }
+    ensures result { λ r. ⌜ r ≡ writtenOf (now (plan .entry)) (now (source .entry)) flags (length (now (out .entry))) ⌝ }
+    ensures output { λ r. ⌜ now (out .exit) ≡ outputAfter (now (plan .entry)) (now (source .entry)) flags (now (out .entry)) ⌝ }
 {
     if !table::is_plan(plan) {
         return refused(20, 0);

@@ -50,7 +50,7 @@ loop-again c =
     let d = c .before .before .before in
     let l = d .before .before in
     let a = l .before .before .before .args in
-    (omega arith, sym (ap (indexFrom (l .loop .starts) (l .loop .i)) (passed (a .body .now) (l .loop .left) (l .loop .at) (d .before .loop-test .taken) (sym (d .step .ensures) ∙ c .before .next .given .1)) ∙ index-after (l .loop .starts) (l .loop .i) (l .loop .at) (pass (a .body .now) (l .loop .left - 1) (c .before .next .given .0 .1 .0 .at))) ∙ l .loop .inv .1)
+    (omega arith, sym (ap (indexFrom (l .loop .starts) (l .loop .i)) (passed (a .body .now) (l .loop .left) (l .loop .at) (d .before .loop-test .taken) (sym (d .step .ensures .0) ∙ c .before .next .given .1)) ∙ index-after (l .loop .starts) (l .loop .i) (l .loop .at) (pass (a .body .now) (l .loop .left - 1) (c .before .next .given .0 .1 .0 .at))) ∙ l .loop .inv .1)
 
 enum-known-number : tie.Need-enum-known-number Inv-loop μ-loop
 enum-known-number c = search needs
@@ -60,7 +60,7 @@ returns-2 c =
     let d = c .before .before .before in
     let l = d .before .before in
     let a = l .before .before .before .args in
-    (sym (ap (indexFrom (l .loop .starts) (l .loop .i)) (refused (a .body .now) (l .loop .left) (l .loop .at) (d .before .loop-test .taken) (sym (d .step .ensures) ∙ c .before .number .given .1)) ∙ index-stop (l .loop .starts) (l .loop .i) _ (l .loop .at)) ∙ l .loop .inv .1, omega arith)
+    (sym (ap (indexFrom (l .loop .starts) (l .loop .i)) (refused (a .body .now) (l .loop .left) (l .loop .at) (d .before .loop-test .taken) (sym (d .step .ensures .0) ∙ c .before .number .given .1)) ∙ index-stop (l .loop .starts) (l .loop .i) _ (l .loop .at)) ∙ l .loop .inv .1, omega arith)
 
 mul-starts-2 : tie.Need-mul-starts-2 Inv-loop μ-loop
 mul-starts-2 c = search needs

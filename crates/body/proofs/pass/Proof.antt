@@ -36,7 +36,7 @@ loop-again c =
     let d = c .before .before .before in
     let l = d .before .before in
     let a = l .before .before .before .args in
-    ap answerOf (sym (passed (a .body .now) (l .loop .left) (l .loop .at) (d .before .loop-test .taken) (sym (d .step .ensures) ∙ c .before .next .given .1))) ∙ l .loop .inv
+    ap answerOf (sym (passed (a .body .now) (l .loop .left) (l .loop .at) (d .before .loop-test .taken) (sym (d .step .ensures .0) ∙ c .before .next .given .1))) ∙ l .loop .inv
 
 enum-known-number : tie.Need-enum-known-number Inv-loop μ-loop
 enum-known-number c = search needs
@@ -46,7 +46,7 @@ returns-2 c =
     let d = c .before .before .before in
     let l = d .before .before in
     let a = l .before .before .before .args in
-    ap answerOf (sym (refused (a .body .now) (l .loop .left) (l .loop .at) (d .before .loop-test .taken) (sym (d .step .ensures) ∙ c .before .number .given .1))) ∙ l .loop .inv
+    ap answerOf (sym (refused (a .body .now) (l .loop .left) (l .loop .at) (d .before .loop-test .taken) (sym (d .step .ensures .0) ∙ c .before .number .given .1))) ∙ l .loop .inv
 
 returns-3 : tie.Need-returns-3 Inv-loop μ-loop
 returns-3 c =

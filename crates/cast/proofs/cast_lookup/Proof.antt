@@ -25,14 +25,14 @@ returns : tie.Need-returns
 returns c =
     let e = c .before in
     let d = e .before .before in
-    (ap (λ n. foundOf (Refused n)) (c .number .ensures ∙ ap numberOf (e .enum-told .given .1)) ∙ ap foundOf (sym (e .enum-told .given .1) ∙ d .find .ensures .0), omega arith, omega arith)
+    (ap (λ n. foundOf (Refused n)) (c .number .ensures ∙ ap numberOf (e .enum-told .given .1)) ∙ ap foundOf (sym (e .enum-told .given .1) ∙ d .find .ensures .0), (omega arith, omega arith))
 
 returns-2 : tie.Need-returns-2
 returns-2 c =
     let d = c .before .before .before in
     let a = d .before .before .before .before .args in
-    let lies = subst (Within (length (a .bytes .now))) (c .before .found .given .1) (d .find .ensures .1) in
-    (ap foundOf (sym (c .before .found .given .1) ∙ d .find .ensures .0), lies .0, lies .1)
+    let lies = subst (Within (length (a .bytes .now))) (c .before .found .given .1) (d .find .ensures .1 .0) in
+    (ap foundOf (sym (c .before .found .given .1) ∙ d .find .ensures .0), lies)
 
 pub cast-lookup-spec : {M : Type 1} → statement M
 cast-lookup-spec =

@@ -20,7 +20,7 @@ module _ (c : tie.After-reading) where
   answered = c .before .before .before .before
 
   small : Small (Accepted (c .reading .given .0 .0))
-  small = subst Small (c .reading .given .1) (answered .read .ensures .2)
+  small = subst Small (c .reading .given .1) (answered .read .ensures .1 .1 .1)
 
 cast-own-known : tie.Need-cast-own-known
 cast-own-known c = omega (arith, small (c .before .before .before .before .before) .0)
@@ -44,7 +44,7 @@ returns : tie.Need-returns
 returns c =
     let r = c .before .before .before .before .before .before .before .before in
     let e = answered r .read .ensures in
-    (ap answerOf (sym (r .reading .given .1) ∙ e .0), e .1)
+    (ap answerOf (sym (r .reading .given .1) ∙ e .0), e .1 .1 .0)
 
 same-length-2 : tie.Need-same-length-2
 same-length-2 c = search needs
@@ -53,7 +53,7 @@ returns-2 : tie.Need-returns-2
 returns-2 c =
     let r = c .before in
     let e = r .before .before .before .before .read .ensures in
-    (ap answerOf (sym (r .reading2 .given .1) ∙ e .0), e .1)
+    (ap answerOf (sym (r .reading2 .given .1) ∙ e .0), e .1 .1 .0)
 
 pub cast-read-spec : {M : Type 1} → statement M
 cast-read-spec =

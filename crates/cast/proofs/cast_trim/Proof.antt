@@ -20,7 +20,7 @@ same-length-2 c = search needs
 returns : tie.Need-returns
 returns c =
     let t = c .before .before .before .before .before in
-    (c .numbers-of .ensures ∙ ap writtenAs (t .trim .ensures .0), t .trim .ensures .1, t .trim .ensures .2)
+    (c .numbers-of .ensures ∙ ap writtenAs (t .trim .ensures .0), t .trim .ensures .1)
 
 pub cast-trim-spec : {M : Type 1} → statement M
 cast-trim-spec =

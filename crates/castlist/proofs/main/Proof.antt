@@ -27,10 +27,10 @@ list-read-requires : tie.Need-list-read-requires
 list-read-requires c κs = search needs
 
 array-share-prefix-out : tie.Need-array-share-prefix-out
-array-share-prefix-out c = c .list-read .ensures .2
+array-share-prefix-out c = c .list-read .ensures .1 .1
 
 slice-aggregate-write-all-2 : tie.Need-slice-aggregate-write-all-2
-slice-aggregate-write-all-2 c = sym (length-take-le _ _ (c .before .list-read .ensures .2))
+slice-aggregate-write-all-2 c = sym (length-take-le _ _ (c .before .list-read .ensures .1 .1))
 
 write-all-requires-2 : tie.Need-write-all-requires-2
 write-all-requires-2 c κs = search needs

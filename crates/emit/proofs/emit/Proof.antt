@@ -115,7 +115,7 @@ put-nodes-requires c κs =
     let h = c .before .before .before .before in
     let m = measured-at h in
     let same = ap length (head h) ∙ length-sets (out m) 0 (fileHeader (roots (rows m)) (flags m)) in
-    (few (joined m), search needs, is h .3, omega (arith, fits h, same))
+    (few (joined m), (search needs, (is h .3, omega (arith, fits h, same))))
 
 same-length : tie.Need-same-length
 same-length c = search needs

@@ -25,7 +25,7 @@ loop-holds c =
     let s = c .before .before .before .before in
     let a = s .args in
     let all = nodes-all (a .source .now) (a .plan .now) (a .rows) in
-    (omega arith, refl, omega (arith, ap length all, s .pre .3), ap (sets (a .out .now) 16) all)
+    (omega arith, refl, omega (arith, ap length all, s .pre .1 .1 .1), ap (sets (a .out .now) 16) all)
 
 row-at-requires : tie.Need-row-at-requires Inv-loop μ-loop
 row-at-requires c κs = search needs
@@ -60,12 +60,12 @@ mul-put-node : tie.Need-mul-put-node Inv-loop μ-loop
 mul-put-node c = search needs
 
 shared-slice-read-put-node : tie.Need-shared-slice-read-put-node Inv-loop μ-loop
-shared-slice-read-put-node c = omega (arith, here c, start c .pre .0, start c .pre .1)
+shared-slice-read-put-node c = omega (arith, here c, start c .pre .0, start c .pre .1 .0)
 
 put-node-requires : tie.Need-put-node-requires Inv-loop μ-loop
 put-node-requires c κs =
     let l = at-loop c .loop .inv in
-    omega (arith, length-more (source c) (plan c) (rows c) (i c) (here c) (row c .row-at .ensures) (start c .pre .2 (i c) (here c)), l .1, l .2)
+    omega (arith, length-more (source c) (plan c) (rows c) (i c) (here c) (row c .row-at .ensures) (start c .pre .1 .1 .0 (i c) (here c)), l .1, l .2)
 
 add-i : tie.Need-add-i Inv-loop μ-loop
 add-i c = search needs
@@ -78,7 +78,7 @@ loop-again c =
     let p = c .before .before in
     let x = p .before in
     let l = at-loop x .loop in
-    let size = start x .pre .2 (i x) (here x) in
+    let size = start x .pre .1 .1 .0 (i x) (here x) in
     let e = p .put-node .ensures in (
       omega (arith, here x),
       ap length (e .1) ∙ simp length-sets (l .inv .1),

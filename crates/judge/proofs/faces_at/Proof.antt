@@ -43,7 +43,7 @@ module _ (c : tie.After-scan) where
       let r = c .before .before in
       let a = start .args in
       faces-kept (a .body .now) (a .at) (a .vertices) (r .before .before .length-at .ensures) (r .before .if1 .left)
-      (c .before .code-at .ensures) (r .rest-at .ensures) (c .scan .ensures) u
+      (c .before .code-at .ensures) (r .rest-at .ensures) (c .scan .ensures .0) u
 
 enum-told : tie.Need-enum-told
 enum-told c = search needs

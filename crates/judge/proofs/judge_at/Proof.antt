@@ -25,7 +25,7 @@ returns c =
     let v = c .before .before .before .before in
     let a = v .before .before .before .before .args in (
       c .refused .ensures ∙ mistyped (a .kind) (linesFrom (a .lines .now)) (a .body .now) (a .starts .now) (a .bones) (v .typed .ensures .0) (c .before .if1 .taken),
-      refused-bounded _ _ (length (a .body .now)) (v .typed .ensures .2) (c .refused .ensures),
+      refused-bounded _ _ (length (a .body .now)) (v .typed .ensures .1 .1) (c .refused .ensures),
     )
 
 lacks-requires : tie.Need-lacks-requires
@@ -60,9 +60,11 @@ valued-requires c κs =
     let line = lineNumber (linesFrom (a .lines .now)) (a .body .now) in
     let n = length (a .starts .now) in (
       s .pre .0,
-      ap (take n) (v .typed .ensures .1 (e .if1 .left))
-          ∙ first-numbers (replicate 64 0) (map line (a .starts .now)) n (sym (length-map (a .starts .now) line)) (s .pre .0),
-      s .pre .1,
+      (
+        ap (take n) (v .typed .ensures .1 .0 (e .if1 .left))
+            ∙ first-numbers (replicate 64 0) (map line (a .starts .now)) n (sym (length-map (a .starts .now) line)) (s .pre .0),
+        s .pre .1,
+      ),
     )
 
 returns-3 : tie.Need-returns-3

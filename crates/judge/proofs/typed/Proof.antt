@@ -77,8 +77,7 @@ returns c =
     let l = n .before .before .before in (
       refused (l .loop .inv) (omega arith) (n .name-at .ensures) (f .find .ensures) (i .line-in .ensures)
           (i .before .is-before .ensures) (m .misfit .ensures) (c .if1 .taken),
-      λ z. absurd (omega (arith, z)),
-      omega (arith, l .before .before .before .before .pre .2 (l .loop .i)),
+      (λ z. absurd (omega (arith, z)), omega (arith, l .before .before .before .before .pre .2 (l .loop .i))),
     )
 
 mul-keys : tie.Need-mul-keys Inv-loop μ-loop
@@ -117,7 +116,7 @@ same-length-2 c = as-long (c .before .loop .inv)
 returns-2 : tie.Need-returns-2 Inv-loop μ-loop
 returns-2 c =
     let all = all-noted (c .before .loop .inv) (omega arith) in
-    (all .0, λ z. all .1, omega arith)
+    (all .0, (λ z. all .1, omega arith))
 
 pub typed-spec : {M : Type 1} → statement M
 typed-spec =

@@ -55,7 +55,7 @@ shared-slice-read-line-in : tie.Need-shared-slice-read-line-in Inv-loop μ-loop
 shared-slice-read-line-in c =
     let l = c .before .before .before in
     let s = l .before .before .before .before .before in
-    omega (arith, as-many (linesFrom (s .args .lines .now)) (s .args .body .now) (s .args .starts .now) (s .pre .1))
+    omega (arith, as-many (linesFrom (s .args .lines .now)) (s .args .body .now) (s .args .starts .now) (s .pre .1 .0))
 
 line-in-requires : tie.Need-line-in-requires Inv-loop μ-loop
 line-in-requires c κs = search needs
@@ -78,12 +78,12 @@ module _ (c : tie.After-kept-at Inv-loop μ-loop) where
   all = let a = start .args in valuedTo (linesFrom (a .lines .now)) (a .body .now) (besideOf (a .kind) (a .body .now) (a .starts .now) (a .bones)) (a .starts .now)
 
   within : Fits w64 (24 + at)
-  within = omega (arith, start .pre .2 (head .loop .i))
+  within = omega (arith, start .good .1 .1 .0 .1, start .pre .1 .1 (head .loop .i))
 
   line : c .before .line-in .result ≡ ruleAt (linesFrom (start .args .lines .now)) (start .args .body .now) at
   line =
       let a = start .args in
-      line-found (linesFrom (a .lines .now)) (a .body .now) (a .starts .now) (start .pre .1) (head .loop .i) (omega arith) (c .before .line-in .ensures)
+      line-found (linesFrom (a .lines .now)) (a .body .now) (a .starts .now) (start .pre .1 .0) (head .loop .i) (omega arith) (c .before .line-in .ensures)
 
   wrong : {q : Fault} → c .kept-at .result .fault ≡ q → ((v : Verdict) → byFault q at v ≡ refuse 15 (24 + at)) → refusedWith 15 (24 + at) ≡ all
   wrong r w =
@@ -95,7 +95,7 @@ module _ (c : tie.After-kept-at Inv-loop μ-loop) where
 
   refuses : {q : Fault} → c .kept-at .result .fault ≡ q → ((v : Verdict) → byFault q at v ≡ refuse 15 (24 + at)) → {r : Judged} → r ≡ refusedWith 15 (24 + at)
       → (r ≡ all) × Bounded r (length (start .args .body .now))
-  refuses h w e = (e ∙ wrong h w, refused-bounded 15 (24 + at) (length (start .args .body .now)) (omega (arith, start .pre .2 (head .loop .i))) e)
+  refuses h w e = (e ∙ wrong h w, refused-bounded 15 (24 + at) (length (start .args .body .now)) (omega (arith, start .pre .1 .1 (head .loop .i))) e)
 
 enum-told : tie.Need-enum-told Inv-loop μ-loop
 enum-told c = search needs

@@ -50,10 +50,10 @@ module _ (c : tie.After-put-lines) where
   start = bodied .before .before .before .before .before .before .before .before
 
   lines-fit : c .put-lines .result ≤ length (c .put-lines .last .1 .0)
-  lines-fit = let p = c .put-lines .ensures in lines-room (linesOf (start .args .row .kind)) (replicate 14 (replicate 12 0)) (p .2) (p .0) (p .1)
+  lines-fit = let p = c .put-lines .ensures in lines-room (linesOf (start .args .row .kind)) (replicate 14 (replicate 12 0)) (p .1 .1) (p .0) (p .1 .0)
 
   lines-are : linesFrom (take (c .put-lines .result) (c .put-lines .last .1 .0)) ≡ linesOf (start .args .row .kind)
-  lines-are = let p = c .put-lines .ensures in lines-taken (linesOf (start .args .row .kind)) (replicate 14 (replicate 12 0)) (p .2) (p .0) (p .1)
+  lines-are = let p = c .put-lines .ensures in lines-taken (linesOf (start .args .row .kind)) (replicate 14 (replicate 12 0)) (p .1 .1) (p .0) (p .1 .0)
 
 array-share-prefix-lines : tie.Need-array-share-prefix-lines
 array-share-prefix-lines c = lines-fit (c .before)
@@ -77,9 +77,7 @@ node-links-requires c κs =
     let room : s .args .row .start + length (b .body-of .result .now) < 2 ^ 64
     = omega (arith, s .good .0 .1, p .before .before .struct-known .given, size) in (
       s .pre .0,
-      index-within _ _ i,
-      room,
-      omega (arith, index-few _ _ i, s .pre .1),
+      (index-within _ _ i, (room, omega (arith, index-few _ _ i, s .pre .1))),
     )
 
 returns-2 : tie.Need-returns-2

@@ -66,7 +66,7 @@ module _ (c : tie.After-read) where
   told e = sym (in-room input table room) ∙ sym (c .read .ensures .0) ∙ e
 
 accepted-requires : tie.Need-accepted-requires
-accepted-requires c κs = subst Small (c .before .before .before .reading .given .1) (c .before .before .before .before .before .before .read .ensures .2)
+accepted-requires c κs = subst Small (c .before .before .before .reading .given .1) (c .before .before .before .before .before .before .read .ensures .1 .1 .1)
 
 enum-known-reading-2 : tie.Need-enum-known-reading-2
 enum-known-reading-2 c = search needs
@@ -83,7 +83,7 @@ returns-2 c =
     let given = c .before .before .before .before .before .before .reading .given in
     let a = given .0 .0 in
     let e = told r (given .1) in
-    let rows = ap (λ t. rowsAt t 0 (a .nodes)) (r .read .ensures .1) ∙ table-rows (input r) e (bytes r) (table r) (room r) in
+    let rows = ap (λ t. rowsAt t 0 (a .nodes)) (r .read .ensures .1 .1 .0) ∙ table-rows (input r) e (bytes r) (table r) (room r) in
     rw (listing-accepted (input r) (short r) a e) (rw rows at (c .before .before .accepted .ensures))
 
 same-length-3 : tie.Need-same-length-3

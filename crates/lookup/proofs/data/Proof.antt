@@ -11,7 +11,7 @@ lies : (c : tie.After-known-told) → (c .before .start .given .0 .0 ≤ c .befo
 lies c =
     let d = c .before .before .before in
     let a = d .before .before .before .before .args in
-    subst (Within (length (a .bytes .now))) (c .before .start .given .1) (d .find .ensures .1)
+    subst (Within (length (a .bytes .now))) (c .before .start .given .1) (d .find .ensures .1 .0)
 
 find-requires : tie.Need-find-requires
 find-requires c κs = search needs

@@ -11,7 +11,7 @@ use Rattle.props.proofs.header_refusal.Tie as tie
 
 -- what was found of the type
 type : (c : tie.After-no-such) {b : Bool} → c .no-such .result ≡ b → noSuch (sizeOf (c .before .before .before .args .code)) ≡ b
-type c e = ap noSuch (sym (c .before .size-of .ensures)) ∙ sym (c .no-such .ensures) ∙ e
+type c e = ap noSuch (sym (c .before .size-of .ensures .0)) ∙ sym (c .no-such .ensures) ∙ e
 
 returns : tie.Need-returns
 returns c = let a = c .before .args in no-header (a .code) (a .size) (a .room) (c .if1 .taken)

@@ -11,14 +11,19 @@ use Rattle.le.specs.Le.{AreBytes}
 use Rattle.table.specs.declared.Row.{Row}
 use Rattle.table.specs.Table.{rowsAt, putRows, hasRoom, cleared}
 use Rattle.walk.specs.Walk.{limited, flagsOf}
+use Rattle.reader.specs.declared.Reading.{Reading}
 use Rattle.reader.specs.declared.Reading.the-variants.{Refused}
-use Rattle.reader.specs.Reading.{checked}
+use Rattle.reader.specs.Reading.{checked, numbersOf}
 use Rattle.reader.specs.Contract.{RowsOk, Small}
 use Rattle.reader.proofs.Exactly.{short}
 use Rattle.reader.proofs.Sizes.{small}
 use Rattle.reader.proofs.Whole.{put-rows, put-ok, walked-ok, short-table, walk-refused, walk-accepted, refused-read, checked-read}
 use Rattle.reader.proofs.read.Statement.{statement}
 use Rattle.reader.proofs.read.Tie as tie
+
+-- the clauses of the promise, by its result and its table
+ends : {r s : Reading} {t t′ : List ℕ} → r ≡ s → t ≡ t′ → Small r → (r ≡ s) × ((numbersOf r ≡ numbersOf s) × ((t ≡ t′) × Small r))
+ends e t s = (e, (ap numbersOf e, (t, s)))
 
 has-room-requires : tie.Need-has-room-requires
 has-room-requires c κs = search needs
@@ -30,7 +35,7 @@ returns : tie.Need-returns
 returns c =
     let a = c .before .before .before .before .before .args in
     let left = short-table (a .file .now) (a .table .now) (sym (c .before .has-room .ensures) ∙ not-true _ (c .if1 .taken)) in
-    (left .0, left .1, tt)
+    ends (left .0) (left .1) tt
 
 clear-requires : tie.Need-clear-requires
 clear-requires c κs = search needs
@@ -65,10 +70,10 @@ module _ (c : tie.After-walk) where
   room = sym (entered .has-room .ensures) ∙ not-false _ (cleared-at .before .before .if1 .left)
 
   few : length rows ≤ 1024
-  few = c .walk .ensures .2
+  few = c .walk .ensures .1 .1
 
   put : c .walk .last .1 .0 ≡ putRows (cleared table) 0 rows
-  put = c .walk .ensures .1 ∙ ap (λ u. putRows u 0 rows) (cleared-at .clear .ensures)
+  put = c .walk .ensures .1 .0 ∙ ap (λ u. putRows u 0 rows) (cleared-at .clear .ensures)
 
   -- where the walk refuses nothing
   module _ (e : c .walk .result .number ≡ 0) where
@@ -97,7 +102,7 @@ returns-2 c =
     let no = c .before .before .before .before .if2 .taken in
     let is = walk-refused (file w) (table w) (w .walk .ensures .0) no in
     let read = refused-read (file w) (table w) (room w) (few w) (λ e. no (is .0 ∙ e)) (put w) in
-    (x .0 ∙ ap (λ n. Refused n (w .walk .result .place)) (is .0) ∙ ap (Refused (limited (file w) .number)) (is .1) ∙ read .0, x .1 ∙ read .1, subst Small (sym (x .0)) tt)
+    ends (x .0 ∙ ap (λ n. Refused n (w .walk .result .place)) (is .0) ∙ ap (Refused (limited (file w) .number)) (is .1) ∙ read .0) (x .1 ∙ read .1) (subst Small (sym (x .0)) tt)
 
 checked-requires : tie.Need-checked-requires
 checked-requires c κs =
@@ -116,7 +121,7 @@ returns-3 c =
     let e = k .before .before .if2 .left in
     let x = k .checked .ensures in
     let read = checked-read (file w) (table w) (room w) (few w) (walked w e .0) (x .0 ∙ ap (checked (file w)) (rows-there w e)) (put w) in
-    (read .0, x .1 ∙ read .1, small (file w) (bytes w) (k .checked .result) (read .2))
+    ends (read .0) (x .1 ∙ read .1) (small (file w) (bytes w) (k .checked .result) (read .2))
 
 pub read-spec : {M : Type 1} → statement M
 read-spec =

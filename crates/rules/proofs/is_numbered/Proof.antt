@@ -32,7 +32,7 @@ answers : (c : tie.After-numbered) →
     c .numbered .result ≡ numberIn (a .name .now) (nameOf (a .l))
 answers c =
     let n = c .before .before .before in
-    c .numbered .ensures ∙ ap (numberIn (n .before .before .args .name .now)) (taken _ _ _ _ (n .name-of .ensures))
+    c .numbered .ensures .0 ∙ ap (numberIn (n .before .before .args .name .now)) (taken _ _ _ _ (n .name-of .ensures))
 
 returns : tie.Need-returns
 returns c = ap isNumber (sym (c .enum-told .given .1) ∙ answers (c .before .before))

@@ -7,6 +7,7 @@ use lib.ListN.{length, take, drop, length-drop}
 use lib.Seq.{sets, length-sets}
 use borrow.Author.Needs.{needs}
 use Rattle.le.specs.Le.{val, numberAt}
+use Rattle.le.proofs.Answers.{clauses}
 use Rattle.le.proofs.Stores.{sets-more}
 use Rattle.rules.specs.Table.{letters, lines, free, rowOf}
 use Rattle.rules.proofs.Together.{many, put-none, put-short, put-all, row-at}
@@ -23,13 +24,13 @@ span-of-requires : tie.Need-span-of-requires Inv-loop μ-loop
 span-of-requires c κs = search needs
 
 returns : tie.Need-returns Inv-loop μ-loop
-returns c = put-none _ (c .before .span-of .ensures) _ (c .if1 .taken)
+returns c = clauses (put-none _ (c .before .span-of .ensures) _ (c .if1 .taken))
 
 sub-count : tie.Need-sub-count Inv-loop μ-loop
 sub-count c = omega arith
 
 returns-2 : tie.Need-returns-2 Inv-loop μ-loop
-returns-2 c = put-short _ (c .before .before .span-of .ensures) _ (c .if2 .taken)
+returns-2 c = clauses (put-short _ (c .before .before .span-of .ensures) _ (c .if2 .taken))
 
 loop-holds : tie.Need-loop-holds Inv-loop μ-loop
 loop-holds c = (omega arith, refl)
@@ -92,8 +93,9 @@ returns-3 c =
     let s = l .before .before .before in
     let from = s .span-of .result .from in
     let done : l .loop .i ≡ s .span-of .result .to - from = omega (arith, l .loop .inv .0, c .loop-test .left) in
-    put-all _ (s .span-of .ensures) _ (omega (arith, l .before .if2 .left))
-    (l .loop .inv .1 ∙ ap (λ n. sets (s .before .args .rows .now) 0 (map rowOf (take n (drop from lines)))) done)
+    clauses
+    (put-all _ (s .span-of .ensures) _ (omega (arith, l .before .if2 .left))
+    (l .loop .inv .1 ∙ ap (λ n. sets (s .before .args .rows .now) 0 (map rowOf (take n (drop from lines)))) done))
 
 pub put-lines-spec : {M : Type 1} → statement M
 put-lines-spec =

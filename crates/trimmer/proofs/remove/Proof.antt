@@ -128,7 +128,7 @@ returns-4 c =
     let l = i .before .length-without .ensures in
     let o = i .before .before in
     let s = start (told o) in
-    ends-done (s .args .file .now) (s .args .k) (s .args .table .now) (s .args .out .now) (there (told o)) (unknown o) (omega (arith, shorter o, l, i .if3 .left)) (w .rewrite .ensures .0) (w .rewrite .ensures .1) (w .rewrite .ensures .2)
+    ends-done (s .args .file .now) (s .args .k) (s .args .table .now) (s .args .out .now) (there (told o)) (unknown o) (omega (arith, shorter o, l, i .if3 .left)) (w .rewrite .ensures .0) (w .rewrite .ensures .1 .0) (w .rewrite .ensures .1 .1)
 
 pub remove-spec : {M : Type 1} → statement M
 remove-spec =

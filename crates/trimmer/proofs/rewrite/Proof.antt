@@ -43,7 +43,7 @@ returns c =
     let b = bytes-of (t .before .before) in
     let q = t .take-out .ensures in
     let w = e .emit-and-place .ensures in
-    (emitted b (s .pre) _ q _ (w .0), put b (s .pre) _ q _ _ refl (w .1), w .2 ∙ laid b (s .pre) _ q)
+    (emitted b (s .pre) _ q _ (w .0), (put b (s .pre) _ q _ _ refl (w .1 .0), w .1 .1 ∙ laid b (s .pre) _ q))
 
 pub rewrite-spec : {M : Type 1} → statement M
 rewrite-spec =

@@ -24,7 +24,7 @@ remove-requires c κs =
     let r = c .before .before .before .before .before .before .before in
     let s = r .before .before .before .before .before in
     let a = s .args in
-    subst (λ u. Read (a .file .now) u (g .0 .0 .nodes) (g .0 .0 .flags)) (sym (r .read .ensures .1))
+    subst (λ u. Read (a .file .now) u (g .0 .0 .nodes) (g .0 .0 .flags)) (sym (r .read .ensures .1 .1 .0))
     (is-read (a .file .now) (a .table .now) (bytes-of (r .before .before)) (g .0 .0) (sym (r .read .ensures .0) ∙ g .1))
 
 enum-known-reading-2 : tie.Need-enum-known-reading-2
@@ -43,7 +43,7 @@ returns c =
     let r = m .before .before .before .before .before .before .before .before in
     let s = r .before .before .before .before .before in
     let a = s .args in
-    trimmed (a .file .now) (a .table .now) (bytes-of (r .before .before)) (g .0 .0) (sym (r .read .ensures .0) ∙ g .1) (a .row) (a .out .now) _ (r .read .ensures .1) _ _ _ (m .remove .ensures)
+    trimmed (a .file .now) (a .table .now) (bytes-of (r .before .before)) (g .0 .0) (sym (r .read .ensures .0) ∙ g .1) (a .row) (a .out .now) _ (r .read .ensures .1 .1 .0) _ _ _ (m .remove .ensures)
 
 same-length-3 : tie.Need-same-length-3
 same-length-3 c = search needs
@@ -54,7 +54,7 @@ returns-2 c =
     let r = c .before .before .before .before .before in
     let s = r .before .before .before .before .before in
     let a = s .args in
-    trimmed-refused (a .file .now) (a .table .now) (g .0 .0) (g .0 .1 .0) (a .row) (a .out .now) _ (sym (r .read .ensures .0) ∙ g .1) (r .read .ensures .1)
+    trimmed-refused (a .file .now) (a .table .now) (g .0 .0) (g .0 .1 .0) (a .row) (a .out .now) _ (sym (r .read .ensures .0) ∙ g .1) (r .read .ensures .1 .1 .0)
 
 pub trim-spec : {M : Type 1} → statement M
 trim-spec =

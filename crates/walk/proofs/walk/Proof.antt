@@ -1,6 +1,7 @@
 -- `walk::walk`: the file's header, and then its nodes.
 use mathlib.Core.Path.{sym, _∙_}
 use borrow.Author.Tests.{not-true, not-false}
+use Rattle.le.proofs.Answers.{clauses}
 use Rattle.walk.proofs.Whole.{header-there, too-long, no-cast, no-version, nodes-refused, nodes-done}
 use borrow.Author.Needs.{needs}
 use Rattle.walk.proofs.walk.Statement.{statement}
@@ -10,7 +11,7 @@ refused-requires : tie.Need-refused-requires
 refused-requires c κs = search needs
 
 returns : tie.Need-returns
-returns c = too-long _ _ (c .before .if1 .taken) (c .refused .ensures)
+returns c = clauses (too-long _ _ (c .before .if1 .taken) (c .refused .ensures))
 
 is-cast-requires : tie.Need-is-cast-requires
 is-cast-requires c κs = search needs
@@ -21,7 +22,7 @@ refused-requires-2 c κs = search needs
 returns-2 : tie.Need-returns-2
 returns-2 c =
     let k = c .before .before in
-    no-cast _ _ (k .before .if1 .left) (sym (k .is-cast .ensures) ∙ not-true _ (c .before .if2 .taken)) (c .refused2 .ensures)
+    clauses (no-cast _ _ (k .before .if1 .left) (sym (k .is-cast .ensures) ∙ not-true _ (c .before .if2 .taken)) (c .refused2 .ensures))
 
 u32-at-requires : tie.Need-u32-at-requires
 u32-at-requires c κs = search needs
@@ -34,8 +35,9 @@ returns-3 c =
     let v = c .before .before in
     let two = v .before in
     let k = two .before in
-    no-version _ _ (k .before .if1 .left) (sym (k .is-cast .ensures) ∙ not-false _ (two .if2 .left))
-    (λ e. c .before .if3 .taken (v .u32-at .ensures ∙ e)) (c .refused3 .ensures)
+    clauses
+    (no-version _ _ (k .before .if1 .left) (sym (k .is-cast .ensures) ∙ not-false _ (two .if2 .left))
+    (λ e. c .before .if3 .taken (v .u32-at .ensures ∙ e)) (c .refused3 .ensures))
 
 u32-at-requires-2 : tie.Need-u32-at-requires-2
 u32-at-requires-2 c κs = search needs
@@ -78,8 +80,9 @@ returns-4 c =
     let v = three .before in
     let two = v .before in
     let k = two .before in
-    nodes-refused _ _ (k .before .if1 .left) (sym (k .is-cast .ensures) ∙ not-false _ (two .if2 .left)) (sym (v .u32-at .ensures) ∙ three .if3 .left)
-    (r .u32-at2 .ensures) (w .walk-children .ensures) (c .before .before .if4 .taken) (c .refused4 .ensures)
+    clauses
+    (nodes-refused _ _ (k .before .if1 .left) (sym (k .is-cast .ensures) ∙ not-false _ (two .if2 .left)) (sym (v .u32-at .ensures) ∙ three .if3 .left)
+    (r .u32-at2 .ensures) (w .walk-children .ensures) (c .before .before .if4 .taken) (c .refused4 .ensures))
 
 cast-nodes : tie.Need-cast-nodes
 cast-nodes c = search needs
@@ -96,8 +99,9 @@ returns-5 c =
     let v = three .before in
     let two = v .before in
     let k = two .before in
-    nodes-done _ _ (k .before .if1 .left) (sym (k .is-cast .ensures) ∙ not-false _ (two .if2 .left)) (sym (v .u32-at .ensures) ∙ three .if3 .left)
-    (r .u32-at2 .ensures) (w .walk-children .ensures) (c .before .if4 .left) (f .u32-at3 .ensures)
+    clauses
+    (nodes-done _ _ (k .before .if1 .left) (sym (k .is-cast .ensures) ∙ not-false _ (two .if2 .left)) (sym (v .u32-at .ensures) ∙ three .if3 .left)
+    (r .u32-at2 .ensures) (w .walk-children .ensures) (c .before .if4 .left) (f .u32-at3 .ensures))
 
 pub walk-spec : {M : Type 1} → statement M
 walk-spec =

@@ -8,7 +8,8 @@ use borrow.Author.Tests.{not-true, not-false}
 use Rattle.le.proofs.Laws.{rest, rest-drop}
 use Rattle.names.specs.Names.{bytesOk}
 use Rattle.props.specs.Types.{sizeOf}
-use Rattle.props.specs.Step.{headerRefusal, dataOf, past, stepAt}
+use Rattle.props.specs.Step.{headerRefusal, dataOf, past, stepAt, stepNumbers}
+use Rattle.le.proofs.Answers.{told}
 use Rattle.props.proofs.Cases.{Within, name-fits, data-within, past-end, header-refused, name-refused, by-data}
 use borrow.Author.Needs.{needs}
 use Rattle.props.proofs.Cursor.step.Statement.{statement}
@@ -48,7 +49,7 @@ finish d =
     ap (λ n. past (a .self .at) (a .self .at + (8 + n)) (d .data-of .result)) (w .wide .ensures .0)
     ∙ by-data (a .body .now) (a .self .at) (b .before .u16-at .ensures) (b .u16-at2 .ensures) (right w) (named (f .before) (not-false _ (f .if3 .left))) (d .before .before .before .u32-at .ensures)
     (d .data-of .ensures
-    ∙ ap (λ z. dataOf z len (rest header (8 + w .wide .result))) (d .before .before .size-of .ensures)
+    ∙ ap (λ z. dataOf z len (rest header (8 + w .wide .result))) (d .before .before .size-of .ensures .0)
     ∙ ap (dataOf (sizeOf (b .before .u16-at .result)) len) (rest-drop header (8 + w .wide .result))
     ∙ ap (λ n. dataOf (sizeOf (b .before .u16-at .result)) len (drop (8 + n) header)) (w .wide .ensures .0))
 
@@ -62,7 +63,7 @@ taken c =
     (data-within (d .before .before .size-of .result) (d .before .before .before .u32-at .result) _)
 
 returns : tie.Need-returns
-returns c = let a = c .before .before .args in past-end (a .body .now) (a .self .at) (c .if1 .taken)
+returns c = let a = c .before .before .args in told stepNumbers (past-end (a .body .now) (a .self .at) (c .if1 .taken))
 
 sub-header : tie.Need-sub-header
 sub-header c = search needs
@@ -86,7 +87,7 @@ returns-2 : tie.Need-returns-2
 returns-2 c =
     let b = c .before .before in
     let a = b .before .before .before .before .before .args in
-    header-refused (a .body .now) (a .self .at) (b .before .u16-at .ensures) (b .u16-at2 .ensures) (c .before .header-refusal .ensures) (c .if2 .taken)
+    told stepNumbers (header-refused (a .body .now) (a .self .at) (b .before .u16-at .ensures) (b .u16-at2 .ensures) (c .before .header-refusal .ensures) (c .if2 .taken))
 
 wide-requires : tie.Need-wide-requires
 wide-requires c κs = search needs
@@ -111,7 +112,7 @@ returns-3 c =
     let w = c .before .before .before in
     let b = w .before .before .before in
     let a = b .before .before .before .before .before .args in
-    name-refused (a .body .now) (a .self .at) (b .before .u16-at .ensures) (b .u16-at2 .ensures) (right w) (named (c .before) (not-true _ (c .if3 .taken)))
+    told stepNumbers (name-refused (a .body .now) (a .self .at) (b .before .u16-at .ensures) (b .u16-at2 .ensures) (right w) (named (c .before) (not-true _ (c .if3 .taken))))
 
 u32-at-requires : tie.Need-u32-at-requires
 u32-at-requires c κs = search needs
@@ -147,10 +148,10 @@ enum-known-number : tie.Need-enum-known-number
 enum-known-number c = search needs
 
 returns-4 : tie.Need-returns-4
-returns-4 c = let d = c .before .before .before in ap (past _ _) (sym (c .before .n .given .1)) ∙ finish d
+returns-4 c = let d = c .before .before .before in told stepNumbers (ap (past _ _) (sym (c .before .n .given .1)) ∙ finish d)
 
 returns-5 : tie.Need-returns-5
-returns-5 c = let d = c .before .before .before in ap (past _ _) (sym (c .before .number .given .1)) ∙ finish d
+returns-5 c = let d = c .before .before .before in told stepNumbers (ap (past _ _) (sym (c .before .number .given .1)) ∙ finish d)
 
 pub step-spec : {M : Type 1} → statement M
 step-spec =
