@@ -1,11 +1,16 @@
 // What a lent buffer holds at first, and the checksum of what it holds at last.
 
+// The numbers of which the first are lent as a table.
+pub fn space(seed: u32) -> [u32; 8300] {
+    [seed; 8300]
+}
+
 // Bytes that go up by 37 from the seed on, modulo 256.
 pub fn fill(out: &mut [u8], seed: u32) {
     let mut v = seed % 256;
     let mut i = 0;
     while i < out.len() {
-        out[i] = (v % 256) as u8;
+        out[i] = v as u8;
         v = (v + 37) % 256;
         i += 1;
     }
@@ -23,7 +28,7 @@ pub fn numbers(out: &mut [u32], bytes: &[u8]) {
 // A checksum begins with 2166136261, and takes each number in turn: times 16777619 plus the number, modulo 2^32.
 const EMPTY: u64 = 2166136261;
 
-fn with(sum: u64, number: u64) -> u64 {
+fn taking(sum: u64, number: u64) -> u64 {
     (sum % 4294967296 * 16777619 + number % 4294967296) % 4294967296
 }
 
@@ -31,7 +36,7 @@ pub fn checksum(bytes: &[u8]) -> u64 {
     let mut sum = EMPTY;
     let mut i: usize = 0;
     while i < bytes.len() {
-        sum = with(sum, bytes[i] as u64);
+        sum = taking(sum, bytes[i] as u64);
         i += 1;
     }
     sum
@@ -41,7 +46,7 @@ pub fn numbers_checksum(numbers: &[u32]) -> u64 {
     let mut sum = EMPTY;
     let mut i: usize = 0;
     while i < numbers.len() {
-        sum = with(sum, numbers[i] as u64);
+        sum = taking(sum, numbers[i] as u64);
         i += 1;
     }
     sum
@@ -51,7 +56,7 @@ pub fn places_checksum(places: &[usize]) -> u64 {
     let mut sum = EMPTY;
     let mut i: usize = 0;
     while i < places.len() {
-        sum = with(sum, places[i] as u64);
+        sum = taking(sum, places[i] as u64);
         i += 1;
     }
     sum

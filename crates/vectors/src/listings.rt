@@ -1,19 +1,15 @@
 // The listing of an input, and single lines of it, in a lent output.
+use crate::answer::Answer;
 use crate::frame::Frame;
-use crate::print;
 use crate::rows;
 
 // 32, the listing of the first block; 33, the line that x says, its numbers in the first block, 8 bytes each, and a row's in
 // the second.
-pub fn one(f: Frame, out: &mut [u8], first: &[u8], second: &[u8]) {
-    print::next(answer(f, out, first, second) as u64);
-}
-
-fn answer(f: Frame, out: &mut [u8], first: &[u8], second: &[u8]) -> usize {
+pub fn run(f: Frame, out: &mut [u8], first: &[u8], second: &[u8]) -> Answer {
     if f.function == 32 {
-        return listing::list(first, out);
+        return Answer::one(listing::list(first, out) as u64);
     }
-    listing::put(out, line(f.x, first, second))
+    Answer::one(listing::put(out, line(f.x, first, second)) as u64)
 }
 
 fn line(which: u64, block: &[u8], fields: &[u8]) -> listing::Line {
