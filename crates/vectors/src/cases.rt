@@ -6,8 +6,13 @@ use crate::leaves;
 use crate::outputs;
 use crate::parts;
 use crate::rows;
+ghost use mathlib.Core.Path.{_≡_};
+ghost use Rattle.vectors.specs.Answers.{answered};
+ghost use Rattle.vectors.specs.Cases.{lineOf};
 
-pub fn run(f: Frame, first: &[u8], second: &[u8]) -> Answer {
+pub fn run(f: Frame, first: &[u8], second: &[u8]) -> Answer
+    ensures { λ r. ⌜ r ≡ answered (lineOf f (now (first .entry)) (now (second .entry))) ⌝ }
+{
     if f.function < 10 {
         return leaves::run(f, first);
     }

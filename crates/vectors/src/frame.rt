@@ -8,6 +8,7 @@
 //  24  u64  y (a buffer's length, a number)
 ghost use mathlib.Core.Path.{_≡_};
 ghost use Prim.Native.Nat.{_+_};
+ghost use Rattle.vectors.specs.Frames.{frameOf};
 
 pub struct Frame {
     pub function: u32,
@@ -18,7 +19,9 @@ pub struct Frame {
     pub y: u64,
 }
 
-pub fn parse(header: &[u8]) -> Frame {
+pub fn parse(header: &[u8]) -> Frame
+    ensures { λ r. ⌜ r ≡ frameOf (now (header .entry)) ⌝ }
+{
     Frame {
         function: le::u32_at(header, 0),
         first: le::u32_at(header, 4),

@@ -2,10 +2,18 @@
 use crate::answer::Answer;
 use crate::buffers;
 use crate::frame::Frame;
+ghost use mathlib.Core.Path.{_≡_};
+ghost use mathlib.Core.List.{[], _∷_};
+ghost use lib.ListN.{length};
+ghost use Rattle.vectors.specs.Answers.{answered};
+ghost use Rattle.vectors.specs.Buffers.{filling, checksum};
+ghost use Rattle.vectors.specs.Leaves.{stored, writtenLine, leafLine};
 
 // 1 to 6: numbers of 2, 4 and 8 bytes, read from the first block at x; y's lowest bytes written at x into a buffer as
 // long as the first block, filled from the seed. 7: the number of y bytes at x.
-pub fn run(f: Frame, bytes: &[u8]) -> Answer {
+pub fn run(f: Frame, bytes: &[u8]) -> Answer
+    ensures { λ r. ⌜ r ≡ answered (leafLine (f .function) f (now (bytes .entry))) ⌝ }
+{
     let at = f.x as usize;
     let function = f.function;
     match function {
@@ -17,7 +25,9 @@ pub fn run(f: Frame, bytes: &[u8]) -> Answer {
     }
 }
 
-fn written(f: Frame, len: usize) -> Answer {
+fn written(f: Frame, len: usize) -> Answer
+    ensures { λ r. ⌜ r ≡ answered (writtenLine f len) ⌝ }
+{
     let mut space = io::buffer();
     if 4096 < len {
         return Answer::none();
@@ -25,13 +35,17 @@ fn written(f: Frame, len: usize) -> Answer {
     lent(f, &mut space[..len])
 }
 
-fn lent(f: Frame, out: &mut [u8]) -> Answer {
+fn lent(f: Frame, out: &mut [u8]) -> Answer
+    ensures { λ r. ⌜ r ≡ answered (checksum (stored (f .function) (f .x) (f .y) (filling (f .seed) (length (now (out .entry))))) ∷ []) ⌝ }
+{
     buffers::fill(out, f.seed);
     store(f.function, f.x as usize, f.y, out);
     Answer::one(buffers::checksum(out))
 }
 
-fn store(function: u32, at: usize, y: u64, out: &mut [u8]) {
+fn store(function: u32, at: usize, y: u64, out: &mut [u8])
+    ensures { λ _. ⌜ now (out .exit) ≡ stored function at y (now (out .entry)) ⌝ }
+{
     if function == 4 {
         le::put_u16(out, at, (y % 65536) as u16);
         return;

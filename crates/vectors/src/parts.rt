@@ -2,10 +2,19 @@
 use crate::answer::Answer;
 use crate::buffers;
 use crate::frame::Frame;
+ghost use mathlib.Core.Path.{_≡_};
+ghost use Rattle.props.specs.Types.{sizeOf};
+ghost use Rattle.props.specs.Step.{stepAt};
+ghost use Rattle.names.specs.Names.{numbered};
+ghost use Rattle.body.specs.Body.{properties};
+ghost use Rattle.vectors.specs.Answers.{answered};
+ghost use Rattle.vectors.specs.Parts.{sizeNumbers, nameLine, numeralNumbers, parentOf, stepNumbers, indexNumbers, partLine};
 
 // 10 a type's element size, 11 to 13 names, 14 and 15 kinds, 16 to 18 properties. Names and bodies are blocks; codes,
 // kinds and places are x and y.
-pub fn run(f: Frame, first: &[u8], second: &[u8]) -> Answer {
+pub fn run(f: Frame, first: &[u8], second: &[u8]) -> Answer
+    ensures { λ r. ⌜ r ≡ answered (partLine (f .function) f (now (first .entry)) (now (second .entry))) ⌝ }
+{
     let x = f.x;
     let low = (x % 4294967296) as u32;
     let count = (f.y % 4294967296) as u32;
@@ -24,7 +33,9 @@ pub fn run(f: Frame, first: &[u8], second: &[u8]) -> Answer {
 }
 
 // A parent is one more than its kind, and none is 0.
-fn above(parent: u64) -> kinds::Parent {
+fn above(parent: u64) -> kinds::Parent
+    ensures { λ r. ⌜ r ≡ parentOf parent ⌝ }
+{
     if parent == 0 {
         return kinds::Parent::None;
     }
@@ -32,7 +43,9 @@ fn above(parent: u64) -> kinds::Parent {
     kinds::Parent::Kind(kind)
 }
 
-fn element(code: u16) -> Answer {
+fn element(code: u16) -> Answer
+    ensures { λ r. ⌜ r ≡ answered (sizeNumbers (sizeOf code)) ⌝ }
+{
     match props::size_of(code) {
         props::Size::Bytes(n) => Answer::two(1, n as u64),
         props::Size::Text => Answer::two(2, 0),
@@ -40,7 +53,9 @@ fn element(code: u16) -> Answer {
     }
 }
 
-fn name(bytes: &[u8]) -> Answer {
+fn name(bytes: &[u8]) -> Answer
+    ensures { λ r. ⌜ r ≡ answered (nameLine (now (bytes .entry))) ⌝ }
+{
     if 65535 < bytes.len() {
         return Answer::none();
     }
@@ -48,14 +63,18 @@ fn name(bytes: &[u8]) -> Answer {
     Answer::truth(names::size_ok(size) & names::bytes_ok(bytes))
 }
 
-fn numbered(name: &[u8], prefix: &[u8]) -> Answer {
+fn numbered(name: &[u8], prefix: &[u8]) -> Answer
+    ensures { λ r. ⌜ r ≡ answered (numeralNumbers (numbered (now (name .entry)) (now (prefix .entry)))) ⌝ }
+{
     match names::numbered(name, prefix) {
         names::Numeral::Is(n) => Answer::two(1, n as u64),
         names::Numeral::Not => Answer::two(0, 0),
     }
 }
 
-fn step(body: &[u8], at: usize) -> Answer {
+fn step(body: &[u8], at: usize) -> Answer
+    ensures { λ r. ⌜ r ≡ answered (stepNumbers (stepAt (now (body .entry)) at)) ⌝ }
+{
     let cursor = props::Cursor { at };
     match cursor.step(body) {
         props::Step::Past { property, next } => {
@@ -68,7 +87,9 @@ fn step(body: &[u8], at: usize) -> Answer {
     }
 }
 
-fn index(body: &[u8], count: u32) -> Answer {
+fn index(body: &[u8], count: u32) -> Answer
+    ensures { λ r. ⌜ r ≡ answered (indexNumbers (properties (now (body .entry)) count)) ⌝ }
+{
     let index = body::index_of(body, count);
     let passed = body::pass(body, count);
     let starts = index.starts;

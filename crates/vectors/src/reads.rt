@@ -1,12 +1,22 @@
 // The reading of a file into a table.
 use crate::answer::Answer;
+ghost use mathlib.Core.Path.{_≡_};
+ghost use Rattle.reader.specs.declared.Reading.the-variants.{Accepted};
+ghost use Rattle.reader.specs.Reading.{readingOf, tableAfter};
+ghost use Rattle.vectors.specs.Answers.{answered};
+ghost use Rattle.vectors.specs.Files.{readingNumbers};
 
-pub fn run(table: &mut [u32], file: &[u8]) -> Answer {
+pub fn run(table: &mut [u32], file: &[u8]) -> Answer
+    ensures result { λ r. ⌜ r ≡ answered (readingNumbers (readingOf (now (file .entry)) (now (table .entry)))) ⌝ }
+    ensures table { λ _. ⌜ now (table .exit) ≡ tableAfter (now (file .entry)) (now (table .entry)) ⌝ }
+{
     shown(reader::read(file, table))
 }
 
 // All nine numbers of an answer.
-fn shown(reading: reader::Reading) -> Answer {
+fn shown(reading: reader::Reading) -> Answer
+    ensures { λ r. ⌜ r ≡ answered (readingNumbers reading) ⌝ }
+{
     match reading {
         reader::Reading::Accepted(a) => accepted(a),
         reader::Reading::Refused { number, place } => Answer::four(number as u64, place as u64, 0, 0)
@@ -15,7 +25,9 @@ fn shown(reading: reader::Reading) -> Answer {
     }
 }
 
-fn accepted(a: reader::Account) -> Answer {
+fn accepted(a: reader::Account) -> Answer
+    ensures { λ r. ⌜ r ≡ answered (readingNumbers (Accepted a)) ⌝ }
+{
     let known = a.known;
     let unknown = a.unknown;
     let faces = a.faces;

@@ -3,10 +3,17 @@ use crate::answer;
 use crate::answer::Answer;
 use crate::buffers;
 use crate::frame::Frame;
+ghost use mathlib.Core.Path.{_≡_};
+ghost use lib.ListN.{length};
+ghost use Rattle.vectors.specs.Answers.{answered};
+ghost use Rattle.vectors.specs.Buffers.{numbersIn};
+ghost use Rattle.vectors.specs.Rows.{rowIn, seenNumbers, tableNumbers, tableLine, foundNumbers, lookupNumbers, queryLine, rowLine};
 
 // 19: the table in the first block; row x read, then put from the second block, then all rows cleared.
 // 20: bytes in the first block; y numbers of a table and then a name in the second; row x.
-pub fn run(f: Frame, first: &[u8], second: &[u8]) -> Answer {
+pub fn run(f: Frame, first: &[u8], second: &[u8]) -> Answer
+    ensures { λ r. ⌜ r ≡ answered (rowLine (f .function) f (now (first .entry)) (now (second .entry))) ⌝ }
+{
     let row = f.x as usize;
     if f.function == 19 {
         return table(row, first, second);
@@ -14,7 +21,9 @@ pub fn run(f: Frame, first: &[u8], second: &[u8]) -> Answer {
     query(first, second, f.y as usize, row)
 }
 
-fn table(row: usize, numbers: &[u8], fields: &[u8]) -> Answer {
+fn table(row: usize, numbers: &[u8], fields: &[u8]) -> Answer
+    ensures { λ r. ⌜ r ≡ answered (tableLine row (now (numbers .entry)) (now (fields .entry))) ⌝ }
+{
     let n = numbers.len() / 4;
     if 8300 < n {
         return Answer::none();
@@ -23,7 +32,9 @@ fn table(row: usize, numbers: &[u8], fields: &[u8]) -> Answer {
     lent(&mut space[..n], row, numbers, fields)
 }
 
-fn lent(table: &mut [u32], row: usize, numbers: &[u8], fields: &[u8]) -> Answer {
+fn lent(table: &mut [u32], row: usize, numbers: &[u8], fields: &[u8]) -> Answer
+    ensures { λ r. ⌜ r ≡ answered (tableNumbers (numbersIn (now (numbers .entry)) (length (now (table .entry)))) row (rowIn (now (fields .entry)))) ⌝ }
+{
     buffers::numbers(table, numbers);
     let seen = seen(table, row);
     table::put_row(table, row, parsed(fields));
@@ -33,7 +44,9 @@ fn lent(table: &mut [u32], row: usize, numbers: &[u8], fields: &[u8]) -> Answer 
 }
 
 // Whether the row is there, its numbers, and whether the table has room.
-fn seen(table: &[u32], row: usize) -> Answer {
+fn seen(table: &[u32], row: usize) -> Answer
+    ensures { λ r. ⌜ r ≡ answered (seenNumbers (now (table .entry)) row) ⌝ }
+{
     let there = Answer::truth(table::has_row(table, row));
     let r = table::row_at(table, row);
     there
@@ -43,7 +56,9 @@ fn seen(table: &[u32], row: usize) -> Answer {
 }
 
 // A row from its eight numbers.
-pub fn parsed(fields: &[u8]) -> table::Row {
+pub fn parsed(fields: &[u8]) -> table::Row
+    ensures { λ r. ⌜ r ≡ rowIn (now (fields .entry)) ⌝ }
+{
     table::Row {
         kind: le::u32_at(fields, 0),
         low: le::u32_at(fields, 4),
@@ -56,7 +71,9 @@ pub fn parsed(fields: &[u8]) -> table::Row {
     }
 }
 
-fn query(bytes: &[u8], second: &[u8], n: usize, row: usize) -> Answer {
+fn query(bytes: &[u8], second: &[u8], n: usize, row: usize) -> Answer
+    ensures { λ r. ⌜ r ≡ answered (queryLine (now (bytes .entry)) (now (second .entry)) n row) ⌝ }
+{
     if 8300 < n {
         return Answer::none();
     }
@@ -69,17 +86,23 @@ fn query(bytes: &[u8], second: &[u8], n: usize, row: usize) -> Answer {
 }
 
 // The table's numbers come first in the block.
-fn lookup(table: &mut [u32], bytes: &[u8], row: usize, block: &[u8], name: &[u8]) -> Answer {
+fn lookup(table: &mut [u32], bytes: &[u8], row: usize, block: &[u8], name: &[u8]) -> Answer
+    ensures { λ r. ⌜ r ≡ answered (lookupNumbers (now (bytes .entry)) (numbersIn (now (block .entry)) (length (now (table .entry)))) row (now (name .entry))) ⌝ }
+{
     buffers::numbers(table, block);
     found(bytes, table, row, name)
 }
 
-fn found(bytes: &[u8], table: &[u32], row: usize, name: &[u8]) -> Answer {
+fn found(bytes: &[u8], table: &[u32], row: usize, name: &[u8]) -> Answer
+    ensures { λ r. ⌜ r ≡ answered (lookupNumbers (now (bytes .entry)) (now (table .entry)) row (now (name .entry))) ⌝ }
+{
     let place = place(lookup::find(bytes, table, row, name));
     place.push(buffers::checksum(lookup::data(bytes, table, row, name)))
 }
 
-fn place(found: lookup::Found) -> Answer {
+fn place(found: lookup::Found) -> Answer
+    ensures { λ r. ⌜ r ≡ answered (foundNumbers found) ⌝ }
+{
     let number = lookup::number(found);
     match found {
         lookup::Found::At { start, end } => Answer::four(number as u64, 0, start as u64, end as u64),

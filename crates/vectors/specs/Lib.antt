@@ -1,0 +1,12 @@
+pub mod Answers
+pub mod Buffers
+pub mod Cases
+pub mod Files
+pub mod Frames
+pub mod Leaves
+pub mod Listings
+pub mod Outputs
+pub mod Parts
+pub mod Rows
+pub mod Trims
+pub mod Writes

@@ -1,0 +1,52 @@
+-- The functions 34 and 35: the writer, and its two parts.
+use Prim.Native.Nat.{ℕ, _/_, _%_, min}
+use mathlib.Core.Bool.{cond}
+use mathlib.Core.List.{List, [], _∷_}
+use lib.Dec.{eqb, ltb}
+use lib.ListN.{length}
+use Rattle.table.specs.declared.Row.{Row}
+use Rattle.table.specs.Table.{rowsAt}
+use Rattle.plan.specs.Plan.{judged}
+use Rattle.emit.specs.declared.Written.{Written}
+use Rattle.emit.specs.Emission.{emission, outputOf}
+use Rattle.writer.specs.Writer.{writtenOf, outputAfter}
+use Rattle.vectors.specs.declared.frame.Frame.{Frame}
+use Rattle.vectors.specs.Buffers.{numbersIn}
+
+abbrev pub writtenNumbers : Written → List ℕ
+writtenNumbers w = w .number ∷ w .place ∷ w .length ∷ []
+
+-- ---- 35: rows judged and then emitted; what is refused is not emitted, and zeros stand for that answer
+
+unfoldable pub partsNumbers : (rows : List Row) (flags : ℕ) (s : List ℕ) (room : ℕ) → List ℕ
+partsNumbers rows flags s room =
+    judged s rows .number ∷ judged s rows .row ∷
+    cond (eqb (judged s rows .number) 0) (writtenNumbers (emission flags s rows room)) (0 ∷ 0 ∷ 0 ∷ [])
+
+unfoldable pub partsOutput : (rows : List Row) (flags : ℕ) (s out : List ℕ) → List ℕ
+partsOutput rows flags s out = cond (eqb (judged s rows .number) 0) (outputOf flags s rows out) out
+
+-- the plan is a table's first x rows
+abbrev pub firstOf : Frame → (plan : List ℕ) → List Row
+firstOf f plan = rowsAt plan 0 (min (f .x) 1024)
+
+-- ---- 34, whose flags are x, and every other number as 35, whose flags are the seed
+
+unfoldable pub planNumbers : (function : ℕ) → Frame → (s plan : List ℕ) (room : ℕ) → List ℕ
+planNumbers function f s plan room =
+    cond (eqb function 34) (writtenNumbers (writtenOf plan s (f .x % 4294967296) room))
+    (partsNumbers (firstOf f plan) (f .seed) s room)
+
+unfoldable pub planOutput : (function : ℕ) → Frame → (s plan out : List ℕ) → List ℕ
+planOutput function f s plan out =
+    cond (eqb function 34) (outputAfter plan s (f .x % 4294967296) out)
+    (partsOutput (firstOf f plan) (f .seed) s out)
+
+-- the plan's numbers are a block; one over 8,300 numbers is not lent
+unfoldable pub writeNumbers : Frame → (s block : List ℕ) (room : ℕ) → List ℕ
+writeNumbers f s block room =
+    cond (ltb 8300 (length block / 4)) [] (planNumbers (f .function) f s (numbersIn block (length block / 4)) room)
+
+unfoldable pub writeOutput : Frame → (s block out : List ℕ) → List ℕ
+writeOutput f s block out =
+    cond (ltb 8300 (length block / 4)) out (planOutput (f .function) f s (numbersIn block (length block / 4)) out)
