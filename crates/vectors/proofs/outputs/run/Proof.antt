@@ -1,39 +1,40 @@
+-- `vectors::outputs::run`: an output that is too long is not lent.
+use mathlib.Core.Path.{ap, sym, _∙_}
+use lib.Seq.{length-take-le}
+use borrow.Author.Tests.{lt-ltb, le-ltb}
 use borrow.Author.Needs.{needs}
+use Rattle.vectors.specs.Answers.{answered}
+use Rattle.vectors.specs.Buffers.{filling}
+use Rattle.vectors.specs.Outputs.{intoOutput, outputLine}
 use Rattle.vectors.proofs.outputs.run.Statement.{statement}
 use Rattle.vectors.proofs.outputs.run.Tie as tie
-use Rattle.vectors.proofs.outputs.run.Reads as reads
-use Rattle.vectors.proofs.outputs.run.Lts as lts
-use Rattle.vectors.proofs.answer.Answer.none.Reads as none-reads
-use Rattle.vectors.proofs.outputs.lent.Reads as lent-reads
-use Rattle.vectors.proofs.outputs.space.Reads as space-reads
 
--- src/outputs.rt:20:9
 none-requires : tie.Need-none-requires
 none-requires c κs = search needs
 
--- src/outputs.rt:20:9
 returns : tie.Need-returns
-returns c = ?
+unfolding outputLine
+returns c = rw (lt-ltb _ _ (c .before .if1 .taken)) (c .none .ensures)
 
--- src/outputs.rt:22:21
 space-requires : tie.Need-space-requires
 space-requires c κs = search needs
 
--- src/outputs.rt:23:13
 array-borrow-prefix-space : tie.Need-array-borrow-prefix-space
 array-borrow-prefix-space c = search needs
 
--- src/outputs.rt:23:13
 slice-aggregate-lent : tie.Need-slice-aggregate-lent
-slice-aggregate-lent c = ?
+slice-aggregate-lent c = let a = c .before .before .before .before .before .args in sym (length-take-le (a .f .y) (c .before .space .result) (search needs))
 
--- src/outputs.rt:23:5
 lent-requires : tie.Need-lent-requires
 lent-requires c κs = search needs
 
--- src/outputs.rt:15:1
 returns-2 : tie.Need-returns-2
-returns-2 c = ?
+unfolding outputLine
+returns-2 c =
+    let a = c .before .before .before .before .before .before .before .args in
+    rw (le-ltb _ _ (c .before .before .before .before .if1 .left))
+    (c .before .lent .ensures
+    ∙ ap (λ n. answered (intoOutput (a .f) (a .first .now) (a .second .now) (filling (a .f .seed) n))) (length-take-le (a .f .y) (c .before .before .before .space .result) (search needs)))
 
 pub run-spec : {M : Type 1} → statement M
 run-spec =
