@@ -13,9 +13,9 @@ use Rattle.vectors.specs.Rows.{rowLine}
 -- what is not run has no number
 unfoldable pub lineOf : Frame → (first second : List ℕ) → List ℕ
 lineOf f first second =
-    cond (ltb (f .function) 10) (leafLine (f .function) f first)
-    (cond (ltb (f .function) 19) (partLine (f .function) f first second)
-    (cond (ltb (f .function) 30) (rowLine (f .function) f first second)
+    cond (ltb (f .function) 10) (leafLine f first)
+    (cond (ltb (f .function) 19) (partLine f first second)
+    (cond (ltb (f .function) 30) (rowLine f first second)
     (cond (ltb (f .function) 32) (fileLine f first)
     (cond (ltb (f .function) 37) (outputLine f first second)
     []))))

@@ -1,6 +1,6 @@
 -- The header of a case.
 use mathlib.Core.List.{List}
-use Prim.Native.Nat.{ℕ}
+use Prim.Native.Nat.{ℕ, _+_}
 use Rattle.le.specs.Le.{numberAt}
 use Rattle.vectors.specs.declared.frame.Frame.{Frame}
 
@@ -13,3 +13,7 @@ frameOf s = record {
   x = numberAt 8 s 16;
   y = numberAt 8 s 24;
 }
+
+-- how many bytes the blocks have
+abbrev pub bothOf : Frame → ℕ
+bothOf f = f .first + f .second

@@ -23,10 +23,10 @@ writtenLine f n =
     (checksum (stored (f .function) (f .x) (f .y) (filling (f .seed) n)) ∷ [])
 
 -- 1 to 3: the number of 2, 4 or 8 bytes at x; 7: the number of y bytes, of at most four
-unfoldable pub leafLine : (function : ℕ) → Frame → (s : List ℕ) → List ℕ
-leafLine function f s =
-    cond (eqb function 1) (numberAt 2 s (f .x) ∷ [])
-    (cond (eqb function 2) (numberAt 4 s (f .x) ∷ [])
-    (cond (eqb function 3) (numberAt 8 s (f .x) ∷ [])
-    (cond (eqb function 7) (numberAt (min (f .y % 4294967296) 4) s (f .x) ∷ [])
+unfoldable pub leafLine : Frame → (s : List ℕ) → List ℕ
+leafLine f s =
+    cond (eqb (f .function) 1) (numberAt 2 s (f .x) ∷ [])
+    (cond (eqb (f .function) 2) (numberAt 4 s (f .x) ∷ [])
+    (cond (eqb (f .function) 3) (numberAt 8 s (f .x) ∷ [])
+    (cond (eqb (f .function) 7) (numberAt (min (f .y % 4294967296) 4) s (f .x) ∷ [])
     (writtenLine f (length s)))))

@@ -23,12 +23,12 @@ lineIn which s row =
     TooLong)))))
 
 -- 32, the listing of the first block, and every other number as 33
-unfoldable pub listed : (function : ℕ) → Frame → (first second : List ℕ) → List ℕ
-listed function f first second = cond (eqb function 32) (listingOf first) (textOf (lineIn (f .x) first second))
+unfoldable pub listed : Frame → (first second : List ℕ) → List ℕ
+listed f first second = cond (eqb (f .function) 32) (listingOf first) (textOf (lineIn (f .x) first second))
 
 -- how many bytes are put, and the output
 unfoldable pub listNumbers : Frame → (first second out : List ℕ) → List ℕ
-listNumbers f first second out = behind out 0 (listed (f .function) f first second) ∷ []
+listNumbers f first second out = behind out 0 (listed f first second) ∷ []
 
 unfoldable pub listOutput : Frame → (first second out : List ℕ) → List ℕ
-listOutput f first second out = written out 0 (listed (f .function) f first second)
+listOutput f first second out = written out 0 (listed f first second)

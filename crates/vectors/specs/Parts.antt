@@ -51,8 +51,9 @@ indexNumbers w =
     indexOf w .number ∷ indexOf w .count ∷ answerOf w .number ∷ answerOf w .at ∷ checksum (indexOf w .starts) ∷ []
 
 -- 10 to 17, and, as every other number, 18: names and bodies are blocks; codes, kinds and places are x and y
-unfoldable pub partLine : (function : ℕ) → Frame → (first second : List ℕ) → List ℕ
-partLine function f first second =
+unfoldable pub partLine : Frame → (first second : List ℕ) → List ℕ
+partLine f first second =
+    let function = f .function in
     let count = f .y % 4294967296 in
     cond (eqb function 10) (sizeNumbers (sizeOf (f .x % 65536)))
     (cond (eqb function 11) (nameLine first)

@@ -60,6 +60,6 @@ queryLine s block n k =
     (lookupNumbers s (numbersIn block n) k (drop (n * 4) block)))
 
 -- 19, and every other number as 20
-unfoldable pub rowLine : (function : ℕ) → Frame → (first second : List ℕ) → List ℕ
-rowLine function f first second =
-    cond (eqb function 19) (tableLine (f .x) first second) (queryLine first second (f .y) (f .x))
+unfoldable pub rowLine : Frame → (first second : List ℕ) → List ℕ
+rowLine f first second =
+    cond (eqb (f .function) 19) (tableLine (f .x) first second) (queryLine first second (f .y) (f .x))

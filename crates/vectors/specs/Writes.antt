@@ -16,37 +16,41 @@ use Rattle.vectors.specs.Buffers.{numbersIn}
 abbrev pub writtenNumbers : Written → List ℕ
 writtenNumbers w = w .number ∷ w .place ∷ w .length ∷ []
 
--- ---- 35: rows judged and then emitted; what is refused is not emitted, and zeros stand for that answer
+-- ---- 35: the first rows of a table, at most 1,024, judged as a plan and then emitted; what is refused is not emitted, and
+-- zeros stand for that answer
 
-unfoldable pub partsNumbers : (rows : List Row) (flags : ℕ) (s : List ℕ) (room : ℕ) → List ℕ
-partsNumbers rows flags s room =
-    judged s rows .number ∷ judged s rows .row ∷
-    cond (eqb (judged s rows .number) 0) (writtenNumbers (emission flags s rows room)) (0 ∷ 0 ∷ 0 ∷ [])
+abbrev pub firstRows : (plan : List ℕ) (n : ℕ) → List Row
+firstRows plan n = rowsAt plan 0 (min n 1024)
 
-unfoldable pub partsOutput : (rows : List Row) (flags : ℕ) (s out : List ℕ) → List ℕ
-partsOutput rows flags s out = cond (eqb (judged s rows .number) 0) (outputOf flags s rows out) out
+unfoldable pub partsNumbers : (plan : List ℕ) (n flags : ℕ) (s : List ℕ) (room : ℕ) → List ℕ
+partsNumbers plan n flags s room =
+    let rows = firstRows plan n in
+    let judgement = judged s rows in
+    judgement .number ∷ judgement .row ∷
+    cond (eqb (judgement .number) 0) (writtenNumbers (emission flags s rows room)) (0 ∷ 0 ∷ 0 ∷ [])
 
--- the plan is a table's first x rows
-abbrev pub firstOf : Frame → (plan : List ℕ) → List Row
-firstOf f plan = rowsAt plan 0 (min (f .x) 1024)
+unfoldable pub partsOutput : (plan : List ℕ) (n flags : ℕ) (s out : List ℕ) → List ℕ
+partsOutput plan n flags s out =
+    let rows = firstRows plan n in
+    cond (eqb (judged s rows .number) 0) (outputOf flags s rows out) out
 
--- ---- 34, whose flags are x, and every other number as 35, whose flags are the seed
+-- ---- 34, whose flags are x; and every other number as 35, whose rows are the first x, and whose flags are the seed
 
-unfoldable pub planNumbers : (function : ℕ) → Frame → (s plan : List ℕ) (room : ℕ) → List ℕ
-planNumbers function f s plan room =
-    cond (eqb function 34) (writtenNumbers (writtenOf plan s (f .x % 4294967296) room))
-    (partsNumbers (firstOf f plan) (f .seed) s room)
+unfoldable pub planNumbers : Frame → (s plan : List ℕ) (room : ℕ) → List ℕ
+planNumbers f s plan room =
+    cond (eqb (f .function) 34) (writtenNumbers (writtenOf plan s (f .x % 4294967296) room))
+    (partsNumbers plan (f .x) (f .seed) s room)
 
-unfoldable pub planOutput : (function : ℕ) → Frame → (s plan out : List ℕ) → List ℕ
-planOutput function f s plan out =
-    cond (eqb function 34) (outputAfter plan s (f .x % 4294967296) out)
-    (partsOutput (firstOf f plan) (f .seed) s out)
+unfoldable pub planOutput : Frame → (s plan out : List ℕ) → List ℕ
+planOutput f s plan out =
+    cond (eqb (f .function) 34) (outputAfter plan s (f .x % 4294967296) out)
+    (partsOutput plan (f .x) (f .seed) s out)
 
 -- the plan's numbers are a block; one over 8,300 numbers is not lent
 unfoldable pub writeNumbers : Frame → (s block : List ℕ) (room : ℕ) → List ℕ
 writeNumbers f s block room =
-    cond (ltb 8300 (length block / 4)) [] (planNumbers (f .function) f s (numbersIn block (length block / 4)) room)
+    cond (ltb 8300 (length block / 4)) [] (planNumbers f s (numbersIn block (length block / 4)) room)
 
 unfoldable pub writeOutput : Frame → (s block out : List ℕ) → List ℕ
 writeOutput f s block out =
-    cond (ltb 8300 (length block / 4)) out (planOutput (f .function) f s (numbersIn block (length block / 4)) out)
+    cond (ltb 8300 (length block / 4)) out (planOutput f s (numbersIn block (length block / 4)) out)

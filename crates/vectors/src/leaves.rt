@@ -12,7 +12,7 @@ ghost use Rattle.vectors.specs.Leaves.{stored, writtenLine, leafLine};
 // 1 to 6: numbers of 2, 4 and 8 bytes, read from the first block at x; y's lowest bytes written at x into a buffer as
 // long as the first block, filled from the seed. 7: the number of y bytes at x.
 pub fn run(f: Frame, bytes: &[u8]) -> Answer
-    ensures { λ r. ⌜ r ≡ answered (leafLine (f .function) f (now (bytes .entry))) ⌝ }
+    ensures { λ r. ⌜ r ≡ answered (leafLine f (now (bytes .entry))) ⌝ }
 {
     let at = f.x as usize;
     let function = f.function;
@@ -36,7 +36,9 @@ fn written(f: Frame, len: usize) -> Answer
 }
 
 fn lent(f: Frame, out: &mut [u8]) -> Answer
-    ensures { λ r. ⌜ r ≡ answered (checksum (stored (f .function) (f .x) (f .y) (filling (f .seed) (length (now (out .entry))))) ∷ []) ⌝ }
+    ensures { λ r. do
+      let out = filling (f .seed) (length (now (out .entry)))
+      ⌜ r ≡ answered (checksum (stored (f .function) (f .x) (f .y) out) ∷ []) ⌝ }
 {
     buffers::fill(out, f.seed);
     store(f.function, f.x as usize, f.y, out);

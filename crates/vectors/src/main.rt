@@ -54,7 +54,10 @@ fn run(f: Frame, payload: &[u8]) {
     if payload.len() < n {
         return;
     }
-    print(f.function, cases::run(f, &payload[..first], &payload[first..n]));
+    print(
+        f.function,
+        cases::run(f, &payload[..first], &payload[first..n]),
+    );
 }
 
 // A line: the function's number, and the answer's, each after a space.

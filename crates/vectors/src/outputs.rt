@@ -28,7 +28,9 @@ fn space() -> [u8; 98304] {
 }
 
 fn lent(f: Frame, out: &mut [u8], first: &[u8], second: &[u8]) -> Answer
-    ensures { λ r. ⌜ r ≡ answered (intoOutput f (now (first .entry)) (now (second .entry)) (filling (f .seed) (length (now (out .entry))))) ⌝ }
+    ensures { λ r. do
+      let out = filling (f .seed) (length (now (out .entry)))
+      ⌜ r ≡ answered (intoOutput f (now (first .entry)) (now (second .entry)) out) ⌝ }
 {
     buffers::fill(out, f.seed);
     let answer = put(f, out, first, second);

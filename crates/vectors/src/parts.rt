@@ -13,7 +13,7 @@ ghost use Rattle.vectors.specs.Parts.{sizeNumbers, nameLine, numeralNumb
 // 10 a type's element size, 11 to 13 names, 14 and 15 kinds, 16 to 18 properties. Names and bodies are blocks; codes,
 // kinds and places are x and y.
 pub fn run(f: Frame, first: &[u8], second: &[u8]) -> Answer
-    ensures { λ r. ⌜ r ≡ answered (partLine (f .function) f (now (first .entry)) (now (second .entry))) ⌝ }
+    ensures { λ r. ⌜ r ≡ answered (partLine f (now (first .entry)) (now (second .entry))) ⌝ }
 {
     let x = f.x;
     let low = (x % 4294967296) as u32;
@@ -99,6 +99,5 @@ fn index(body: &[u8], count: u32) -> Answer
         index.count as u64,
         passed.number as u64,
         passed.at as u64,
-    )
-    .push(sum)
+    ).push(sum)
 }

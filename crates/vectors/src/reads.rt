@@ -19,7 +19,12 @@ fn shown(reading: reader::Reading) -> Answer
 {
     match reading {
         reader::Reading::Accepted(a) => accepted(a),
-        reader::Reading::Refused { number, place } => Answer::four(number as u64, place as u64, 0, 0)
+        reader::Reading::Refused { number, place } => Answer::four(
+                number as u64,
+                place as u64,
+                0,
+                0,
+            )
             .push_four(0, 0, 0, 0)
             .push(0),
     }

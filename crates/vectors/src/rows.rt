@@ -12,7 +12,7 @@ ghost use Rattle.vectors.specs.Rows.{rowIn, seenNumbers, tableNumbers, t
 // 19: the table in the first block; row x read, then put from the second block, then all rows cleared.
 // 20: bytes in the first block; y numbers of a table and then a name in the second; row x.
 pub fn run(f: Frame, first: &[u8], second: &[u8]) -> Answer
-    ensures { λ r. ⌜ r ≡ answered (rowLine (f .function) f (now (first .entry)) (now (second .entry))) ⌝ }
+    ensures { λ r. ⌜ r ≡ answered (rowLine f (now (first .entry)) (now (second .entry))) ⌝ }
 {
     let row = f.x as usize;
     if f.function == 19 {
@@ -33,7 +33,9 @@ fn table(row: usize, numbers: &[u8], fields: &[u8]) -> Answer
 }
 
 fn lent(table: &mut [u32], row: usize, numbers: &[u8], fields: &[u8]) -> Answer
-    ensures { λ r. ⌜ r ≡ answered (tableNumbers (numbersIn (now (numbers .entry)) (length (now (table .entry)))) row (rowIn (now (fields .entry)))) ⌝ }
+    ensures { λ r. do
+      let t = numbersIn (now (numbers .entry)) (length (now (table .entry)))
+      ⌜ r ≡ answered (tableNumbers t row (rowIn (now (fields .entry)))) ⌝ }
 {
     buffers::numbers(table, numbers);
     let seen = seen(table, row);
@@ -51,7 +53,12 @@ fn seen(table: &[u32], row: usize) -> Answer
     let r = table::row_at(table, row);
     there
         .push_four(r.kind as u64, r.low as u64, r.high as u64, r.parent as u64)
-        .push_four(r.start as u64, r.end as u64, r.properties as u64, r.children as u64)
+        .push_four(
+            r.start as u64,
+            r.end as u64,
+            r.properties as u64,
+            r.children as u64,
+        )
         .push(answer::bit(table::has_room(table)))
 }
 
@@ -87,7 +94,9 @@ fn query(bytes: &[u8], second: &[u8], n: usize, row: usize) -> Answer
 
 // The table's numbers come first in the block.
 fn lookup(table: &mut [u32], bytes: &[u8], row: usize, block: &[u8], name: &[u8]) -> Answer
-    ensures { λ r. ⌜ r ≡ answered (lookupNumbers (now (bytes .entry)) (numbersIn (now (block .entry)) (length (now (table .entry)))) row (now (name .entry))) ⌝ }
+    ensures { λ r. do
+      let t = numbersIn (now (block .entry)) (length (now (table .entry)))
+      ⌜ r ≡ answered (lookupNumbers (now (bytes .entry)) t row (now (name .entry))) ⌝ }
 {
     buffers::numbers(table, block);
     found(bytes, table, row, name)
@@ -105,7 +114,12 @@ fn place(found: lookup::Found) -> Answer
 {
     let number = lookup::number(found);
     match found {
-        lookup::Found::At { start, end } => Answer::four(number as u64, 0, start as u64, end as u64),
+        lookup::Found::At { start, end } => Answer::four(
+            number as u64,
+            0,
+            start as u64,
+            end as u64,
+        ),
         lookup::Found::Refused(_) => Answer::four(number as u64, 0, 0, 0),
     }
 }

@@ -32,5 +32,10 @@ fn walked(table: &mut [u32], file: &[u8]) -> Answer
 fn shown(w: walk::Answer) -> Answer
     ensures { λ r. ⌜ r ≡ answered (walkedNumbers w) ⌝ }
 {
-    Answer::four(w.number as u64, w.place as u64, w.nodes as u64, w.flags as u64)
+    Answer::four(
+        w.number as u64,
+        w.place as u64,
+        w.nodes as u64,
+        w.flags as u64,
+    )
 }

@@ -3,9 +3,7 @@ use crate::answer::Answer;
 use crate::buffers;
 use crate::frame::Frame;
 ghost use mathlib.Core.Path.{_≡_};
-ghost use Prim.Native.Nat.{min};
 ghost use lib.ListN.{length};
-ghost use Rattle.table.specs.Table.{rowsAt};
 ghost use Rattle.vectors.specs.Answers.{answered, extended};
 ghost use Rattle.vectors.specs.Buffers.{numbersIn};
 ghost use Rattle.vectors.specs.Writes.{writtenNumbers, partsNumbers, partsOutput, planNumbers, planOutput, writeNumbers, writeOutput};
@@ -25,16 +23,20 @@ pub fn run(f: Frame, out: &mut [u8], source: &[u8], numbers: &[u8]) -> Answer
 }
 
 fn lent(f: Frame, out: &mut [u8], source: &[u8], plan: &mut [u32], numbers: &[u8]) -> Answer
-    ensures result { λ r. ⌜ r ≡ answered (planNumbers (f .function) f (now (source .entry)) (numbersIn (now (numbers .entry)) (length (now (plan .entry)))) (length (now (out .entry)))) ⌝ }
-    ensures output { λ _. ⌜ now (out .exit) ≡ planOutput (f .function) f (now (source .entry)) (numbersIn (now (numbers .entry)) (length (now (plan .entry)))) (now (out .entry)) ⌝ }
+    ensures result { λ r. do
+      let plan = numbersIn (now (numbers .entry)) (length (now (plan .entry)))
+      ⌜ r ≡ answered (planNumbers f (now (source .entry)) plan (length (now (out .entry)))) ⌝ }
+    ensures output { λ _. do
+      let plan = numbersIn (now (numbers .entry)) (length (now (plan .entry)))
+      ⌜ now (out .exit) ≡ planOutput f (now (source .entry)) plan (now (out .entry)) ⌝ }
 {
     buffers::numbers(plan, numbers);
     planned(f, out, source, plan)
 }
 
 fn planned(f: Frame, out: &mut [u8], source: &[u8], plan: &[u32]) -> Answer
-    ensures result { λ r. ⌜ r ≡ answered (planNumbers (f .function) f (now (source .entry)) (now (plan .entry)) (length (now (out .entry)))) ⌝ }
-    ensures output { λ _. ⌜ now (out .exit) ≡ planOutput (f .function) f (now (source .entry)) (now (plan .entry)) (now (out .entry)) ⌝ }
+    ensures result { λ r. ⌜ r ≡ answered (planNumbers f (now (source .entry)) (now (plan .entry)) (length (now (out .entry)))) ⌝ }
+    ensures output { λ _. ⌜ now (out .exit) ≡ planOutput f (now (source .entry)) (now (plan .entry)) (now (out .entry)) ⌝ }
 {
     if f.function == 34 {
         let flags = (f.x % 4294967296) as u32;
@@ -45,8 +47,8 @@ fn planned(f: Frame, out: &mut [u8], source: &[u8], plan: &[u32]) -> Answer
 
 // What is refused is not emitted; zeros stand for that answer.
 fn parts(rows: usize, flags: u32, out: &mut [u8], source: &[u8], plan: &[u32]) -> Answer
-    ensures result { λ r. ⌜ r ≡ answered (partsNumbers (rowsAt (now (plan .entry)) 0 (min rows 1024)) flags (now (source .entry)) (length (now (out .entry)))) ⌝ }
-    ensures output { λ _. ⌜ now (out .exit) ≡ partsOutput (rowsAt (now (plan .entry)) 0 (min rows 1024)) flags (now (source .entry)) (now (out .entry)) ⌝ }
+    ensures result { λ r. ⌜ r ≡ answered (partsNumbers (now (plan .entry)) rows flags (now (source .entry)) (length (now (out .entry)))) ⌝ }
+    ensures output { λ _. ⌜ now (out .exit) ≡ partsOutput (now (plan .entry)) rows flags (now (source .entry)) (now (out .entry)) ⌝ }
 {
     let judged = plan::judge(plan, rows, source);
     let answer = Answer::two(judged.number as u64, judged.row as u64);
@@ -59,5 +61,7 @@ fn parts(rows: usize, flags: u32, out: &mut [u8], source: &[u8], plan: &[u32]) -
 pub fn with_written(answer: Answer, w: emit::Written) -> Answer
     ensures { λ r. ⌜ r ≡ extended answer (writtenNumbers w) ⌝ }
 {
-    answer.push_two(w.number as u64, w.place as u64).push(w.length as u64)
+    answer
+        .push_two(w.number as u64, w.place as u64)
+        .push(w.length as u64)
 }

@@ -1,5 +1,5 @@
 -- `vectors::leaves::run`: each function by its number.
-use mathlib.Core.Path.{ap, sym, _∙_}
+use mathlib.Core.Path.{ap, _∙_}
 use mathlib.Core.List.{[], _∷_}
 use borrow.Author.Tests.{ne-eqb}
 use borrow.Author.Needs.{needs}
@@ -49,35 +49,19 @@ written-requires c κs = search needs
 
 returns : tie.Need-returns
 unfolding leafLine
-returns c =
-    let a = c .before .before .before .before .args in
-    c .one .ensures
-    ∙ ap (λ n. answered (n ∷ [])) (c .before .u16-at .ensures)
-    ∙ ap (λ k. answered (leafLine k (a .f) (a .bytes .now))) (sym (c .before .before .match .keys1))
+returns c = rw (c .before .before .match .keys1) (c .one .ensures ∙ ap (λ n. answered (n ∷ [])) (c .before .u16-at .ensures))
 
 returns-2 : tie.Need-returns-2
 unfolding leafLine
-returns-2 c =
-    let a = c .before .before .before .before .args in
-    c .one2 .ensures
-    ∙ ap (λ n. answered (n ∷ [])) (c .before .u32-at .ensures)
-    ∙ ap (λ k. answered (leafLine k (a .f) (a .bytes .now))) (sym (c .before .before .match .keys2))
+returns-2 c = rw (c .before .before .match .keys2) (c .one2 .ensures ∙ ap (λ n. answered (n ∷ [])) (c .before .u32-at .ensures))
 
 returns-3 : tie.Need-returns-3
 unfolding leafLine
-returns-3 c =
-    let a = c .before .before .before .before .args in
-    c .one3 .ensures
-    ∙ ap (λ n. answered (n ∷ [])) (c .before .u64-at .ensures)
-    ∙ ap (λ k. answered (leafLine k (a .f) (a .bytes .now))) (sym (c .before .before .match .keys3))
+returns-3 c = rw (c .before .before .match .keys3) (c .one3 .ensures ∙ ap (λ n. answered (n ∷ [])) (c .before .u64-at .ensures))
 
 returns-4 : tie.Need-returns-4
 unfolding leafLine
-returns-4 c =
-    let a = c .before .before .before .before .before .args in
-    c .one4 .ensures
-    ∙ ap (λ n. answered (n ∷ [])) (c .before .number-at .ensures)
-    ∙ ap (λ k. answered (leafLine k (a .f) (a .bytes .now))) (sym (c .before .before .before .match .keys4))
+returns-4 c = rw (c .before .before .before .match .keys4) (c .one4 .ensures ∙ ap (λ n. answered (n ∷ [])) (c .before .number-at .ensures))
 
 returns-5 : tie.Need-returns-5
 unfolding leafLine

@@ -1,5 +1,5 @@
 -- `vectors::parts::run`: each function by its number.
-use mathlib.Core.Path.{ap, sym, _∙_}
+use mathlib.Core.Path.{ap, _∙_}
 use mathlib.Core.List.{[], _∷_}
 use borrow.Author.Tests.{ne-eqb}
 use borrow.Author.Needs.{needs}
@@ -63,62 +63,35 @@ truth-requires-4 c κs = search needs
 
 returns : tie.Need-returns
 unfolding partLine
-returns c =
-    let a = c .before .before .before .before .before .args in
-    c .element .ensures
-    ∙ ap (λ k. answered (partLine k (a .f) (a .first .now) (a .second .now))) (sym (c .before .match .keys1))
+returns c = rw (c .before .match .keys1) (c .element .ensures)
 
 returns-2 : tie.Need-returns-2
 unfolding partLine
-returns-2 c =
-    let a = c .before .before .before .before .before .args in
-    c .name .ensures
-    ∙ ap (λ k. answered (partLine k (a .f) (a .first .now) (a .second .now))) (sym (c .before .match .keys2))
+returns-2 c = rw (c .before .match .keys2) (c .name .ensures)
 
 returns-3 : tie.Need-returns-3
 unfolding partLine
-returns-3 c =
-    let a = c .before .before .before .before .before .before .args in
-    c .truth .ensures
-    ∙ ap (λ b. answered (bit b ∷ [])) (c .before .same .ensures)
-    ∙ ap (λ k. answered (partLine k (a .f) (a .first .now) (a .second .now))) (sym (c .before .before .match .keys3))
+returns-3 c = rw (c .before .before .match .keys3) (c .truth .ensures ∙ ap (λ b. answered (bit b ∷ [])) (c .before .same .ensures))
 
 returns-4 : tie.Need-returns-4
 unfolding partLine
-returns-4 c =
-    let a = c .before .before .before .before .before .args in
-    c .numbered .ensures
-    ∙ ap (λ k. answered (partLine k (a .f) (a .first .now) (a .second .now))) (sym (c .before .match .keys4))
+returns-4 c = rw (c .before .match .keys4) (c .numbered .ensures)
 
 returns-5 : tie.Need-returns-5
 unfolding partLine
-returns-5 c =
-    let a = c .before .before .before .before .before .before .args in
-    c .truth2 .ensures
-    ∙ ap (λ b. answered (bit b ∷ [])) (c .before .known .ensures)
-    ∙ ap (λ k. answered (partLine k (a .f) (a .first .now) (a .second .now))) (sym (c .before .before .match .keys5))
+returns-5 c = rw (c .before .before .match .keys5) (c .truth2 .ensures ∙ ap (λ b. answered (bit b ∷ [])) (c .before .known .ensures))
 
 returns-6 : tie.Need-returns-6
 unfolding partLine
-returns-6 c =
-    let a = c .before .before .before .before .before .before .before .args in
-    c .truth3 .ensures
-    ∙ ap (λ b. answered (bit b ∷ [])) (c .before .may-stand .ensures ∙ ap (λ p. mayStand p (a .f .y % 4294967296)) (c .before .before .above .ensures))
-    ∙ ap (λ k. answered (partLine k (a .f) (a .first .now) (a .second .now))) (sym (c .before .before .before .match .keys6))
+returns-6 c = rw (c .before .before .before .match .keys6) (c .truth3 .ensures ∙ ap (λ b. answered (bit b ∷ [])) (c .before .may-stand .ensures ∙ ap (λ p. mayStand p (c .before .before .before .before .before .before .before .args .f .y % 4294967296)) (c .before .before .above .ensures)))
 
 returns-7 : tie.Need-returns-7
 unfolding partLine
-returns-7 c =
-    let a = c .before .before .before .before .before .args in
-    c .step .ensures
-    ∙ ap (λ k. answered (partLine k (a .f) (a .first .now) (a .second .now))) (sym (c .before .match .keys7))
+returns-7 c = rw (c .before .match .keys7) (c .step .ensures)
 
 returns-8 : tie.Need-returns-8
 unfolding partLine
-returns-8 c =
-    let a = c .before .before .before .before .before .args in
-    c .index .ensures
-    ∙ ap (λ k. answered (partLine k (a .f) (a .first .now) (a .second .now))) (sym (c .before .match .keys8))
+returns-8 c = rw (c .before .match .keys8) (c .index .ensures)
 
 returns-9 : tie.Need-returns-9
 unfolding partLine

@@ -38,11 +38,13 @@ unfolding trimNumbers
 returns c =
     let a = c .before .before .before .before .before .before .before .before .before .before .before .before .before .before .before .args in
     let room = length (a .out .now) in
-    let e = c .before .before .before .before .before .before .before .before .before .trim .ensures in
-    (joined (writtenNumbers (trimmedOf (a .file .now) (a .row) (a .table .now) room)) (checksum (trimmedTable (a .file .now) (a .row) (a .table .now) room) ∷ [])
-    (c .push .ensures ∙ ap (λ n. extended (c .before .before .before .with-written .result) (n ∷ [])) (c .before .numbers-checksum .ensures ∙ ap checksum (e .2)))
-    (put-after (writtenNumbers (c .before .before .before .before .before .before .before .before .before .trim .result)) (c .before .before .before .with-written .ensures) (c .before .before .before .before .none .ensures)
-    ∙ ap (λ w. answered (writtenNumbers w)) (e .0)), e .1)
+    let e = c .before .before .before .before .before .before .before .before .before .trim .ensures in (
+      joined (writtenNumbers (trimmedOf (a .file .now) (a .row) (a .table .now) room)) (checksum (trimmedTable (a .file .now) (a .row) (a .table .now) room) ∷ [])
+          (c .push .ensures ∙ ap (λ n. extended (c .before .before .before .with-written .result) (n ∷ [])) (c .before .numbers-checksum .ensures ∙ ap checksum (e .2)))
+          (put-after (writtenNumbers (c .before .before .before .before .before .before .before .before .before .trim .result)) (c .before .before .before .with-written .ensures) (c .before .before .before .before .none .ensures)
+          ∙ ap (λ w. answered (writtenNumbers w)) (e .0)),
+      e .1,
+    )
 
 pub lent-spec : {M : Type 1} → statement M
 lent-spec =

@@ -46,9 +46,10 @@ returns-2 c =
     let n = c .before .before .before .before .before .before .before .before .u32-at .result in
     let table = ap (take n) (c .before .before .before .before .before .before .space .ensures) ∙ taken-space n (a .f .seed) (c .before .before .before .before .before .before .before .if1 .left) in
     let e = c .before .before .before .lent .ensures in
-    rw (← c .before .before .before .before .before .before .before .before .u32-at .ensures, le-ltb _ _ (c .before .before .before .before .before .before .before .if1 .left))
-    (e .0 ∙ ap (λ t. answered (trimNumbers (a .file .now) (a .f .x) t (length (a .out .now)))) table,
-    e .1 ∙ ap (λ t. trimmedOutput (a .file .now) (a .f .x) t (a .out .now)) table)
+    rw (← c .before .before .before .before .before .before .before .before .u32-at .ensures, le-ltb _ _ (c .before .before .before .before .before .before .before .if1 .left)) (
+      e .0 ∙ ap (λ t. answered (trimNumbers (a .file .now) (a .f .x) t (length (a .out .now)))) table,
+      e .1 ∙ ap (λ t. trimmedOutput (a .file .now) (a .f .x) t (a .out .now)) table,
+    )
 
 pub run-spec : {M : Type 1} → statement M
 run-spec =

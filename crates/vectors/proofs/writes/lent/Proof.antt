@@ -23,9 +23,10 @@ returns : tie.Need-returns
 returns c =
     let a = c .before .before .before .before .before .before .before .before .before .before .before .before .before .args in
     let plan = c .before .before .before .before .before .before .before .numbers .ensures in
-    let e = c .before .before .planned .ensures in
-    (e .0 ∙ ap (λ p. answered (planNumbers (a .f .function) (a .f) (a .source .now) p (length (a .out .now)))) plan,
-    e .1 ∙ ap (λ p. planOutput (a .f .function) (a .f) (a .source .now) p (a .out .now)) plan)
+    let e = c .before .before .planned .ensures in (
+      e .0 ∙ ap (λ p. answered (planNumbers (a .f) (a .source .now) p (length (a .out .now)))) plan,
+      e .1 ∙ ap (λ p. planOutput (a .f) (a .source .now) p (a .out .now)) plan,
+    )
 
 pub lent-spec : {M : Type 1} → statement M
 lent-spec =

@@ -47,9 +47,11 @@ unfolding partsNumbers partsOutput
 returns-2 c =
     let j = c .before .before .before .before .before .before .before .before .before .before .judge .result in
     let e = c .before .before .before .emit .ensures in
-    rw (← c .before .before .before .before .before .before .before .before .before .before .judge .ensures, eq-eqb _ _ (c .before .before .before .before .before .if1 .left))
-    (put-after (writtenNumbers (c .before .before .before .emit .result)) (c .with-written .ensures) (c .before .before .before .before .before .before .before .two .ensures)
-    ∙ ap (λ w. answered (j .number ∷ j .row ∷ writtenNumbers w)) (e .0), e .1)
+    rw (← c .before .before .before .before .before .before .before .before .before .before .judge .ensures, eq-eqb _ _ (c .before .before .before .before .before .if1 .left)) (
+      put-after (writtenNumbers (c .before .before .before .emit .result)) (c .with-written .ensures) (c .before .before .before .before .before .before .before .two .ensures)
+          ∙ ap (λ w. answered (j .number ∷ j .row ∷ writtenNumbers w)) (e .0),
+      e .1,
+    )
 
 pub parts-spec : {M : Type 1} → statement M
 parts-spec =

@@ -27,9 +27,11 @@ returns : tie.Need-returns
 unfolding planNumbers planOutput
 returns c =
     let e = c .before .before .before .write .ensures in
-    rw (eq-eqb _ _ (c .before .before .before .before .before .before .before .if1 .taken))
-    (put-after (writtenNumbers (c .before .before .before .write .result)) (c .with-written .ensures) (c .before .before .before .before .before .none .ensures)
-    ∙ ap (λ w. answered (writtenNumbers w)) (e .0), e .1)
+    rw (eq-eqb _ _ (c .before .before .before .before .before .before .before .if1 .taken)) (
+      put-after (writtenNumbers (c .before .before .before .write .result)) (c .with-written .ensures) (c .before .before .before .before .before .none .ensures)
+          ∙ ap (λ w. answered (writtenNumbers w)) (e .0),
+      e .1,
+    )
 
 parts-requires : tie.Need-parts-requires
 parts-requires c κs = search needs

@@ -40,9 +40,10 @@ returns-2 c =
     let s = a .numbers .now in
     let n = length-take-le (length s / 4) (c .before .before .before .before .before .before .space .result) (search needs) in
     let e = c .before .before .before .lent .ensures in
-    rw (le-ltb _ _ (c .before .before .before .before .before .before .before .if1 .left))
-    (e .0 ∙ ap (λ n. answered (planNumbers (a .f .function) (a .f) (a .source .now) (numbersIn s n) (length (a .out .now)))) n,
-    e .1 ∙ ap (λ n. planOutput (a .f .function) (a .f) (a .source .now) (numbersIn s n) (a .out .now)) n)
+    rw (le-ltb _ _ (c .before .before .before .before .before .before .before .if1 .left)) (
+      e .0 ∙ ap (λ n. answered (planNumbers (a .f) (a .source .now) (numbersIn s n) (length (a .out .now)))) n,
+      e .1 ∙ ap (λ n. planOutput (a .f) (a .source .now) (numbersIn s n) (a .out .now)) n,
+    )
 
 pub run-spec : {M : Type 1} → statement M
 run-spec =
