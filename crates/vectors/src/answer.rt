@@ -1,14 +1,16 @@
-// The numbers of a line: at most twelve, and zeros after them.
+// The numbers of a case's line, after the function's own.
 ghost use mathlib.Core.Path.{_≡_};
 ghost use mathlib.Core.List.{[], _∷_};
 ghost use Rattle.vectors.specs.Answers.{answered, extended, bit};
 
+// At most twelve numbers, and zeros after them.
 pub struct Answer {
     pub count: usize,
     pub numbers: [u64; 12],
 }
 
 impl Answer {
+    // The answer of a case that is not run.
     pub fn none() -> Self
         ensures { λ r. ⌜ r ≡ answered [] ⌝ }
     {

@@ -43,6 +43,7 @@ fn taking(sum: u64, number: u64) -> u64
     (sum % 4294967296 * 16777619 + number % 4294967296) % 4294967296
 }
 
+// Of bytes, of a table's numbers, and of places in a body.
 pub fn checksum(bytes: &[u8]) -> u64
     ensures { λ r. ⌜ r ≡ checksum (now (bytes .entry)) ⌝ }
 {

@@ -25,6 +25,7 @@ pub fn run(f: Frame, bytes: &[u8]) -> Answer
     }
 }
 
+// A buffer over 4,096 bytes is not lent.
 fn written(f: Frame, len: usize) -> Answer
     ensures { λ r. ⌜ r ≡ answered (writtenLine f len) ⌝ }
 {

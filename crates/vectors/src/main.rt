@@ -48,6 +48,7 @@ fn one_case(payload: &mut [u8]) -> bool {
     true
 }
 
+// Runs a case whose blocks are the payload's first bytes, and prints its line.
 fn run(f: Frame, payload: &[u8]) {
     let first = f.first as usize;
     let n = frame::both(f);

@@ -53,6 +53,7 @@ fn element(code: u16) -> Answer
     }
 }
 
+// More than 65,535 bytes are not asked about.
 fn name(bytes: &[u8]) -> Answer
     ensures { λ r. ⌜ r ≡ answered (nameLine (now (bytes .entry))) ⌝ }
 {

@@ -21,6 +21,7 @@ pub fn run(f: Frame, first: &[u8], second: &[u8]) -> Answer
     query(first, second, f.y as usize, row)
 }
 
+// A table over 8,300 numbers is not lent.
 fn table(row: usize, numbers: &[u8], fields: &[u8]) -> Answer
     ensures { λ r. ⌜ r ≡ answered (tableLine row (now (numbers .entry)) (now (fields .entry))) ⌝ }
 {
@@ -78,6 +79,7 @@ pub fn parsed(fields: &[u8]) -> table::Row
     }
 }
 
+// Nor is one that the block does not have whole.
 fn query(bytes: &[u8], second: &[u8], n: usize, row: usize) -> Answer
     ensures { λ r. ⌜ r ≡ answered (queryLine (now (bytes .entry)) (now (second .entry)) n row) ⌝ }
 {
@@ -109,6 +111,7 @@ fn found(bytes: &[u8], table: &[u32], row: usize, name: &[u8]) -> Answer
     place.push(buffers::checksum(lookup::data(bytes, table, row, name)))
 }
 
+// The refusal's number, a place of 0, and where the data lies.
 fn place(found: lookup::Found) -> Answer
     ensures { λ r. ⌜ r ≡ answered (foundNumbers found) ⌝ }
 {

@@ -15,7 +15,9 @@ returns : tie.Need-returns
 returns c = search needs
 
 slice-aggregate-run : tie.Need-slice-aggregate-run
-slice-aggregate-run c = sym (length-take-le (c .before .before .before .before .before .args .f .first) (c .before .before .before .before .before .args .payload .now) (search needs))
+slice-aggregate-run c =
+    let at-start = c .before .before .before .before .before in
+    sym (length-take-le (at-start .args .f .first) (at-start .args .payload .now) (search needs))
 
 sub-run : tie.Need-sub-run
 sub-run c = search needs

@@ -42,9 +42,10 @@ loop-less c = simp length-set (omega arith)
 
 loop-again : tie.Need-loop-again Inv-loop μ-loop
 loop-again c =
+    let at-start = c .before .before .before .before .before in
     let l = c .before .before .loop in
-    let s = c .before .before .before .before .before .args .bytes .now in
-    let n = length (c .before .before .before .before .before .args .out .now) in
+    let s = at-start .args .bytes .now in
+    let n = length (at-start .args .out .now) in
     let h : l .i < length (l .out) = omega arith in
     let k : l .i < n = omega arith in
     let rest = numbersFrom s (l .i + 1) (n - (l .i + 1)) in
@@ -55,9 +56,10 @@ same-length c = search needs
 
 returns : tie.Need-returns Inv-loop μ-loop
 returns c =
+    let at-start = c .before .before .before .before in
     let l = c .before .loop in
-    let s = c .before .before .before .before .args .bytes .now in
-    let n = length (c .before .before .before .before .args .out .now) in
+    let s = at-start .args .bytes .now in
+    let n = length (at-start .args .out .now) in
     let h : length (l .out) ≤ l .i = omega arith in
     let k : n ≤ l .i = omega arith in
     stored-all (l .out) (l .i) h (ap (λ r. take (l .i) (l .out) ++ r) (sym (numbers-none n (l .i) s k)) ∙ l .inv .2)

@@ -39,8 +39,9 @@ loop-less c = search needs
 
 loop-again : tie.Need-loop-again Inv-loop μ-loop
 loop-again c =
+    let at-start = c .before .before .before .before .before in
     let l = c .before .before .before .loop in
-    let ns = c .before .before .before .before .before .args .numbers .now in
+    let ns = at-start .args .numbers .now in
     let h : l .i < length ns = omega arith in
     (omega arith, sym (sum-more ns (l .i) (l .sum) h (c .taking .ensures)) ∙ l .inv .1)
 

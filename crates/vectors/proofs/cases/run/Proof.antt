@@ -24,28 +24,38 @@ run-requires-3 c κs = search needs
 
 returns-3 : tie.Need-returns-3
 unfolding lineOf
-returns-3 c = rw (le-ltb _ _ (c .before .before .before .before .before .if1 .left), le-ltb _ _ (c .before .before .before .if2 .left), lt-ltb _ _ (c .before .if3 .taken)) (c .run3 .ensures)
+returns-3 c =
+    let at-else1 = c .before .before .before .before .before in
+    rw (le-ltb _ _ (at-else1 .if1 .left), le-ltb _ _ (c .before .before .before .if2 .left), lt-ltb _ _ (c .before .if3 .taken)) (c .run3 .ensures)
 
 run-requires-4 : tie.Need-run-requires-4
 run-requires-4 c κs = search needs
 
 returns-4 : tie.Need-returns-4
 unfolding lineOf
-returns-4 c = rw (le-ltb _ _ (c .before .before .before .before .before .before .before .if1 .left), le-ltb _ _ (c .before .before .before .before .before .if2 .left), le-ltb _ _ (c .before .before .before .if3 .left), lt-ltb _ _ (c .before .if4 .taken)) (c .run4 .ensures)
+returns-4 c =
+    let at-else2 = c .before .before .before .before .before in
+    rw (le-ltb _ _ (at-else2 .before .before .if1 .left), le-ltb _ _ (at-else2 .if2 .left), le-ltb _ _ (c .before .before .before .if3 .left), lt-ltb _ _ (c .before .if4 .taken)) (c .run4 .ensures)
 
 run-requires-5 : tie.Need-run-requires-5
 run-requires-5 c κs = search needs
 
 returns-5 : tie.Need-returns-5
 unfolding lineOf
-returns-5 c = rw (le-ltb _ _ (c .before .before .before .before .before .before .before .before .before .if1 .left), le-ltb _ _ (c .before .before .before .before .before .before .before .if2 .left), le-ltb _ _ (c .before .before .before .before .before .if3 .left), le-ltb _ _ (c .before .before .before .if4 .left), lt-ltb _ _ (c .before .if5 .taken)) (c .run5 .ensures)
+returns-5 c =
+    let at-else3 = c .before .before .before .before .before in
+    let at-else1 = at-else3 .before .before .before .before in
+    rw (le-ltb _ _ (at-else1 .if1 .left), le-ltb _ _ (at-else3 .before .before .if2 .left), le-ltb _ _ (at-else3 .if3 .left), le-ltb _ _ (c .before .before .before .if4 .left), lt-ltb _ _ (c .before .if5 .taken)) (c .run5 .ensures)
 
 none-requires : tie.Need-none-requires
 none-requires c κs = search needs
 
 returns-6 : tie.Need-returns-6
 unfolding lineOf
-returns-6 c = rw (le-ltb _ _ (c .before .before .before .before .before .before .before .before .before .if1 .left), le-ltb _ _ (c .before .before .before .before .before .before .before .if2 .left), le-ltb _ _ (c .before .before .before .before .before .if3 .left), le-ltb _ _ (c .before .before .before .if4 .left), le-ltb _ _ (c .before .if5 .left)) (c .none .ensures)
+returns-6 c =
+    let at-else3 = c .before .before .before .before .before in
+    let at-else1 = at-else3 .before .before .before .before in
+    rw (le-ltb _ _ (at-else1 .if1 .left), le-ltb _ _ (at-else3 .before .before .if2 .left), le-ltb _ _ (at-else3 .if3 .left), le-ltb _ _ (c .before .before .before .if4 .left), le-ltb _ _ (c .before .if5 .left)) (c .none .ensures)
 
 pub run-spec : {M : Type 1} → statement M
 run-spec =

@@ -24,10 +24,12 @@ same-length c = search needs
 returns : tie.Need-returns
 unfolding intoTable
 returns c =
-    let a = c .before .before .before .before .before .before .before .before .before .args in
-    let e = c .before .before .before .before .before .passed .ensures in
+    let at-passed = c .before .before .before .before .before in
+    let at-start = at-passed .before .before .before .before in
+    let a = at-start .args in
+    let e = at-passed .passed .ensures in
     joined (fileNumbers (a .function) (a .file .now) (a .table .now)) (checksum (fileTable (a .function) (a .file .now) (a .table .now)) ∷ [])
-    (c .push .ensures ∙ ap (λ n. extended (c .before .before .before .before .before .passed .result) (n ∷ [])) (c .before .numbers-checksum .ensures ∙ ap checksum (e .1)))
+    (c .push .ensures ∙ ap (λ n. extended (at-passed .passed .result) (n ∷ [])) (c .before .numbers-checksum .ensures ∙ ap checksum (e .1)))
     (e .0)
 
 pub lent-spec : {M : Type 1} → statement M

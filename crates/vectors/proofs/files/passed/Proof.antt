@@ -13,7 +13,9 @@ same-length c = search needs
 
 returns : tie.Need-returns
 unfolding fileNumbers fileTable
-returns c = rw (eq-eqb _ _ (c .before .before .before .before .if1 .taken)) (c .before .before .run .ensures)
+returns c =
+    let at-then1 = c .before .before .before .before in
+    rw (eq-eqb _ _ (at-then1 .if1 .taken)) (c .before .before .run .ensures)
 
 run-requires-2 : tie.Need-run-requires-2
 run-requires-2 c κs = search needs
@@ -23,7 +25,9 @@ same-length-2 c = search needs
 
 returns-2 : tie.Need-returns-2
 unfolding fileNumbers fileTable
-returns-2 c = rw (ne-eqb _ _ (c .before .before .before .before .if1 .left)) (c .before .before .run2 .ensures)
+returns-2 c =
+    let at-else1 = c .before .before .before .before in
+    rw (ne-eqb _ _ (at-else1 .if1 .left)) (c .before .before .run2 .ensures)
 
 pub passed-spec : {M : Type 1} → statement M
 passed-spec =

@@ -24,7 +24,9 @@ array-borrow-prefix-space : tie.Need-array-borrow-prefix-space
 array-borrow-prefix-space c = search needs
 
 slice-aggregate-lent : tie.Need-slice-aggregate-lent
-slice-aggregate-lent c = sym (length-take-le (c .before .before .before .before .args .f .y) (c .before .space .result) (search needs))
+slice-aggregate-lent c =
+    let at-start = c .before .before .before .before in
+    sym (length-take-le (at-start .args .f .y) (c .before .space .result) (search needs))
 
 lent-requires : tie.Need-lent-requires
 lent-requires c κs = search needs
@@ -32,10 +34,11 @@ lent-requires c κs = search needs
 returns-2 : tie.Need-returns-2
 unfolding fileLine
 returns-2 c =
-    let a = c .before .before .before .before .before .before .args in
-    rw (le-ltb _ _ (c .before .before .before .before .if1 .left))
+    let at-else1 = c .before .before .before .before in
+    let a = at-else1 .before .before .args in
+    rw (le-ltb _ _ (at-else1 .if1 .left))
     (c .before .lent .ensures
-    ∙ ap (λ t. answered (intoTable (a .f .function) (a .file .now) t)) (ap (take (a .f .y)) (c .before .before .before .space .ensures) ∙ taken-space (a .f .y) (a .f .seed) (c .before .before .before .before .if1 .left)))
+    ∙ ap (λ t. answered (intoTable (a .f .function) (a .file .now) t)) (ap (take (a .f .y)) (c .before .before .before .space .ensures) ∙ taken-space (a .f .y) (a .f .seed) (at-else1 .if1 .left)))
 
 pub run-spec : {M : Type 1} → statement M
 run-spec =

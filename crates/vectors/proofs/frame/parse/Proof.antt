@@ -23,9 +23,10 @@ u64-at-requires-2 c κs = search needs
 
 returns : tie.Need-returns
 returns c =
+    let at-u32-at2 = c .before .before .before .before in
     rw (
-      c .before .before .before .before .before .u32-at .ensures,
-      c .before .before .before .before .u32-at2 .ensures,
+      at-u32-at2 .before .u32-at .ensures,
+      at-u32-at2 .u32-at2 .ensures,
       c .before .before .before .u32-at3 .ensures,
       c .before .before .u32-at4 .ensures,
       c .before .u64-at .ensures,

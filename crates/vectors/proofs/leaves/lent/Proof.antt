@@ -25,11 +25,13 @@ same-length c = search needs
 
 returns : tie.Need-returns
 returns c =
-    let f = c .before .before .before .before .before .before .before .before .before .before .before .before .args .f in
+    let at-store = c .before .before .before .before .before in
+    let at-fill = at-store .before .before .before .before in
+    let f = at-fill .before .before .before .args .f in
     c .one .ensures
     ∙ ap (λ n. answered (n ∷ []))
     (c .before .checksum .ensures
-    ∙ ap checksum (c .before .before .before .before .before .store .ensures ∙ ap (stored (f .function) (f .x) (f .y)) (c .before .before .before .before .before .before .before .before .before .fill .ensures)))
+    ∙ ap checksum (at-store .store .ensures ∙ ap (stored (f .function) (f .x) (f .y)) (at-fill .fill .ensures)))
 
 pub lent-spec : {M : Type 1} → statement M
 lent-spec =

@@ -16,7 +16,9 @@ same-length c = search needs
 
 returns : tie.Need-returns
 unfolding stored
-returns c = rw (eq-eqb _ _ (c .before .before .before .before .if1 .taken)) (c .before .before .put-u16 .ensures)
+returns c =
+    let at-then1 = c .before .before .before .before in
+    rw (eq-eqb _ _ (at-then1 .if1 .taken)) (c .before .before .put-u16 .ensures)
 
 cast-put-u32 : tie.Need-cast-put-u32
 cast-put-u32 c = search needs
@@ -29,7 +31,9 @@ same-length-2 c = search needs
 
 returns-2 : tie.Need-returns-2
 unfolding stored
-returns-2 c = rw (ne-eqb _ _ (c .before .before .before .before .before .if1 .left), eq-eqb _ _ (c .before .before .before .before .if2 .taken)) (c .before .before .put-u32 .ensures)
+returns-2 c =
+    let at-then2 = c .before .before .before .before in
+    rw (ne-eqb _ _ (at-then2 .before .if1 .left), eq-eqb _ _ (at-then2 .if2 .taken)) (c .before .before .put-u32 .ensures)
 
 put-u64-requires : tie.Need-put-u64-requires
 put-u64-requires c κs = search needs
@@ -39,7 +43,9 @@ same-length-3 c = search needs
 
 returns-3 : tie.Need-returns-3
 unfolding stored
-returns-3 c = rw (ne-eqb _ _ (c .before .before .before .before .before .if1 .left), ne-eqb _ _ (c .before .before .before .before .if2 .left)) (c .before .before .put-u64 .ensures)
+returns-3 c =
+    let at-else2 = c .before .before .before .before in
+    rw (ne-eqb _ _ (at-else2 .before .if1 .left), ne-eqb _ _ (at-else2 .if2 .left)) (c .before .before .put-u64 .ensures)
 
 pub store-spec : {M : Type 1} → statement M
 store-spec =

@@ -32,11 +32,13 @@ lent-requires c κs = search needs
 returns-2 : tie.Need-returns-2
 unfolding writtenLine
 returns-2 c =
-    let f = c .before .before .before .before .before .args .f in
+    let at-buffer = c .before .before .before .before in
+    let at-start = at-buffer .before in
+    let f = at-start .args .f in
     rw (le-ltb _ _ (c .before .before .before .if1 .left))
     (c .before .lent .ensures
     ∙ ap (λ n. answered (checksum (stored (f .function) (f .x) (f .y) (filling (f .seed) n)) ∷ []))
-    (length-take-le (c .before .before .before .before .before .args .len) (c .before .before .before .before .buffer .result) (search needs)))
+    (length-take-le (at-start .args .len) (at-buffer .buffer .result) (search needs)))
 
 pub written-spec : {M : Type 1} → statement M
 written-spec =

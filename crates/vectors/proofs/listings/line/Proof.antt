@@ -39,14 +39,16 @@ u32-at-requires-5 c κs = search needs
 returns : tie.Need-returns
 unfolding lineIn
 returns c =
-    let a = c .before .before .before .before .before .before .args in
+    let at-start = c .before .before .before .before .before .before in
+    let a = at-start .args in
     rw (c .before .before .u32-at .ensures, c .before .u32-at2 .ensures, c .u64-at .ensures)
     (ap (λ k. lineIn k (a .block .now) (a .fields .now)) (sym (c .before .before .before .match .keys1)))
 
 returns-2 : tie.Need-returns-2
 unfolding lineIn
 returns-2 c =
-    let a = c .before .before .before .before .before .args in
+    let at-start = c .before .before .before .before .before in
+    let a = at-start .args in
     rw (c .before .u32-at3 .ensures, c .parsed .ensures)
     (ap (λ k. lineIn k (a .block .now) (a .fields .now)) (sym (c .before .before .match .keys2)))
 
@@ -59,21 +61,24 @@ returns-3 c =
 returns-4 : tie.Need-returns-4
 unfolding lineIn
 returns-4 c =
-    let a = c .before .before .before .before .before .args in
+    let at-start = c .before .before .before .before .before in
+    let a = at-start .args in
     rw (c .before .u64-at2 .ensures, c .u64-at3 .ensures)
     (ap (λ k. lineIn k (a .block .now) (a .fields .now)) (sym (c .before .before .match .keys4)))
 
 returns-5 : tie.Need-returns-5
 unfolding lineIn
 returns-5 c =
-    let a = c .before .before .before .before .args in
+    let at-start = c .before .before .before .before in
+    let a = at-start .args in
     rw (c .u64-at4 .ensures)
     (ap (λ k. lineIn k (a .block .now) (a .fields .now)) (sym (c .before .match .keys5)))
 
 returns-6 : tie.Need-returns-6
 unfolding lineIn
 returns-6 c =
-    let a = c .before .before .before .before .before .args in
+    let at-start = c .before .before .before .before .before in
+    let a = at-start .args in
     rw (c .before .u32-at4 .ensures, c .u32-at5 .ensures)
     (ap (λ k. lineIn k (a .block .now) (a .fields .now)) (sym (c .before .before .match .keys6)))
 

@@ -20,8 +20,9 @@ same-length c = search needs
 returns : tie.Need-returns
 unfolding listNumbers listOutput listed
 returns c =
+    let at-then1 = c .before .before .before .before .before in
     let e = c .before .before .before .list .ensures in
-    rw (eq-eqb _ _ (c .before .before .before .before .before .if1 .taken)) (c .one .ensures ∙ ap (λ n. answered (n ∷ [])) (e .0), e .1)
+    rw (eq-eqb _ _ (at-then1 .if1 .taken)) (c .one .ensures ∙ ap (λ n. answered (n ∷ [])) (e .0), e .1)
 
 line-requires : tie.Need-line-requires
 line-requires c κs = search needs
@@ -38,8 +39,9 @@ same-length-2 c = search needs
 returns-2 : tie.Need-returns-2
 unfolding listNumbers listOutput listed
 returns-2 c =
+    let at-line = c .before .before .before .before in
     let e = c .before .before .before .put .ensures in
-    rw (ne-eqb _ _ (c .before .before .before .before .before .before .if1 .left), ← c .before .before .before .before .line .ensures) (c .one2 .ensures ∙ ap (λ n. answered (n ∷ [])) (e .0), e .1)
+    rw (ne-eqb _ _ (at-line .before .before .if1 .left), ← at-line .line .ensures) (c .one2 .ensures ∙ ap (λ n. answered (n ∷ [])) (e .0), e .1)
 
 pub run-spec : {M : Type 1} → statement M
 run-spec =

@@ -28,13 +28,16 @@ same-length c = search needs
 returns : tie.Need-returns
 unfolding intoOutput
 returns c =
-    let a = c .before .before .before .before .before .before .before .before .before .before .before .before .before .before .args in
-    let filled = c .before .before .before .before .before .before .before .before .before .fill .ensures in
-    let e = c .before .before .before .before .before .put .ensures in
+    let at-put = c .before .before .before .before .before in
+    let at-fill = at-put .before .before .before .before in
+    let at-start = at-fill .before .before .before .before .before in
+    let a = at-start .args in
+    let filled = at-fill .fill .ensures in
+    let e = at-put .put .ensures in
     let out = filling (a .f .seed) (length (a .out .now)) in
     joined (putNumbers (a .f) (a .first .now) (a .second .now) out) (checksum (putOutput (a .f) (a .first .now) (a .second .now) out) ∷ [])
     (c .push .ensures
-    ∙ ap (λ n. extended (c .before .before .before .before .before .put .result) (n ∷ []))
+    ∙ ap (λ n. extended (at-put .put .result) (n ∷ []))
     (c .before .checksum .ensures ∙ ap checksum (e .1 ∙ ap (putOutput (a .f) (a .first .now) (a .second .now)) filled)))
     (e .0 ∙ ap (λ o. answered (putNumbers (a .f) (a .first .now) (a .second .now) o)) filled)
 

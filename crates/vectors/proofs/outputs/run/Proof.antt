@@ -23,7 +23,9 @@ array-borrow-prefix-space : tie.Need-array-borrow-prefix-space
 array-borrow-prefix-space c = search needs
 
 slice-aggregate-lent : tie.Need-slice-aggregate-lent
-slice-aggregate-lent c = let a = c .before .before .before .before .before .args in sym (length-take-le (a .f .y) (c .before .space .result) (search needs))
+slice-aggregate-lent c =
+    let at-start = c .before .before .before .before .before in
+    let a = at-start .args in sym (length-take-le (a .f .y) (c .before .space .result) (search needs))
 
 lent-requires : tie.Need-lent-requires
 lent-requires c κs = search needs
@@ -31,8 +33,9 @@ lent-requires c κs = search needs
 returns-2 : tie.Need-returns-2
 unfolding outputLine
 returns-2 c =
-    let a = c .before .before .before .before .before .before .before .args in
-    rw (le-ltb _ _ (c .before .before .before .before .if1 .left))
+    let at-else1 = c .before .before .before .before in
+    let a = at-else1 .before .before .before .args in
+    rw (le-ltb _ _ (at-else1 .if1 .left))
     (c .before .lent .ensures
     ∙ ap (λ n. answered (intoOutput (a .f) (a .first .now) (a .second .now) (filling (a .f .seed) n))) (length-take-le (a .f .y) (c .before .before .before .space .result) (search needs)))
 

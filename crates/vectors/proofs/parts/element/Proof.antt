@@ -32,7 +32,9 @@ two-requires-3 c κs = search needs
 
 returns : tie.Need-returns
 unfolding sizeNumbers
-returns c = c .two .ensures ∙ ap (λ s. answered (sizeNumbers s)) (sym (c .before .before .n .given .1) ∙ c .before .before .before .before .size-of .ensures)
+returns c =
+    let at-size-of = c .before .before .before .before in
+    c .two .ensures ∙ ap (λ s. answered (sizeNumbers s)) (sym (c .before .before .n .given .1) ∙ at-size-of .size-of .ensures)
 
 returns-2 : tie.Need-returns-2
 unfolding sizeNumbers

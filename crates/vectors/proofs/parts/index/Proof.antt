@@ -3,12 +3,12 @@ use mathlib.Core.Path.{ap, _∙_}
 use mathlib.Core.List.{[], _∷_}
 use borrow.Author.Needs.{needs}
 use Rattle.body.specs.Body.{properties, indexOf}
+use Rattle.body.specs.declared.Index.{Index}
+use Rattle.body.specs.declared.Passed.{Passed}
 use Rattle.vectors.specs.Answers.{answered}
 use Rattle.vectors.specs.Buffers.{checksum}
 use Rattle.vectors.specs.Parts.{indexNumbers}
 use Rattle.vectors.proofs.Answers.{put-after}
-use Rattle.body.specs.declared.Index.{Index}
-use Rattle.body.specs.declared.Passed.{Passed}
 use Rattle.vectors.proofs.parts.index.Statement.{statement}
 use Rattle.vectors.proofs.parts.index.Tie as tie
 
@@ -39,13 +39,17 @@ push-requires c κs = search needs
 returns : tie.Need-returns
 unfolding indexNumbers
 returns c =
-    let w = properties (c .before .before .before .before .before .before .before .before .before .before .args .body .now) (c .before .before .before .before .before .before .before .before .before .before .args .count) in
-    let i = c .before .before .before .before .before .before .before .before .index-of .result in
-    let p = c .before .before .before .before .before .before .before .pass .result in
-    put-after (c .before .before .before .before .places-checksum .result ∷ []) (c .push .ensures) (c .before .four .ensures)
-    ∙ ap (λ n. answered (i .number ∷ i .count ∷ p .number ∷ p .at ∷ n ∷ [])) (c .before .before .before .before .places-checksum .ensures)
-    ∙ ap (λ (i : Index). answered (i .number ∷ i .count ∷ p .number ∷ p .at ∷ checksum (i .starts) ∷ [])) (c .before .before .before .before .before .before .before .before .index-of .ensures .0)
-    ∙ ap (λ (p : Passed). answered (indexOf w .number ∷ indexOf w .count ∷ p .number ∷ p .at ∷ checksum (indexOf w .starts) ∷ [])) (c .before .before .before .before .before .before .before .pass .ensures)
+    let at-places-checksum = c .before .before .before .before in
+    let at-pass = at-places-checksum .before .before .before in
+    let at-index-of = at-pass .before in
+    let at-start = at-index-of .before .before in
+    let w = properties (at-start .args .body .now) (at-start .args .count) in
+    let i = at-index-of .index-of .result in
+    let p = at-pass .pass .result in
+    put-after (at-places-checksum .places-checksum .result ∷ []) (c .push .ensures) (c .before .four .ensures)
+    ∙ ap (λ n. answered (i .number ∷ i .count ∷ p .number ∷ p .at ∷ n ∷ [])) (at-places-checksum .places-checksum .ensures)
+    ∙ ap (λ (i : Index). answered (i .number ∷ i .count ∷ p .number ∷ p .at ∷ checksum (i .starts) ∷ [])) (at-index-of .index-of .ensures .0)
+    ∙ ap (λ (p : Passed). answered (indexOf w .number ∷ indexOf w .count ∷ p .number ∷ p .at ∷ checksum (indexOf w .starts) ∷ [])) (at-pass .pass .ensures)
 
 pub index-spec : {M : Type 1} → statement M
 index-spec =

@@ -26,7 +26,9 @@ two-requires-2 c κs = search needs
 
 returns : tie.Need-returns
 unfolding numeralNumbers
-returns c = c .two .ensures ∙ ap (λ s. answered (numeralNumbers s)) (sym (c .before .before .n .given .1) ∙ c .before .before .before .before .numbered .ensures)
+returns c =
+    let at-numbered = c .before .before .before .before in
+    c .two .ensures ∙ ap (λ s. answered (numeralNumbers s)) (sym (c .before .before .n .given .1) ∙ at-numbered .numbered .ensures)
 
 returns-2 : tie.Need-returns-2
 unfolding numeralNumbers

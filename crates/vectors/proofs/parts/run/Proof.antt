@@ -83,7 +83,9 @@ returns-5 c = rw (c .before .before .match .keys5) (c .truth2 .ensures ∙ ap (�
 
 returns-6 : tie.Need-returns-6
 unfolding partLine
-returns-6 c = rw (c .before .before .before .match .keys6) (c .truth3 .ensures ∙ ap (λ b. answered (bit b ∷ [])) (c .before .may-stand .ensures ∙ ap (λ p. mayStand p (c .before .before .before .before .before .before .before .args .f .y % 4294967296)) (c .before .before .above .ensures)))
+returns-6 c =
+    let at-start = c .before .before .before .before .before .before .before in
+    rw (c .before .before .before .match .keys6) (c .truth3 .ensures ∙ ap (λ b. answered (bit b ∷ [])) (c .before .may-stand .ensures ∙ ap (λ p. mayStand p (at-start .args .f .y % 4294967296)) (c .before .before .above .ensures)))
 
 returns-7 : tie.Need-returns-7
 unfolding partLine

@@ -26,11 +26,15 @@ four-requires-2 c κs = search needs
 
 returns : tie.Need-returns
 unfolding stepNumbers
-returns c = c .four .ensures ∙ ap (λ s. answered (stepNumbers s)) (sym (c .before .before .property .given .1) ∙ c .before .before .before .before .step .ensures)
+returns c =
+    let at-step = c .before .before .before .before in
+    c .four .ensures ∙ ap (λ s. answered (stepNumbers s)) (sym (c .before .before .property .given .1) ∙ at-step .step .ensures)
 
 returns-2 : tie.Need-returns-2
 unfolding stepNumbers
-returns-2 c = c .four2 .ensures ∙ ap (λ s. answered (stepNumbers s)) (sym (c .before .before .number .given .1) ∙ c .before .before .before .before .step .ensures)
+returns-2 c =
+    let at-step = c .before .before .before .before in
+    c .four2 .ensures ∙ ap (λ s. answered (stepNumbers s)) (sym (c .before .before .number .given .1) ∙ at-step .step .ensures)
 
 pub step-spec : {M : Type 1} → statement M
 step-spec =

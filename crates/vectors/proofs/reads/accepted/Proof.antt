@@ -27,7 +27,8 @@ push-requires c κs = search needs
 returns : tie.Need-returns
 unfolding readingNumbers
 returns c =
-    let a = c .before .before .before .before .before .before .before .before .before .args .a in
+    let at-start = c .before .before .before .before .before .before .before .before .before in
+    let a = at-start .args .a in
     put-after (a .links ∷ []) (c .push .ensures)
     (put-after (a .known .0 ∷ a .unknown .0 ∷ a .faces .0 ∷ a .degenerate ∷ []) (c .before .before .push-four .ensures) (c .before .before .before .four .ensures))
 

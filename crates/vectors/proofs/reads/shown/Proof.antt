@@ -38,9 +38,10 @@ returns c = c .accepted .ensures ∙ ap (λ r. answered (readingNumbers r)) (sym
 returns-2 : tie.Need-returns-2
 unfolding readingNumbers
 returns-2 c =
+    let at-reading2 = c .before .before .before .before in
     put-after (0 ∷ []) (c .push .ensures)
     (put-after (0 ∷ 0 ∷ 0 ∷ 0 ∷ []) (c .before .push-four .ensures) (c .before .before .four .ensures))
-    ∙ ap (λ r. answered (readingNumbers r)) (sym (c .before .before .before .before .reading2 .given .1))
+    ∙ ap (λ r. answered (readingNumbers r)) (sym (at-reading2 .reading2 .given .1))
 
 pub shown-spec : {M : Type 1} → statement M
 shown-spec =

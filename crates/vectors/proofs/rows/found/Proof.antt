@@ -28,11 +28,13 @@ push-requires c κs = search needs
 returns : tie.Need-returns
 unfolding lookupNumbers
 returns c =
-    let a = c .before .before .before .before .before .before .before .before .args in
+    let at-place = c .before .before .before in
+    let at-start = at-place .before .before .before .before .before in
+    let a = at-start .args in
     let there = lookupOf (a .bytes .now) (a .table .now) (a .row) (a .name .now) in
     joined (foundNumbers there) (checksum (partOf (a .bytes .now) there) ∷ [])
-    (c .push .ensures ∙ ap (λ n. extended (c .before .before .before .place .result) (n ∷ [])) (c .before .checksum .ensures ∙ ap checksum (c .before .before .«data» .ensures)))
-    (c .before .before .before .place .ensures ∙ ap (λ f. answered (foundNumbers f)) (c .before .before .before .before .find .ensures .0))
+    (c .push .ensures ∙ ap (λ n. extended (at-place .place .result) (n ∷ [])) (c .before .checksum .ensures ∙ ap checksum (c .before .before .«data» .ensures)))
+    (at-place .place .ensures ∙ ap (λ f. answered (foundNumbers f)) (at-place .before .find .ensures .0))
 
 pub found-spec : {M : Type 1} → statement M
 found-spec =

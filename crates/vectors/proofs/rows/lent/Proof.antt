@@ -41,18 +41,24 @@ same-length c = search needs
 returns : tie.Need-returns
 unfolding tableNumbers
 returns c =
-    let a = c .before .before .before .before .before .before .before .before .before .before .before .before .before .before .before .before .before .before .before .before .before .before .before .args in
+    let at-clear = c .before .before .before .before .before in
+    let at-put-row = at-clear .before .before .before .before .before .before in
+    let at-parsed = at-put-row .before in
+    let at-seen = at-parsed .before .before in
+    let at-numbers = at-seen .before .before .before .before in
+    let at-start = at-numbers .before .before .before .before .before in
+    let a = at-start .args in
     let k = a .row in
     let t = numbersIn (a .numbers .now) (length (a .table .now)) in
     let new = withRow t k (rowIn (a .fields .now)) in
-    let read = c .before .before .before .before .before .before .before .before .before .before .before .before .before .before .before .before .before .before .numbers .ensures in
-    let put = c .before .before .before .before .before .before .before .before .before .before .before .put-row .ensures ∙ ap (λ t. withRow t k (c .before .before .before .before .before .before .before .before .before .before .before .before .parsed .result)) read ∙ ap (withRow t k) (c .before .before .before .before .before .before .before .before .before .before .before .before .parsed .ensures) in
-    let seen = c .before .before .before .before .before .before .before .before .before .before .before .before .before .before .seen .result in
+    let read = at-numbers .numbers .ensures in
+    let put = at-put-row .put-row .ensures ∙ ap (λ t. withRow t k (at-parsed .parsed .result)) read ∙ ap (withRow t k) (at-parsed .parsed .ensures) in
+    let seen = at-seen .seen .result in
     joined (seenNumbers t k) (checksum new ∷ checksum (cleared new) ∷ [])
     (c .push-two .ensures
-    ∙ ap (λ n. extended seen (n ∷ c .before .numbers-checksum2 .result ∷ [])) (c .before .before .before .before .before .before .before .numbers-checksum .ensures ∙ ap checksum put)
-    ∙ ap (λ n. extended seen (checksum new ∷ n ∷ [])) (c .before .numbers-checksum2 .ensures ∙ ap checksum (c .before .before .before .before .before .clear .ensures ∙ ap cleared put)))
-    (c .before .before .before .before .before .before .before .before .before .before .before .before .before .before .seen .ensures ∙ ap (λ t. answered (seenNumbers t k)) read)
+    ∙ ap (λ n. extended seen (n ∷ c .before .numbers-checksum2 .result ∷ [])) (at-clear .before .before .numbers-checksum .ensures ∙ ap checksum put)
+    ∙ ap (λ n. extended seen (checksum new ∷ n ∷ [])) (c .before .numbers-checksum2 .ensures ∙ ap checksum (at-clear .clear .ensures ∙ ap cleared put)))
+    (at-seen .seen .ensures ∙ ap (λ t. answered (seenNumbers t k)) read)
 
 pub lent-spec : {M : Type 1} → statement M
 lent-spec =

@@ -17,8 +17,10 @@ same-length c = search needs
 
 returns : tie.Need-returns
 returns c =
-    let a = c .before .before .before .before .before .before .before .before .before .before .args in
-    c .found .ensures ∙ ap (λ t. answered (lookupNumbers (a .bytes .now) t (a .row) (a .name .now))) (c .before .before .before .before .numbers .ensures)
+    let at-numbers = c .before .before .before .before in
+    let at-start = at-numbers .before .before .before .before .before .before in
+    let a = at-start .args in
+    c .found .ensures ∙ ap (λ t. answered (lookupNumbers (a .bytes .now) t (a .row) (a .name .now))) (at-numbers .numbers .ensures)
 
 pub lookup-spec : {M : Type 1} → statement M
 lookup-spec = tie.close (tie.spec numbers-requires found-requires same-length returns)

@@ -29,11 +29,12 @@ u32-at-requires-8 c κs = search needs
 
 returns : tie.Need-returns
 returns c =
+    let at-u32-at4 = c .before .before .before .before in
     rw (
-      c .before .before .before .before .before .before .before .u32-at .ensures,
-      c .before .before .before .before .before .before .u32-at2 .ensures,
-      c .before .before .before .before .before .u32-at3 .ensures,
-      c .before .before .before .before .u32-at4 .ensures,
+      at-u32-at4 .before .before .before .u32-at .ensures,
+      at-u32-at4 .before .before .u32-at2 .ensures,
+      at-u32-at4 .before .u32-at3 .ensures,
+      at-u32-at4 .u32-at4 .ensures,
       c .before .before .before .u32-at5 .ensures,
       c .before .before .u32-at6 .ensures,
       c .before .u32-at7 .ensures,

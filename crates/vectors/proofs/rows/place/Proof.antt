@@ -32,16 +32,18 @@ four-requires-2 c κs = search needs
 returns : tie.Need-returns
 unfolding placesOf
 returns c =
+    let at-number = c .before .before .before .before in
     let g = c .before .before .found .given in
-    let found = c .before .before .before .before .before .args .found in
+    let found = at-number .before .args .found in
     c .four .ensures
-    ∙ ap (λ n. answered (n ∷ 0 ∷ g .0 .0 ∷ g .0 .1 .0 ∷ [])) (c .before .before .before .before .number .ensures)
+    ∙ ap (λ n. answered (n ∷ 0 ∷ g .0 .0 ∷ g .0 .1 .0 ∷ [])) (at-number .number .ensures)
     ∙ ap (λ p. answered (numberOf found ∷ 0 ∷ placesOf p)) (sym (g .1))
 
 returns-2 : tie.Need-returns-2
 unfolding placesOf
 returns-2 c =
-    let found = c .before .before .before .before .args .found in
+    let at-start = c .before .before .before .before in
+    let found = at-start .args .found in
     c .four2 .ensures
     ∙ ap (λ n. answered (n ∷ 0 ∷ 0 ∷ 0 ∷ [])) (c .before .before .before .number .ensures)
     ∙ ap (λ p. answered (numberOf found ∷ 0 ∷ placesOf p)) (sym (c .before .enum-told .given .1))

@@ -4,8 +4,8 @@ use lib.Seq.{length-take-le}
 use borrow.Author.Tests.{lt-ltb, le-ltb}
 use borrow.Author.Needs.{needs}
 use Prim.Native.Nat.{_*_}
-use Rattle.vectors.specs.Rows.{queryLine}
 use Rattle.le.proofs.Laws.{rest-drop}
+use Rattle.vectors.specs.Rows.{queryLine}
 use Rattle.vectors.proofs.rows.query.Statement.{statement}
 use Rattle.vectors.proofs.rows.query.Tie as tie
 
@@ -33,7 +33,9 @@ array-borrow-prefix-space : tie.Need-array-borrow-prefix-space
 array-borrow-prefix-space c = search needs
 
 slice-aggregate-lookup : tie.Need-slice-aggregate-lookup
-slice-aggregate-lookup c = sym (length-take-le (c .before .before .before .before .before .before .args .n) (c .before .space .result) (search needs))
+slice-aggregate-lookup c =
+    let at-start = c .before .before .before .before .before .before in
+    sym (length-take-le (at-start .args .n) (c .before .space .result) (search needs))
 
 sub-lookup : tie.Need-sub-lookup
 sub-lookup c = search needs
@@ -50,9 +52,11 @@ lookup-requires c κs = search needs
 returns-3 : tie.Need-returns-3
 unfolding queryLine
 returns-3 c =
-    let a = c .before .before .before .before .before .before .before .before .before .args in
-    rw (le-ltb _ _ (c .before .before .before .before .before .before .if1 .left), le-ltb _ _ (c .before .before .before .before .before .if2 .left))
-    (rw (length-take-le (a .n) (c .before .before .before .before .space .result) (search needs), rest-drop (a .second .now) (a .n * 4)) at (c .before .lookup .ensures))
+    let at-space = c .before .before .before .before in
+    let at-start = at-space .before .before .before .before .before in
+    let a = at-start .args in
+    rw (le-ltb _ _ (at-space .before .before .if1 .left), le-ltb _ _ (at-space .before .if2 .left))
+    (rw (length-take-le (a .n) (at-space .space .result) (search needs), rest-drop (a .second .now) (a .n * 4)) at (c .before .lookup .ensures))
 
 pub query-spec : {M : Type 1} → statement M
 query-spec =

@@ -60,15 +60,18 @@ push-requires c κs = search needs
 returns : tie.Need-returns
 unfolding seenNumbers
 returns c =
-    let t = c .before .before .before .before .before .before .before .before .before .before .before .before .before .before .before .before .before .args .table .now in
-    let k = c .before .before .before .before .before .before .before .before .before .before .before .before .before .before .before .before .before .args .row in
-    let r = c .before .before .before .before .before .before .before .before .before .before .before .before .before .row-at .result in
+    let at-push-four = c .before .before .before .before .before .before .before .before in
+    let at-row-at = at-push-four .before .before .before .before .before in
+    let at-start = at-row-at .before .before .before .before in
+    let t = at-start .args .table .now in
+    let k = at-start .args .row in
+    let r = at-row-at .row-at .result in
     let b = c .before .bit .result in
     put-after (b ∷ []) (c .push .ensures)
     (put-after (r .start ∷ r .end ∷ r .properties ∷ r .children ∷ []) (c .before .before .before .push-four2 .ensures)
-    (put-after (r .kind ∷ r .low ∷ r .high ∷ r .parent ∷ []) (c .before .before .before .before .before .before .before .before .push-four .ensures) (c .before .before .before .before .before .before .before .before .before .before .before .before .before .before .truth .ensures)))
-    ∙ ap (λ h. answered (bit h ∷ (fields r ++ (b ∷ [])))) (c .before .before .before .before .before .before .before .before .before .before .before .before .before .before .before .has-row .ensures)
-    ∙ ap (λ r. answered (bit (hasRow t k) ∷ (fields r ++ (b ∷ [])))) (c .before .before .before .before .before .before .before .before .before .before .before .before .before .row-at .ensures)
+    (put-after (r .kind ∷ r .low ∷ r .high ∷ r .parent ∷ []) (at-push-four .push-four .ensures) (at-row-at .before .truth .ensures)))
+    ∙ ap (λ h. answered (bit h ∷ (fields r ++ (b ∷ [])))) (at-row-at .before .before .has-row .ensures)
+    ∙ ap (λ r. answered (bit (hasRow t k) ∷ (fields r ++ (b ∷ [])))) (at-row-at .row-at .ensures)
     ∙ ap (λ b. answered (bit (hasRow t k) ∷ (fields (rowAt t k) ++ (b ∷ [])))) (c .before .bit .ensures ∙ ap bit (c .before .before .has-room .ensures))
 
 pub seen-spec : {M : Type 1} → statement M

@@ -25,7 +25,9 @@ array-borrow-prefix-space : tie.Need-array-borrow-prefix-space
 array-borrow-prefix-space c = search needs
 
 slice-aggregate-lent : tie.Need-slice-aggregate-lent
-slice-aggregate-lent c = sym (length-take-le (length (c .before .before .before .before .before .args .numbers .now) / 4) (c .before .space .result) (search needs))
+slice-aggregate-lent c =
+    let at-start = c .before .before .before .before .before in
+    sym (length-take-le (length (at-start .args .numbers .now) / 4) (c .before .space .result) (search needs))
 
 lent-requires : tie.Need-lent-requires
 lent-requires c κs = search needs
@@ -33,8 +35,9 @@ lent-requires c κs = search needs
 returns-2 : tie.Need-returns-2
 unfolding tableLine
 returns-2 c =
-    let a = c .before .before .before .before .before .before .before .args in
-    rw (le-ltb _ _ (c .before .before .before .before .if1 .left))
+    let at-else1 = c .before .before .before .before in
+    let a = at-else1 .before .before .before .args in
+    rw (le-ltb _ _ (at-else1 .if1 .left))
     (c .before .lent .ensures
     ∙ ap (λ n. answered (tableNumbers (numbersIn (a .numbers .now) n) (a .row) (rowIn (a .fields .now)))) (length-take-le (length (a .numbers .now) / 4) (c .before .before .before .space .result) (search needs)))
 

@@ -36,12 +36,15 @@ same-length-2 c = search needs
 returns : tie.Need-returns
 unfolding trimNumbers
 returns c =
-    let a = c .before .before .before .before .before .before .before .before .before .before .before .before .before .before .before .args in
+    let at-with-written = c .before .before .before in
+    let at-trim = at-with-written .before .before .before .before .before .before in
+    let at-start = at-trim .before .before .before .before .before .before in
+    let a = at-start .args in
     let room = length (a .out .now) in
-    let e = c .before .before .before .before .before .before .before .before .before .trim .ensures in (
+    let e = at-trim .trim .ensures in (
       joined (writtenNumbers (trimmedOf (a .file .now) (a .row) (a .table .now) room)) (checksum (trimmedTable (a .file .now) (a .row) (a .table .now) room) ∷ [])
-          (c .push .ensures ∙ ap (λ n. extended (c .before .before .before .with-written .result) (n ∷ [])) (c .before .numbers-checksum .ensures ∙ ap checksum (e .2)))
-          (put-after (writtenNumbers (c .before .before .before .before .before .before .before .before .before .trim .result)) (c .before .before .before .with-written .ensures) (c .before .before .before .before .none .ensures)
+          (c .push .ensures ∙ ap (λ n. extended (at-with-written .with-written .result) (n ∷ [])) (c .before .numbers-checksum .ensures ∙ ap checksum (e .2)))
+          (put-after (writtenNumbers (at-trim .trim .result)) (at-with-written .with-written .ensures) (at-with-written .before .none .ensures)
           ∙ ap (λ w. answered (writtenNumbers w)) (e .0)),
       e .1,
     )

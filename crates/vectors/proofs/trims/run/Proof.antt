@@ -31,7 +31,9 @@ array-borrow-prefix-space : tie.Need-array-borrow-prefix-space
 array-borrow-prefix-space c = search needs
 
 slice-aggregate-lent : tie.Need-slice-aggregate-lent
-slice-aggregate-lent c = sym (length-take-le (c .before .before .before .before .u32-at .result) (c .before .before .space .result) (search needs))
+slice-aggregate-lent c =
+    let at-u32-at = c .before .before .before .before in
+    sym (length-take-le (at-u32-at .u32-at .result) (c .before .before .space .result) (search needs))
 
 lent-requires : tie.Need-lent-requires
 lent-requires c κs = search needs
@@ -42,11 +44,15 @@ same-length c = search needs
 returns-2 : tie.Need-returns-2
 unfolding trimLine trimOutput
 returns-2 c =
-    let a = c .before .before .before .before .before .before .before .before .before .before .before .before .args in
-    let n = c .before .before .before .before .before .before .before .before .u32-at .result in
-    let table = ap (take n) (c .before .before .before .before .before .before .space .ensures) ∙ taken-space n (a .f .seed) (c .before .before .before .before .before .before .before .if1 .left) in
+    let at-space = c .before .before .before .before .before .before in
+    let at-else1 = at-space .before in
+    let at-u32-at = at-else1 .before in
+    let at-start = at-u32-at .before .before .before .before in
+    let a = at-start .args in
+    let n = at-u32-at .u32-at .result in
+    let table = ap (take n) (at-space .space .ensures) ∙ taken-space n (a .f .seed) (at-else1 .if1 .left) in
     let e = c .before .before .before .lent .ensures in
-    rw (← c .before .before .before .before .before .before .before .before .u32-at .ensures, le-ltb _ _ (c .before .before .before .before .before .before .before .if1 .left)) (
+    rw (← at-u32-at .u32-at .ensures, le-ltb _ _ (at-else1 .if1 .left)) (
       e .0 ∙ ap (λ t. answered (trimNumbers (a .file .now) (a .f .x) t (length (a .out .now)))) table,
       e .1 ∙ ap (λ t. trimmedOutput (a .file .now) (a .f .x) t (a .out .now)) table,
     )

@@ -20,7 +20,8 @@ same-length c = search needs
 returns : tie.Need-returns
 unfolding walkNumbers walkTable
 returns c =
-    let room : hasRoom (c .before .before .before .before .before .before .args .table .now) ≡ false = sym (c .before .before .has-room .ensures) ∙ not-true _ (c .before .if1 .taken) in
+    let at-start = c .before .before .before .before .before .before in
+    let room : hasRoom (at-start .args .table .now) ≡ false = sym (c .before .before .has-room .ensures) ∙ not-true _ (c .before .if1 .taken) in
     rw room (c .four .ensures, refl)
 
 clear-requires : tie.Need-clear-requires
@@ -35,9 +36,11 @@ same-length-2 c = search needs
 returns-2 : tie.Need-returns-2
 unfolding walkNumbers walkTable
 returns-2 c =
-    let room : hasRoom (c .before .before .before .before .before .before .before .before .before .before .before .before .before .args .table .now) ≡ true = sym (c .before .before .before .before .before .before .before .before .before .has-room .ensures) ∙ not-false _ (c .before .before .before .before .before .before .before .before .if1 .left) in
+    let at-clear = c .before .before .before .before .before .before in
+    let at-start = at-clear .before .before .before .before .before .before .before in
+    let room : hasRoom (at-start .args .table .now) ≡ true = sym (at-clear .before .before .before .has-room .ensures) ∙ not-false _ (at-clear .before .before .if1 .left) in
     let e = c .before .before .walked .ensures in
-    rw room (e .0, e .1 ∙ ap (walkedTable (c .before .before .before .before .before .before .before .before .before .before .before .before .before .args .file .now)) (c .before .before .before .before .before .before .clear .ensures))
+    rw room (e .0, e .1 ∙ ap (walkedTable (at-start .args .file .now)) (at-clear .clear .ensures))
 
 pub run-spec : {M : Type 1} → statement M
 run-spec =

@@ -19,7 +19,8 @@ same-length c = search needs
 returns : tie.Need-returns
 unfolding walkedTable
 returns c =
-    let e = c .before .before .before .before .before .walk .ensures in
+    let at-walk = c .before .before .before .before .before in
+    let e = at-walk .walk .ensures in
     rw (← e .0, eq-eqb _ _ (c .before .if1 .taken)) (c .shown .ensures, e .1)
 
 clear-requires : tie.Need-clear-requires
@@ -34,8 +35,10 @@ same-length-2 c = search needs
 returns-2 : tie.Need-returns-2
 unfolding walkedTable
 returns-2 c =
-    let e = c .before .before .before .before .before .before .before .before .before .walk .ensures in
-    rw (← e .0, ne-eqb _ _ (c .before .before .before .before .before .if1 .left)) (c .shown2 .ensures, c .before .before .before .clear .ensures ∙ ap cleared (e .1))
+    let at-else1 = c .before .before .before .before .before in
+    let at-walk = at-else1 .before .before .before .before in
+    let e = at-walk .walk .ensures in
+    rw (← e .0, ne-eqb _ _ (at-else1 .if1 .left)) (c .shown2 .ensures, c .before .before .before .clear .ensures ∙ ap cleared (e .1))
 
 pub walked-spec : {M : Type 1} → statement M
 walked-spec =

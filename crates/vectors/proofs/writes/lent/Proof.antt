@@ -21,8 +21,10 @@ same-length-2 c = search needs
 
 returns : tie.Need-returns
 returns c =
-    let a = c .before .before .before .before .before .before .before .before .before .before .before .before .before .args in
-    let plan = c .before .before .before .before .before .before .before .numbers .ensures in
+    let at-numbers = c .before .before .before .before .before .before .before in
+    let at-start = at-numbers .before .before .before .before .before .before in
+    let a = at-start .args in
+    let plan = at-numbers .numbers .ensures in
     let e = c .before .before .planned .ensures in (
       e .0 ∙ ap (λ p. answered (planNumbers (a .f) (a .source .now) p (length (a .out .now)))) plan,
       e .1 ∙ ap (λ p. planOutput (a .f) (a .source .now) p (a .out .now)) plan,

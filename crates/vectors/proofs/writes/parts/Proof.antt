@@ -30,8 +30,9 @@ push-requires c κs = search needs
 returns : tie.Need-returns
 unfolding partsNumbers partsOutput
 returns c =
-    rw (← c .before .before .before .before .before .before .before .judge .ensures, ne-eqb _ _ (c .before .before .if1 .taken))
-    (put-after (0 ∷ []) (c .push .ensures) (put-after (0 ∷ 0 ∷ []) (c .before .push-two .ensures) (c .before .before .before .before .two .ensures)), refl)
+    let at-two = c .before .before .before .before in
+    rw (← at-two .before .before .before .judge .ensures, ne-eqb _ _ (c .before .before .if1 .taken))
+    (put-after (0 ∷ []) (c .push .ensures) (put-after (0 ∷ 0 ∷ []) (c .before .push-two .ensures) (at-two .two .ensures)), refl)
 
 emit-requires : tie.Need-emit-requires
 emit-requires c κs = search needs
@@ -45,10 +46,13 @@ same-length c = search needs
 returns-2 : tie.Need-returns-2
 unfolding partsNumbers partsOutput
 returns-2 c =
-    let j = c .before .before .before .before .before .before .before .before .before .before .judge .result in
-    let e = c .before .before .before .emit .ensures in
-    rw (← c .before .before .before .before .before .before .before .before .before .before .judge .ensures, eq-eqb _ _ (c .before .before .before .before .before .if1 .left)) (
-      put-after (writtenNumbers (c .before .before .before .emit .result)) (c .with-written .ensures) (c .before .before .before .before .before .before .before .two .ensures)
+    let at-emit = c .before .before .before in
+    let at-two = at-emit .before .before .before .before in
+    let at-judge = at-two .before .before .before in
+    let j = at-judge .judge .result in
+    let e = at-emit .emit .ensures in
+    rw (← at-judge .judge .ensures, eq-eqb _ _ (at-emit .before .before .if1 .left)) (
+      put-after (writtenNumbers (at-emit .emit .result)) (c .with-written .ensures) (at-two .two .ensures)
           ∙ ap (λ w. answered (j .number ∷ j .row ∷ writtenNumbers w)) (e .0),
       e .1,
     )

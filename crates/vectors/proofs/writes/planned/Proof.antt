@@ -26,9 +26,11 @@ same-length c = search needs
 returns : tie.Need-returns
 unfolding planNumbers planOutput
 returns c =
-    let e = c .before .before .before .write .ensures in
-    rw (eq-eqb _ _ (c .before .before .before .before .before .before .before .if1 .taken)) (
-      put-after (writtenNumbers (c .before .before .before .write .result)) (c .with-written .ensures) (c .before .before .before .before .before .none .ensures)
+    let at-write = c .before .before .before in
+    let at-then1 = at-write .before .before .before .before in
+    let e = at-write .write .ensures in
+    rw (eq-eqb _ _ (at-then1 .if1 .taken)) (
+      put-after (writtenNumbers (at-write .write .result)) (c .with-written .ensures) (at-write .before .before .none .ensures)
           ∙ ap (λ w. answered (writtenNumbers w)) (e .0),
       e .1,
     )
@@ -41,7 +43,9 @@ same-length-2 c = search needs
 
 returns-2 : tie.Need-returns-2
 unfolding planNumbers planOutput
-returns-2 c = rw (ne-eqb _ _ (c .before .before .before .before .if1 .left)) (c .before .before .parts .ensures)
+returns-2 c =
+    let at-else1 = c .before .before .before .before in
+    rw (ne-eqb _ _ (at-else1 .if1 .left)) (c .before .before .parts .ensures)
 
 pub planned-spec : {M : Type 1} → statement M
 planned-spec =

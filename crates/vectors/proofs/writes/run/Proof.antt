@@ -25,7 +25,9 @@ array-borrow-prefix-space : tie.Need-array-borrow-prefix-space
 array-borrow-prefix-space c = search needs
 
 slice-aggregate-lent : tie.Need-slice-aggregate-lent
-slice-aggregate-lent c = sym (length-take-le (length (c .before .before .before .before .before .before .before .args .numbers .now) / 4) (c .before .before .space .result) (search needs))
+slice-aggregate-lent c =
+    let at-start = c .before .before .before .before .before .before .before in
+    sym (length-take-le (length (at-start .args .numbers .now) / 4) (c .before .before .space .result) (search needs))
 
 lent-requires : tie.Need-lent-requires
 lent-requires c κs = search needs
@@ -36,11 +38,13 @@ same-length c = search needs
 returns-2 : tie.Need-returns-2
 unfolding writeNumbers writeOutput
 returns-2 c =
-    let a = c .before .before .before .before .before .before .before .before .before .before .before .args in
+    let at-space = c .before .before .before .before .before .before in
+    let at-start = at-space .before .before .before .before .before in
+    let a = at-start .args in
     let s = a .numbers .now in
-    let n = length-take-le (length s / 4) (c .before .before .before .before .before .before .space .result) (search needs) in
+    let n = length-take-le (length s / 4) (at-space .space .result) (search needs) in
     let e = c .before .before .before .lent .ensures in
-    rw (le-ltb _ _ (c .before .before .before .before .before .before .before .if1 .left)) (
+    rw (le-ltb _ _ (at-space .before .if1 .left)) (
       e .0 ∙ ap (λ n. answered (planNumbers (a .f) (a .source .now) (numbersIn s n) (length (a .out .now)))) n,
       e .1 ∙ ap (λ n. planOutput (a .f) (a .source .now) (numbersIn s n) (a .out .now)) n,
     )

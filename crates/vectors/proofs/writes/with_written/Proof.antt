@@ -21,7 +21,9 @@ push-requires : tie.Need-push-requires
 push-requires c κs = search needs
 
 returns : tie.Need-returns
-returns c = put-after (c .before .before .before .before .before .args .w .length ∷ []) (c .push .ensures) (c .before .before .push-two .ensures)
+returns c =
+    let at-start = c .before .before .before .before .before in
+    put-after (at-start .args .w .length ∷ []) (c .push .ensures) (c .before .before .push-two .ensures)
 
 pub with-written-spec : {M : Type 1} → statement M
 with-written-spec =

@@ -12,7 +12,9 @@ push-two-requires-2 : tie.Need-push-two-requires-2
 push-two-requires-2 c κs = search needs
 
 returns : tie.Need-returns
-returns c = put-after (c .before .before .args .c ∷ c .before .before .args .d ∷ []) (c .push-two2 .ensures) (c .before .push-two .ensures)
+returns c =
+    let at-start = c .before .before in
+    put-after (at-start .args .c ∷ at-start .args .d ∷ []) (c .push-two2 .ensures) (c .before .push-two .ensures)
 
 pub push-four-spec : {M : Type 1} → statement M
 push-four-spec = tie.close (tie.spec push-two-requires push-two-requires-2 returns)

@@ -12,7 +12,9 @@ push-two-requires : tie.Need-push-two-requires
 push-two-requires c κs = search needs
 
 returns : tie.Need-returns
-returns c = put-after (c .before .before .args .a ∷ c .before .before .args .b ∷ []) (c .push-two .ensures) (c .before .none .ensures)
+returns c =
+    let at-start = c .before .before in
+    put-after (at-start .args .a ∷ at-start .args .b ∷ []) (c .push-two .ensures) (c .before .none .ensures)
 
 pub two-spec : {M : Type 1} → statement M
 two-spec = tie.close (tie.spec none-requires push-two-requires returns)
