@@ -1,6 +1,7 @@
 pub mod Answers
 pub mod Buffers
 pub mod Cases
+pub mod Examples
 pub mod Files
 pub mod Frames
 pub mod Leaves
@@ -8,5 +9,6 @@ pub mod Listings
 pub mod Outputs
 pub mod Parts
 pub mod Rows
+pub mod Statements
 pub mod Trims
 pub mod Writes
