@@ -1,37 +1,38 @@
 // A file, and the table that is lent to what is done with it.
+use crate::answer::Answer;
 use crate::buffers;
 use crate::frame::Frame;
-use crate::print;
 use crate::reads;
 use crate::walks;
+ghost use mathlib.Core.Path.{_≡_};
+ghost use Rattle.vectors.specs.Answers.{answered};
+ghost use Rattle.vectors.specs.Files.{fileNumbers, fileTable, intoTable, fileLine};
 
 // 30, the walk, and 31, the reading: the file in the first block; a table of y numbers, each the seed.
-pub fn one(f: Frame, file: &[u8]) {
+pub fn run(f: Frame, file: &[u8]) -> Answer
+    ensures { λ r. ⌜ r ≡ answered (fileLine f (now (file .entry))) ⌝ }
+{
     let n = f.y as usize;
     if 8300 < n {
-        return;
+        return Answer::none();
     }
-    let mut space = [f.seed; 8300];
-    lent(f.function, &mut space, 8300 - n, file);
+    let mut space = buffers::space(f.seed);
+    lent(f.function, &mut space[..n], file)
 }
 
-// The table is what follows the first numbers.
-fn lent(function: u32, space: &mut [u32], first: usize, file: &[u8]) {
-    if space.len() < first {
-        return;
-    }
-    run(function, &mut space[first..], file);
+fn lent(function: u32, table: &mut [u32], file: &[u8]) -> Answer
+    ensures { λ r. ⌜ r ≡ answered (intoTable function (now (file .entry)) (now (table .entry))) ⌝ }
+{
+    let answer = passed(function, table, file);
+    answer.push(buffers::numbers_checksum(table))
 }
 
-fn run(function: u32, table: &mut [u32], file: &[u8]) {
-    answer(function, table, file);
-    print::next(buffers::numbers_checksum(table));
-}
-
-fn answer(function: u32, table: &mut [u32], file: &[u8]) {
+fn passed(function: u32, table: &mut [u32], file: &[u8]) -> Answer
+    ensures result { λ r. ⌜ r ≡ answered (fileNumbers function (now (file .entry)) (now (table .entry))) ⌝ }
+    ensures table { λ _. ⌜ now (table .exit) ≡ fileTable function (now (file .entry)) (now (table .entry)) ⌝ }
+{
     if function == 30 {
-        walks::one(table, file);
-        return;
+        return walks::run(table, file);
     }
-    reads::one(table, file);
+    reads::run(table, file)
 }

@@ -7,7 +7,7 @@
 //  16  u64  x (a row, a place, flags)
 //  24  u64  y (a buffer's length, a number)
 ghost use mathlib.Core.Path.{_≡_};
-ghost use Prim.Native.Nat.{_+_};
+ghost use Rattle.vectors.specs.Frames.{frameOf, bothOf};
 
 pub struct Frame {
     pub function: u32,
@@ -18,7 +18,9 @@ pub struct Frame {
     pub y: u64,
 }
 
-pub fn parse(header: &[u8]) -> Frame {
+pub fn parse(header: &[u8]) -> Frame
+    ensures { λ r. ⌜ r ≡ frameOf (now (header .entry)) ⌝ }
+{
     Frame {
         function: le::u32_at(header, 0),
         first: le::u32_at(header, 4),
@@ -31,7 +33,7 @@ pub fn parse(header: &[u8]) -> Frame {
 
 // How many bytes the blocks have.
 pub fn both(f: Frame) -> usize
-    ensures { λ r. ⌜ r ≡ f .first + f .second ⌝ }
+    ensures { λ r. ⌜ r ≡ bothOf f ⌝ }
 {
     f.first as usize + f.second as usize
 }

@@ -1,22 +1,26 @@
 // The listing of an input, and single lines of it, in a lent output.
+use crate::answer::Answer;
 use crate::frame::Frame;
-use crate::print;
 use crate::rows;
+ghost use mathlib.Core.Path.{_≡_};
+ghost use Rattle.vectors.specs.Answers.{answered};
+ghost use Rattle.vectors.specs.Listings.{lineIn, listNumbers, listOutput};
 
 // 32, the listing of the first block; 33, the line that x says, its numbers in the first block, 8 bytes each, and a row's in
 // the second.
-pub fn one(f: Frame, out: &mut [u8], first: &[u8], second: &[u8]) {
-    print::next(answer(f, out, first, second) as u64);
-}
-
-fn answer(f: Frame, out: &mut [u8], first: &[u8], second: &[u8]) -> usize {
+pub fn run(f: Frame, out: &mut [u8], first: &[u8], second: &[u8]) -> Answer
+    ensures result { λ r. ⌜ r ≡ answered (listNumbers f (now (first .entry)) (now (second .entry)) (now (out .entry))) ⌝ }
+    ensures output { λ _. ⌜ now (out .exit) ≡ listOutput f (now (first .entry)) (now (second .entry)) (now (out .entry)) ⌝ }
+{
     if f.function == 32 {
-        return listing::list(first, out);
+        return Answer::one(listing::list(first, out) as u64);
     }
-    listing::put(out, line(f.x, first, second))
+    Answer::one(listing::put(out, line(f.x, first, second)) as u64)
 }
 
-fn line(which: u64, block: &[u8], fields: &[u8]) -> listing::Line {
+fn line(which: u64, block: &[u8], fields: &[u8]) -> listing::Line
+    ensures { λ r. ⌜ r ≡ lineIn which (now (block .entry)) (now (fields .entry)) ⌝ }
+{
     match which {
         0 => listing::Line::Summary {
             flags: le::u32_at(block, 0),

@@ -1,19 +1,21 @@
 // Runs framed cases from standard input, and prints a line for each: the function's number, then its answer and a
 // checksum of each buffer that it was lent. frame.rt has the layout of a case.
+mod answer;
 mod buffers;
+mod cases;
 mod files;
 mod frame;
 mod leaves;
 mod listings;
 mod outputs;
 mod parts;
-mod print;
 mod reads;
 mod rows;
 mod trims;
 mod walks;
 mod writes;
 
+use crate::answer::Answer;
 use crate::frame::Frame;
 
 fn main() {
@@ -46,36 +48,30 @@ fn one_case(payload: &mut [u8]) -> bool {
     true
 }
 
-// The case's line: first the function's number, which says which part of the program knows it.
+// Runs a case whose blocks are the payload's first bytes, and prints its line.
 fn run(f: Frame, payload: &[u8]) {
     let first = f.first as usize;
     let n = frame::both(f);
     if payload.len() < n {
         return;
     }
-    print::number(f.function as u64);
-    dispatch(f, &payload[..first], &payload[first..n]);
-    io::write_all(1, b"\n");
+    print(
+        f.function,
+        cases::run(f, &payload[..first], &payload[first..n]),
+    );
 }
 
-fn dispatch(f: Frame, first: &[u8], second: &[u8]) {
-    if f.function < 10 {
-        leaves::numbers(f, first);
-        return;
+// A line: the function's number, and the answer's, each after a space.
+fn print(function: u32, answer: Answer) {
+    io::print_decimal(1, function as u64);
+    let numbers = answer.numbers;
+    let mut i: usize = 0;
+    while i < 12 {
+        if i < answer.count {
+            io::write_all(1, b" ");
+            io::print_decimal(1, numbers[i]);
+        }
+        i += 1;
     }
-    if f.function < 19 {
-        parts::one(f, first, second);
-        return;
-    }
-    if f.function < 30 {
-        rows::one(f, first, second);
-        return;
-    }
-    if f.function < 32 {
-        files::one(f, first);
-        return;
-    }
-    if f.function < 37 {
-        outputs::one(f, first, second);
-    }
+    io::write_all(1, b"\n");
 }

@@ -1,43 +1,51 @@
 // What puts bytes into a lent output: the listing, the writer and the trimmer.
+use crate::answer::Answer;
 use crate::buffers;
 use crate::frame::Frame;
 use crate::listings;
-use crate::print;
 use crate::trims;
 use crate::writes;
+ghost use mathlib.Core.Path.{_≡_};
+ghost use lib.ListN.{length};
+ghost use Rattle.vectors.specs.Answers.{answered};
+ghost use Rattle.vectors.specs.Buffers.{filling};
+ghost use Rattle.vectors.specs.Outputs.{putNumbers, putOutput, intoOutput, outputLine};
 
 // 32 to 36. The output has y bytes, filled by the seed.
-pub fn one(f: Frame, first: &[u8], second: &[u8]) {
+pub fn run(f: Frame, first: &[u8], second: &[u8]) -> Answer
+    ensures { λ r. ⌜ r ≡ answered (outputLine f (now (first .entry)) (now (second .entry))) ⌝ }
+{
     let n = f.y as usize;
     if 98304 < n {
-        return;
+        return Answer::none();
     }
-    let mut space = [0u8; 98304];
-    lent(f, &mut space, 98304 - n, first, second);
+    let mut space = space();
+    lent(f, &mut space[..n], first, second)
 }
 
-// The output is what follows the bytes before it.
-fn lent(f: Frame, space: &mut [u8], before: usize, first: &[u8], second: &[u8]) {
-    if space.len() < before {
-        return;
-    }
-    run(f, &mut space[before..], first, second);
+fn space() -> [u8; 98304] {
+    [0; 98304]
 }
 
-fn run(f: Frame, out: &mut [u8], first: &[u8], second: &[u8]) {
+fn lent(f: Frame, out: &mut [u8], first: &[u8], second: &[u8]) -> Answer
+    ensures { λ r. do
+      let out = filling (f .seed) (length (now (out .entry)))
+      ⌜ r ≡ answered (intoOutput f (now (first .entry)) (now (second .entry)) out) ⌝ }
+{
     buffers::fill(out, f.seed);
-    answer(f, out, first, second);
-    print::next(buffers::checksum(out));
+    let answer = put(f, out, first, second);
+    answer.push(buffers::checksum(out))
 }
 
-fn answer(f: Frame, out: &mut [u8], first: &[u8], second: &[u8]) {
+fn put(f: Frame, out: &mut [u8], first: &[u8], second: &[u8]) -> Answer
+    ensures result { λ r. ⌜ r ≡ answered (putNumbers f (now (first .entry)) (now (second .entry)) (now (out .entry))) ⌝ }
+    ensures output { λ _. ⌜ now (out .exit) ≡ putOutput f (now (first .entry)) (now (second .entry)) (now (out .entry)) ⌝ }
+{
     if f.function < 34 {
-        listings::one(f, out, first, second);
-        return;
+        return listings::run(f, out, first, second);
     }
     if f.function < 36 {
-        writes::one(f, out, first, second);
-        return;
+        return writes::run(f, out, first, second);
     }
-    trims::one(f, out, first, second);
+    trims::run(f, out, first, second)
 }

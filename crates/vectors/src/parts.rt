@@ -1,83 +1,104 @@
 // Properties, names and kinds, each by its number.
+use crate::answer::Answer;
 use crate::buffers;
 use crate::frame::Frame;
-use crate::print;
+ghost use mathlib.Core.Path.{_≡_};
+ghost use Rattle.props.specs.Types.{sizeOf};
+ghost use Rattle.props.specs.Step.{stepAt};
+ghost use Rattle.names.specs.Names.{numbered};
+ghost use Rattle.body.specs.Body.{properties};
+ghost use Rattle.vectors.specs.Answers.{answered};
+ghost use Rattle.vectors.specs.Parts.{sizeNumbers, nameLine, numeralNumbers, parentOf, stepNumbers, indexNumbers, partLine};
 
 // 10 a type's element size, 11 to 13 names, 14 and 15 kinds, 16 to 18 properties. Names and bodies are blocks; codes,
 // kinds and places are x and y.
-pub fn one(f: Frame, first: &[u8], second: &[u8]) {
+pub fn run(f: Frame, first: &[u8], second: &[u8]) -> Answer
+    ensures { λ r. ⌜ r ≡ answered (partLine f (now (first .entry)) (now (second .entry))) ⌝ }
+{
     let x = f.x;
-    let y = f.y;
     let low = (x % 4294967296) as u32;
-    let count = (y % 4294967296) as u32;
+    let count = (f.y % 4294967296) as u32;
     let function = f.function;
     match function {
         10 => element((x % 65536) as u16),
         11 => name(first),
-        12 => print::truth(names::same(first, second)),
+        12 => Answer::truth(names::same(first, second)),
         13 => numbered(first, second),
-        14 => print::truth(kinds::known(low)),
-        15 => print::truth(stands(x, count)),
+        14 => Answer::truth(kinds::known(low)),
+        15 => Answer::truth(kinds::may_stand(above(x), count)),
         16 => step(first, x as usize),
         17 => index(first, count),
-        _ => print::truth(body::exact(first, count)),
+        _ => Answer::truth(body::exact(first, count)),
     }
 }
 
 // A parent is one more than its kind, and none is 0.
-fn stands(parent: u64, kind: u32) -> bool {
+fn above(parent: u64) -> kinds::Parent
+    ensures { λ r. ⌜ r ≡ parentOf parent ⌝ }
+{
     if parent == 0 {
-        return kinds::may_stand(kinds::Parent::None, kind);
+        return kinds::Parent::None;
     }
-    let above = ((parent - 1) % 4294967296) as u32;
-    kinds::may_stand(kinds::Parent::Kind(above), kind)
+    let kind = ((parent - 1) % 4294967296) as u32;
+    kinds::Parent::Kind(kind)
 }
 
-fn element(code: u16) {
+fn element(code: u16) -> Answer
+    ensures { λ r. ⌜ r ≡ answered (sizeNumbers (sizeOf code)) ⌝ }
+{
     match props::size_of(code) {
-        props::Size::Bytes(n) => print::pair(1, n as u64),
-        props::Size::Text => print::pair(2, 0),
-        props::Size::NoSuch => print::pair(0, 0),
+        props::Size::Bytes(n) => Answer::two(1, n as u64),
+        props::Size::Text => Answer::two(2, 0),
+        props::Size::NoSuch => Answer::two(0, 0),
     }
 }
 
-fn name(bytes: &[u8]) {
+// More than 65,535 bytes are not asked about.
+fn name(bytes: &[u8]) -> Answer
+    ensures { λ r. ⌜ r ≡ answered (nameLine (now (bytes .entry))) ⌝ }
+{
     if 65535 < bytes.len() {
-        return;
+        return Answer::none();
     }
     let size = bytes.len() as u16;
-    print::truth(names::size_ok(size) & names::bytes_ok(bytes));
+    Answer::truth(names::size_ok(size) & names::bytes_ok(bytes))
 }
 
-fn numbered(name: &[u8], prefix: &[u8]) {
+fn numbered(name: &[u8], prefix: &[u8]) -> Answer
+    ensures { λ r. ⌜ r ≡ answered (numeralNumbers (numbered (now (name .entry)) (now (prefix .entry)))) ⌝ }
+{
     match names::numbered(name, prefix) {
-        names::Numeral::Is(n) => print::pair(1, n as u64),
-        names::Numeral::Not => print::pair(0, 0),
+        names::Numeral::Is(n) => Answer::two(1, n as u64),
+        names::Numeral::Not => Answer::two(0, 0),
     }
 }
 
-fn step(body: &[u8], at: usize) {
+fn step(body: &[u8], at: usize) -> Answer
+    ensures { λ r. ⌜ r ≡ answered (stepNumbers (stepAt (now (body .entry)) at)) ⌝ }
+{
     let cursor = props::Cursor { at };
     match cursor.step(body) {
         props::Step::Past { property, next } => {
             let name = property.name;
             let start = property.start;
             let end = next.at;
-            print::pair(0, name as u64);
-            print::pair(start as u64, end as u64);
+            Answer::four(0, name as u64, start as u64, end as u64)
         }
-        props::Step::Refused(number) => {
-            print::pair(number as u64, 0);
-            print::pair(0, 0);
-        }
+        props::Step::Refused(number) => Answer::four(number as u64, 0, 0, 0),
     }
 }
 
-fn index(body: &[u8], count: u32) {
+fn index(body: &[u8], count: u32) -> Answer
+    ensures { λ r. ⌜ r ≡ answered (indexNumbers (properties (now (body .entry)) count)) ⌝ }
+{
     let index = body::index_of(body, count);
     let passed = body::pass(body, count);
-    print::pair(index.number as u64, index.count as u64);
-    print::pair(passed.number as u64, passed.at as u64);
     let starts = index.starts;
-    print::next(buffers::places_checksum(&starts[..]));
+    let sum = buffers::places_checksum(&starts[..]);
+    Answer::four(
+        index.number as u64,
+        index.count as u64,
+        passed.number as u64,
+        passed.at as u64,
+    ).push(sum)
 }

@@ -1,33 +1,42 @@
 // The reading of a file into a table.
-use crate::print;
+use crate::answer::Answer;
+ghost use mathlib.Core.Path.{_≡_};
+ghost use Rattle.reader.specs.declared.Reading.the-variants.{Accepted};
+ghost use Rattle.reader.specs.Reading.{readingOf, tableAfter};
+ghost use Rattle.vectors.specs.Answers.{answered};
+ghost use Rattle.vectors.specs.Files.{readingNumbers};
 
-pub fn one(table: &mut [u32], file: &[u8]) {
-    show(reader::read(file, table));
+pub fn run(table: &mut [u32], file: &[u8]) -> Answer
+    ensures result { λ r. ⌜ r ≡ answered (readingNumbers (readingOf (now (file .entry)) (now (table .entry)))) ⌝ }
+    ensures table { λ _. ⌜ now (table .exit) ≡ tableAfter (now (file .entry)) (now (table .entry)) ⌝ }
+{
+    shown(reader::read(file, table))
 }
 
 // All nine numbers of an answer.
-fn show(reading: reader::Reading) {
+fn shown(reading: reader::Reading) -> Answer
+    ensures { λ r. ⌜ r ≡ answered (readingNumbers reading) ⌝ }
+{
     match reading {
-        reader::Reading::Accepted(account) => {
-            print::pair(0, 0);
-            shown(account);
-        }
-        reader::Reading::Refused { number, place } => {
-            print::pair(number as u64, place as u64);
-            print::pair(0, 0);
-            print::pair(0, 0);
-            print::pair(0, 0);
-            print::next(0);
-        }
+        reader::Reading::Accepted(a) => accepted(a),
+        reader::Reading::Refused { number, place } => Answer::four(
+                number as u64,
+                place as u64,
+                0,
+                0,
+            )
+            .push_four(0, 0, 0, 0)
+            .push(0),
     }
 }
 
-fn shown(a: reader::Account) {
+fn accepted(a: reader::Account) -> Answer
+    ensures { λ r. ⌜ r ≡ answered (readingNumbers (Accepted a)) ⌝ }
+{
     let known = a.known;
     let unknown = a.unknown;
     let faces = a.faces;
-    print::pair(a.nodes as u64, a.flags as u64);
-    print::pair(known.0, unknown.0);
-    print::pair(faces.0, a.degenerate);
-    print::next(a.links as u64);
+    Answer::four(0, 0, a.nodes as u64, a.flags as u64)
+        .push_four(known.0, unknown.0, faces.0, a.degenerate)
+        .push(a.links as u64)
 }

@@ -1,6 +1,6 @@
 -- `vectors::run`: both blocks are there.
-use lib.Seq.{length-take-le}
 use mathlib.Core.Path.{sym}
+use lib.Seq.{length-take-le}
 use borrow.Author.Needs.{needs}
 use Rattle.vectors.proofs.run.Statement.{statement}
 use Rattle.vectors.proofs.run.Tie as tie
@@ -14,34 +14,25 @@ both-requires c κs = search needs
 returns : tie.Need-returns
 returns c = search needs
 
-cast-number : tie.Need-cast-number
-cast-number c = search needs
+slice-aggregate-run : tie.Need-slice-aggregate-run
+slice-aggregate-run c =
+    let at-start = c .before .before .before .before .before in
+    sym (length-take-le (at-start .args .f .first) (at-start .args .payload .now) (search needs))
 
-number-requires : tie.Need-number-requires
-number-requires c κs = search needs
+sub-run : tie.Need-sub-run
+sub-run c = search needs
 
-slice-aggregate-dispatch : tie.Need-slice-aggregate-dispatch
-slice-aggregate-dispatch c =
-    let b = c .before .before .before .before .before .before .before in
-    sym (length-take-le (b .args .f .first) (b .args .payload .now) (search needs))
+part-run-start : tie.Need-part-run-start
+part-run-start c = search needs
 
-sub-dispatch : tie.Need-sub-dispatch
-sub-dispatch c = search needs
+part-run-end : tie.Need-part-run-end
+part-run-end c = search needs
 
-part-dispatch-start : tie.Need-part-dispatch-start
-part-dispatch-start c = search needs
+run-requires : tie.Need-run-requires
+run-requires c κs = search needs
 
-part-dispatch-end : tie.Need-part-dispatch-end
-part-dispatch-end c = search needs
-
-dispatch-requires : tie.Need-dispatch-requires
-dispatch-requires c κs = search needs
-
-slice-aggregate-write-all : tie.Need-slice-aggregate-write-all
-slice-aggregate-write-all c = search needs
-
-write-all-requires : tie.Need-write-all-requires
-write-all-requires c κs = search needs
+print-requires : tie.Need-print-requires
+print-requires c κs = search needs
 
 returns-2 : tie.Need-returns-2
 returns-2 c = search needs
@@ -53,13 +44,10 @@ run-spec =
     cast-first
     both-requires
     returns
-    cast-number
-    number-requires
-    slice-aggregate-dispatch
-    sub-dispatch
-    part-dispatch-start
-    part-dispatch-end
-    dispatch-requires
-    slice-aggregate-write-all
-    write-all-requires
+    slice-aggregate-run
+    sub-run
+    part-run-start
+    part-run-end
+    run-requires
+    print-requires
     returns-2)

@@ -1,20 +1,26 @@
--- `vectors::buffers::numbers`: what is left of the numbers falls.
-use borrow.Author.Needs.{needs}
+-- `vectors::buffers::numbers`: the numbers that are read, and those that are left to read, are the whole.
+use mathlib.Core.Path.{refl, ap, sym, _≡_, _∙_}
+use mathlib.Core.List.{_∷_, _++_}
 use native.Mathlib.Omega.{arith}
-use mathlib.Core.Path.{_≡_}
-use Prim.Native.Nat.{_≤_, _-_}
-use lib.ListN.{length, length-set}
+use lib.ListN.{length, take, length-set}
+use borrow.Author.Needs.{needs}
+use Prim.Native.Nat.{_+_, _-_, _≤_, _<_}
+use Rattle.vectors.specs.Buffers.{numbersIn, numbersFrom}
+use Rattle.vectors.proofs.Lent.{stored-more, stored-all, numbers-more, numbers-none}
 use Rattle.vectors.proofs.buffers.numbers.Statement.{statement}
 use Rattle.vectors.proofs.buffers.numbers.Tie as tie
 
 abbrev Inv-loop : tie.InvT-loop
-Inv-loop out₀ bytes i₀ out i = (i ≤ length out) × (length out ≡ length out₀)
+Inv-loop out₀ bytes i₀ out i = (i ≤ length out) × (length out ≡ length out₀) × (take i out ++ numbersFrom bytes i (length out₀ - i) ≡ numbersIn bytes (length out₀))
 
 abbrev μ-loop : tie.MeasureT-loop
 μ-loop out₀ bytes i₀ out i = length out - i
 
 loop-holds : tie.Need-loop-holds Inv-loop μ-loop
-loop-holds c = search needs
+loop-holds c =
+    let a = c .before .before .args in
+    let all : length (a .out .now) - 0 ≡ length (a .out .now) = omega arith in
+    (omega arith, refl, ap (numbersFrom (a .bytes .now) 0) all)
 
 mul-u32-at : tie.Need-mul-u32-at Inv-loop μ-loop
 mul-u32-at c = search needs
@@ -35,13 +41,28 @@ loop-less : tie.Need-loop-less Inv-loop μ-loop
 loop-less c = simp length-set (omega arith)
 
 loop-again : tie.Need-loop-again Inv-loop μ-loop
-loop-again c = (simp length-set (omega arith), simp length-set (omega arith))
+loop-again c =
+    let at-start = c .before .before .before .before .before in
+    let l = c .before .before .loop in
+    let s = at-start .args .bytes .now in
+    let n = length (at-start .args .out .now) in
+    let h : l .i < length (l .out) = omega arith in
+    let k : l .i < n = omega arith in
+    let rest = numbersFrom s (l .i + 1) (n - (l .i + 1)) in
+    (simp length-set (omega arith), simp length-set (omega arith), stored-more (l .out) (l .i) (c .u32-at .result) rest h (ap (λ x. take (l .i) (l .out) ++ (x ∷ rest)) (c .u32-at .ensures) ∙ ap (λ r. take (l .i) (l .out) ++ r) (sym (numbers-more n (l .i) s k)) ∙ l .inv .2))
 
 same-length : tie.Need-same-length Inv-loop μ-loop
 same-length c = search needs
 
 returns : tie.Need-returns Inv-loop μ-loop
-returns c = search needs
+returns c =
+    let at-start = c .before .before .before .before in
+    let l = c .before .loop in
+    let s = at-start .args .bytes .now in
+    let n = length (at-start .args .out .now) in
+    let h : length (l .out) ≤ l .i = omega arith in
+    let k : n ≤ l .i = omega arith in
+    stored-all (l .out) (l .i) h (ap (λ r. take (l .i) (l .out) ++ r) (sym (numbers-none n (l .i) s k)) ∙ l .inv .2)
 
 pub numbers-spec : {M : Type 1} → statement M
 numbers-spec =

@@ -1,31 +1,35 @@
--- `vectors::buffers::numbers_checksum`: what is left of the numbers falls.
+-- `vectors::buffers::numbers_checksum`: the sum so far, taken on over the rest, is that of the whole.
+use mathlib.Core.Path.{refl, sym, _≡_, _∙_}
 use native.Mathlib.Omega.{arith}
+use lib.ListN.{length, drop}
 use borrow.Author.Needs.{needs}
-use Prim.Native.Nat.{_≤_, _-_}
-use lib.ListN.{length}
+use Prim.Native.Nat.{_-_, _≤_, _<_}
+use Rattle.vectors.specs.Buffers.{checksum, checksumFrom}
+use Rattle.vectors.proofs.Lent.{sum-more, sum-all}
 use Rattle.vectors.proofs.buffers.numbers_checksum.Statement.{statement}
 use Rattle.vectors.proofs.buffers.numbers_checksum.Tie as tie
 
 abbrev Inv-loop : tie.InvT-loop
-Inv-loop numbers sum₀ i₀ sum i = i ≤ length numbers
+Inv-loop numbers sum₀ i₀ sum i = (i ≤ length numbers) × (checksumFrom sum (drop i numbers) ≡ checksum numbers)
 
 abbrev μ-loop : tie.MeasureT-loop
 μ-loop numbers sum₀ i₀ sum i = length numbers - i
 
 loop-holds : tie.Need-loop-holds Inv-loop μ-loop
-loop-holds c = search needs
+unfolding checksum
+loop-holds c = (omega arith, refl)
 
-mul-with : tie.Need-mul-with Inv-loop μ-loop
-mul-with c = search needs
+mul-taking : tie.Need-mul-taking Inv-loop μ-loop
+mul-taking c = search needs
 
-shared-slice-read-with : tie.Need-shared-slice-read-with Inv-loop μ-loop
-shared-slice-read-with c = search needs
+shared-slice-read-taking : tie.Need-shared-slice-read-taking Inv-loop μ-loop
+shared-slice-read-taking c = search needs
 
-cast-with : tie.Need-cast-with Inv-loop μ-loop
-cast-with c = omega (arith, c .shared-slice-known2 .given (c .before .before .loop .i))
+cast-taking : tie.Need-cast-taking Inv-loop μ-loop
+cast-taking c = omega (arith, c .shared-slice-known2 .given (c .before .before .loop .i))
 
-with-requires : tie.Need-with-requires Inv-loop μ-loop
-with-requires c κs = search needs
+taking-requires : tie.Need-taking-requires Inv-loop μ-loop
+taking-requires c κs = search needs
 
 add-i : tie.Need-add-i Inv-loop μ-loop
 add-i c = search needs
@@ -34,10 +38,19 @@ loop-less : tie.Need-loop-less Inv-loop μ-loop
 loop-less c = search needs
 
 loop-again : tie.Need-loop-again Inv-loop μ-loop
-loop-again c = search needs
+loop-again c =
+    let at-start = c .before .before .before .before .before in
+    let l = c .before .before .before .loop in
+    let ns = at-start .args .numbers .now in
+    let h : l .i < length ns = omega arith in
+    (omega arith, sym (sum-more ns (l .i) (l .sum) h (c .taking .ensures)) ∙ l .inv .1)
 
 returns : tie.Need-returns Inv-loop μ-loop
-returns c = search needs
+returns c =
+    let l = c .before .loop in
+    let ns = c .before .before .before .args .numbers .now in
+    let h : length ns ≤ l .i = omega arith in
+    sym (sum-all ns (l .i) (l .sum) h) ∙ l .inv .1
 
 pub numbers-checksum-spec : {M : Type 1} → statement M
 numbers-checksum-spec =
@@ -46,10 +59,10 @@ numbers-checksum-spec =
     Inv-loop
     μ-loop
     loop-holds
-    mul-with
-    shared-slice-read-with
-    cast-with
-    with-requires
+    mul-taking
+    shared-slice-read-taking
+    cast-taking
+    taking-requires
     add-i
     loop-less
     loop-again

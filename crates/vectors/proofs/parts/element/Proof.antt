@@ -1,0 +1,61 @@
+-- `vectors::parts::element`: each case of a size.
+use mathlib.Core.Path.{ap, sym, _∙_}
+use borrow.Author.Needs.{needs}
+use Rattle.vectors.specs.Answers.{answered}
+use Rattle.vectors.specs.Parts.{sizeNumbers}
+use Rattle.vectors.proofs.parts.element.Statement.{statement}
+use Rattle.vectors.proofs.parts.element.Tie as tie
+
+size-of-requires : tie.Need-size-of-requires
+size-of-requires c κs = search needs
+
+enum-known-n : tie.Need-enum-known-n
+enum-known-n c = search needs
+
+cast-two : tie.Need-cast-two
+cast-two c = search needs
+
+two-requires : tie.Need-two-requires
+two-requires c κs = search needs
+
+enum-told : tie.Need-enum-told
+enum-told c = search needs
+
+two-requires-2 : tie.Need-two-requires-2
+two-requires-2 c κs = search needs
+
+enum-told-2 : tie.Need-enum-told-2
+enum-told-2 c = search needs
+
+two-requires-3 : tie.Need-two-requires-3
+two-requires-3 c κs = search needs
+
+returns : tie.Need-returns
+unfolding sizeNumbers
+returns c =
+    let at-size-of = c .before .before .before .before in
+    c .two .ensures ∙ ap (λ s. answered (sizeNumbers s)) (sym (c .before .before .n .given .1) ∙ at-size-of .size-of .ensures)
+
+returns-2 : tie.Need-returns-2
+unfolding sizeNumbers
+returns-2 c = c .two2 .ensures ∙ ap (λ s. answered (sizeNumbers s)) (sym (c .before .enum-told .given .1) ∙ c .before .before .before .size-of .ensures)
+
+returns-3 : tie.Need-returns-3
+unfolding sizeNumbers
+returns-3 c = c .two3 .ensures ∙ ap (λ s. answered (sizeNumbers s)) (sym (c .before .enum-told2 .given .1) ∙ c .before .before .before .size-of .ensures)
+
+pub element-spec : {M : Type 1} → statement M
+element-spec =
+    tie.close
+    (tie.spec
+    size-of-requires
+    enum-known-n
+    cast-two
+    two-requires
+    enum-told
+    two-requires-2
+    enum-told-2
+    two-requires-3
+    returns
+    returns-2
+    returns-3)

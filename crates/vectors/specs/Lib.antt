@@ -1,0 +1,14 @@
+pub mod Answers
+pub mod Buffers
+pub mod Cases
+pub mod Examples
+pub mod Files
+pub mod Frames
+pub mod Leaves
+pub mod Listings
+pub mod Outputs
+pub mod Parts
+pub mod Rows
+pub mod Statements
+pub mod Trims
+pub mod Writes
