@@ -25,7 +25,7 @@ use Rattle.lookup.specs.declared.Found.the-variants.{At}
 use Rattle.lookup.specs.declared.Found.the-variants.{Refused as Refused′}
 use Rattle.lookup.specs.Lookup.{lookupOf, partOf}
 use Rattle.vectors.specs.declared.frame.Frame.{Frame}
-use Rattle.vectors.specs.Answers.{answered}
+use Rattle.vectors.specs.Answers.{answered, toldBy}
 use Rattle.vectors.specs.Buffers.{numbersIn, checksum}
 use Rattle.vectors.specs.Cases.{lineOf}
 use Rattle.vectors.specs.Files.{walkNumbers, readingNumbers, fileNumbers, intoTable, fileLine}
@@ -142,7 +142,7 @@ line f first second =
 
 -- ---- all of them are in the answer
 
-pub has-all : (ns : List ℕ) → length ns ≤ 12 → take (answered ns .count) (answered ns .numbers) ≡ ns
+pub has-all : (ns : List ℕ) → length ns ≤ 12 → toldBy (answered ns) ≡ ns
 has-all ns h =
     let zeros : List ℕ = replicate 12 0 in
     ap (λ k. take k (sets zeros 0 ns)) (min-eq-right {n = length ns} {m = 12} h)
