@@ -25,7 +25,7 @@ use Rattle.lookup.specs.declared.Found.the-variants.{At}
 use Rattle.lookup.specs.declared.Found.the-variants.{Refused as Refused′}
 use Rattle.lookup.specs.Lookup.{lookupOf, partOf}
 use Rattle.vectors.specs.declared.frame.Frame.{Frame}
-use Rattle.vectors.specs.Answers.{answered}
+use Rattle.vectors.specs.Answers.{answered, toldBy}
 use Rattle.vectors.specs.Buffers.{numbersIn, checksum}
 use Rattle.vectors.specs.Cases.{lineOf}
 use Rattle.vectors.specs.Files.{walkNumbers, readingNumbers, fileNumbers, intoTable, fileLine}
@@ -36,7 +36,7 @@ use Rattle.vectors.specs.Parts.{sizeNumbers, nameLine, numeralNumbers, s
 use Rattle.vectors.specs.Rows.{placesOf, foundNumbers, seenNumbers, tableNumbers, tableLine, lookupNumbers, queryLine, rowLine}
 use Rattle.vectors.specs.Statements.{HasAll}
 use Rattle.vectors.specs.Trims.{trimNumbers, trimLine}
-use Rattle.vectors.specs.Writes.{firstRows, partsNumbers, planNumbers, writeNumbers}
+use Rattle.vectors.specs.Writes.{firstOf, partsNumbers, planNumbers, writeNumbers}
 
 -- a list of at most m numbers
 record AtMost (m : ℕ) (ns : List ℕ) : Type 0 where
@@ -119,7 +119,7 @@ unfolding writeNumbers planNumbers partsNumbers
 write f s block room =
     either (ltb 8300 (length block / 4)) (short (omega arith))
     (either (eqb (f .function) 34) (short (omega arith))
-    (two-more (either (eqb (judged s (firstRows (numbersIn block (length block / 4)) (f .x)) .number) 0) (short (omega arith)) (short (omega arith)))))
+    (two-more (either (eqb (judged s (firstOf (numbersIn block (length block / 4)) (f .x)) .number) 0) (short (omega arith)) (short (omega arith)))))
 
 trim : (f : Frame) (s block : List ℕ) (room : ℕ) → AtMost 11 (trimLine f s block room)
 unfolding trimLine trimNumbers
@@ -142,7 +142,7 @@ line f first second =
 
 -- ---- all of them are in the answer
 
-pub has-all : (ns : List ℕ) → length ns ≤ 12 → take (answered ns .count) (answered ns .numbers) ≡ ns
+pub has-all : (ns : List ℕ) → length ns ≤ 12 → toldBy (answered ns) ≡ ns
 has-all ns h =
     let zeros : List ℕ = replicate 12 0 in
     ap (λ k. take k (sets zeros 0 ns)) (min-eq-right {n = length ns} {m = 12} h)

@@ -35,5 +35,6 @@ unfoldable pub checksumFrom : (sum : ℕ) → List ℕ → ℕ
 checksumFrom sum [] = sum
 checksumFrom sum (n ∷ ns) = checksumFrom (taking sum n) ns
 
+-- from its first value on
 unfoldable pub checksum : List ℕ → ℕ
 checksum ns = checksumFrom 2166136261 ns

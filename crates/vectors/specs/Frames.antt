@@ -4,6 +4,7 @@ use Prim.Native.Nat.{ℕ, _+_}
 use Rattle.le.specs.Le.{numberAt}
 use Rattle.vectors.specs.declared.frame.Frame.{Frame}
 
+-- the layout that src/frame.rt gives
 abbrev pub frameOf : List ℕ → Frame
 frameOf s = record {
   function = numberAt 4 s 0;

@@ -10,6 +10,7 @@ use Rattle.vectors.specs.Listings.{listNumbers, listOutput}
 use Rattle.vectors.specs.Trims.{trimLine, trimOutput}
 use Rattle.vectors.specs.Writes.{writeNumbers, writeOutput}
 
+-- 32 and 33, 34 and 35, and every other number as 36
 unfoldable pub putNumbers : Frame → (first second out : List ℕ) → List ℕ
 putNumbers f first second out =
     cond (ltb (f .function) 34) (listNumbers f first second out)

@@ -19,19 +19,19 @@ writtenNumbers w = w .number ∷ w .place ∷ w .length ∷ []
 -- ---- 35: the first rows of a table, at most 1,024, judged as a plan and then emitted; what is refused is not emitted, and
 -- zeros stand for that answer
 
-abbrev pub firstRows : (plan : List ℕ) (n : ℕ) → List Row
-firstRows plan n = rowsAt plan 0 (min n 1024)
+abbrev pub firstOf : (plan : List ℕ) (n : ℕ) → List Row
+firstOf plan n = rowsAt plan 0 (min n 1024)
 
 unfoldable pub partsNumbers : (plan : List ℕ) (n flags : ℕ) (s : List ℕ) (room : ℕ) → List ℕ
 partsNumbers plan n flags s room =
-    let rows = firstRows plan n in
+    let rows = firstOf plan n in
     let judgement = judged s rows in
     judgement .number ∷ judgement .row ∷
     cond (eqb (judgement .number) 0) (writtenNumbers (emission flags s rows room)) (0 ∷ 0 ∷ 0 ∷ [])
 
 unfoldable pub partsOutput : (plan : List ℕ) (n flags : ℕ) (s out : List ℕ) → List ℕ
 partsOutput plan n flags s out =
-    let rows = firstRows plan n in
+    let rows = firstOf plan n in
     cond (eqb (judged s rows .number) 0) (outputOf flags s rows out) out
 
 -- ---- 34, whose flags are x; and every other number as 35, whose rows are the first x, and whose flags are the seed
