@@ -15,7 +15,7 @@ pub account-same : (a b : Account) → Accepted a ≡ Accepted b → b ≡ a
 account-same a b e = cc
 
 -- a table with room
-roomy : (n : ℕ) → 8192 ≤ n → 8192 ≤ length (replicate n 0)
+roomy : (n : ℕ) → 8192 ≤ n → 8192 ≤ length (replicate {A = ℕ} n 0)
 roomy n h = rw (length-replicate {A = ℕ} n 0) h
 
 pub oneReading : OneReading

@@ -32,7 +32,7 @@ use Rattle.vectors.specs.Files.{walkNumbers, readingNumbers, fileNumbers
 use Rattle.vectors.specs.Leaves.{writtenLine, leafLine}
 use Rattle.vectors.specs.Listings.{listNumbers}
 use Rattle.vectors.specs.Outputs.{putNumbers, intoOutput, outputLine}
-use Rattle.vectors.specs.Parts.{sizeNumbers, nameLine, numeralNumbers, stepNumbers, indexNumbers, partLine}
+use Rattle.vectors.specs.Parts.{sizeLine, nameLine, numeralNumbers, stepLine, indexNumbers, partLine}
 use Rattle.vectors.specs.Rows.{placesOf, foundNumbers, seenNumbers, tableNumbers, tableLine, lookupNumbers, queryLine, rowLine}
 use Rattle.vectors.specs.Statements.{HasAll}
 use Rattle.vectors.specs.Trims.{trimNumbers, trimLine}
@@ -63,8 +63,8 @@ leaf f s =
     (either (eqb (f .function) 7) (short (omega arith))
     (either (ltb 4096 (length s)) (short (omega arith)) (short (omega arith))))))
 
-size : (z : Size) → AtMost 12 (sizeNumbers z)
-unfolding sizeNumbers
+size : (z : Size) → AtMost 12 (sizeLine z)
+unfolding sizeLine
 size (Bytes n) = short (omega arith)
 size Text = short (omega arith)
 size NoSuch = short (omega arith)
@@ -74,8 +74,8 @@ unfolding numeralNumbers
 numeral (Is n) = short (omega arith)
 numeral Not = short (omega arith)
 
-step : (w : Step) → AtMost 12 (stepNumbers w)
-unfolding stepNumbers
+step : (w : Step) → AtMost 12 (stepLine w)
+unfolding stepLine
 step (Past p next) = short (omega arith)
 step (Refused n) = short (omega arith)
 

@@ -9,11 +9,11 @@ use Rattle.vectors.specs.Cases.{lineOf}
 use Rattle.vectors.specs.Files.{fileLine}
 use Rattle.vectors.specs.Leaves.{stored, writtenLine, leafLine}
 use Rattle.vectors.specs.Outputs.{outputLine}
-use Rattle.vectors.specs.Parts.{sizeNumbers, partLine}
+use Rattle.vectors.specs.Parts.{sizeLine, partLine}
 
 -- a case's line over these bytes as its first block
 unfoldable line : Frame → List ℕ
-unfolding val numberAt le rising taking checksumFrom checksum stored writtenLine leafLine sizeNumbers partLine fileLine outputLine lineOf
+unfolding val numberAt le rising taking checksumFrom checksum stored writtenLine leafLine sizeLine partLine fileLine outputLine lineOf
 line f = lineOf f (0x67 ∷ 0xEC ∷ 0x8E ∷ 0x65 ∷ 0xA1 ∷ 0x8D ∷ 0xEB ∷ 0xBE ∷ 0x5E ∷ 0x55 ∷ 0x32 ∷ []) []
 
 abbrev case : (function seed x y : ℕ) → Frame

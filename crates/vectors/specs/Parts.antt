@@ -22,10 +22,10 @@ use Rattle.vectors.specs.Answers.{bit}
 use Rattle.vectors.specs.Buffers.{checksum}
 
 -- 10: an element's size
-unfoldable pub sizeNumbers : Size → List ℕ
-sizeNumbers (Bytes n) = 1 ∷ n ∷ []
-sizeNumbers Text = 2 ∷ 0 ∷ []
-sizeNumbers NoSuch = 0 ∷ 0 ∷ []
+unfoldable pub sizeLine : Size → List ℕ
+sizeLine (Bytes n) = 1 ∷ n ∷ []
+sizeLine Text = 2 ∷ 0 ∷ []
+sizeLine NoSuch = 0 ∷ 0 ∷ []
 
 -- 11: whether bytes may be a name; more than 65,535 are not asked about
 unfoldable pub nameLine : List ℕ → List ℕ
@@ -41,9 +41,9 @@ unfoldable pub parentOf : ℕ → Parent
 parentOf x = cond (eqb x 0) None (Kind ((x - 1) % 4294967296))
 
 -- 16: where the name and the data of a property start, and where it ends; or its refusal
-unfoldable pub stepNumbers : Step → List ℕ
-stepNumbers (Past p next) = 0 ∷ p .name ∷ p .start ∷ next .at ∷ []
-stepNumbers (Refused n) = n ∷ 0 ∷ 0 ∷ 0 ∷ []
+unfoldable pub stepLine : Step → List ℕ
+stepLine (Past p next) = 0 ∷ p .name ∷ p .start ∷ next .at ∷ []
+stepLine (Refused n) = n ∷ 0 ∷ 0 ∷ 0 ∷ []
 
 -- 17: the index of a walk over properties, and the walk's end alone
 unfoldable pub indexNumbers : Walked → List ℕ
@@ -55,12 +55,12 @@ unfoldable pub partLine : Frame → (first second : List ℕ) → List ℕ
 partLine f first second =
     let function = f .function in
     let count = f .y % 4294967296 in
-    cond (eqb function 10) (sizeNumbers (sizeOf (f .x % 65536)))
+    cond (eqb function 10) (sizeLine (sizeOf (f .x % 65536)))
     (cond (eqb function 11) (nameLine first)
     (cond (eqb function 12) (bit (same first second) ∷ [])
     (cond (eqb function 13) (numeralNumbers (numbered first second))
     (cond (eqb function 14) (bit (isKnown (f .x % 4294967296)) ∷ [])
     (cond (eqb function 15) (bit (mayStand (parentOf (f .x)) count) ∷ [])
-    (cond (eqb function 16) (stepNumbers (stepAt first (f .x)))
+    (cond (eqb function 16) (stepLine (stepAt first (f .x)))
     (cond (eqb function 17) (indexNumbers (properties first count))
     (bit (exactly first count) ∷ []))))))))

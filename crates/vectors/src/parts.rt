@@ -8,7 +8,7 @@ ghost use Rattle.props.specs.Step.{stepAt};
 ghost use Rattle.names.specs.Names.{numbered};
 ghost use Rattle.body.specs.Body.{properties};
 ghost use Rattle.vectors.specs.Answers.{answered};
-ghost use Rattle.vectors.specs.Parts.{sizeNumbers, nameLine, numeralNumbers, parentOf, stepNumbers, indexNumbers, partLine};
+ghost use Rattle.vectors.specs.Parts.{sizeLine, nameLine, numeralNumbers, parentOf, stepLine, indexNumbers, partLine};
 
 // 10 a type's element size, 11 to 13 names, 14 and 15 kinds, 16 to 18 properties. Names and bodies are blocks; codes,
 // kinds and places are x and y.
@@ -44,7 +44,7 @@ fn above(parent: u64) -> kinds::Parent
 }
 
 fn element(code: u16) -> Answer
-    ensures { λ r. ⌜ r ≡ answered (sizeNumbers (sizeOf code)) ⌝ }
+    ensures { λ r. ⌜ r ≡ answered (sizeLine (sizeOf code)) ⌝ }
 {
     match props::size_of(code) {
         props::Size::Bytes(n) => Answer::two(1, n as u64),
@@ -74,7 +74,7 @@ fn numbered(name: &[u8], prefix: &[u8]) -> Answer
 }
 
 fn step(body: &[u8], at: usize) -> Answer
-    ensures { λ r. ⌜ r ≡ answered (stepNumbers (stepAt (now (body .entry)) at)) ⌝ }
+    ensures { λ r. ⌜ r ≡ answered (stepLine (stepAt (now (body .entry)) at)) ⌝ }
 {
     let cursor = props::Cursor { at };
     match cursor.step(body) {

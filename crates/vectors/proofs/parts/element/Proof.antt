@@ -2,7 +2,7 @@
 use mathlib.Core.Path.{ap, sym, _∙_}
 use borrow.Author.Needs.{needs}
 use Rattle.vectors.specs.Answers.{answered}
-use Rattle.vectors.specs.Parts.{sizeNumbers}
+use Rattle.vectors.specs.Parts.{sizeLine}
 use Rattle.vectors.proofs.parts.element.Statement.{statement}
 use Rattle.vectors.proofs.parts.element.Tie as tie
 
@@ -31,18 +31,18 @@ two-requires-3 : tie.Need-two-requires-3
 two-requires-3 c κs = search needs
 
 returns : tie.Need-returns
-unfolding sizeNumbers
+unfolding sizeLine
 returns c =
     let at-size-of = c .before .before .before .before in
-    c .two .ensures ∙ ap (λ s. answered (sizeNumbers s)) (sym (c .before .before .n .given .1) ∙ at-size-of .size-of .ensures)
+    c .two .ensures ∙ ap (λ s. answered (sizeLine s)) (sym (c .before .before .n .given .1) ∙ at-size-of .size-of .ensures .0)
 
 returns-2 : tie.Need-returns-2
-unfolding sizeNumbers
-returns-2 c = c .two2 .ensures ∙ ap (λ s. answered (sizeNumbers s)) (sym (c .before .enum-told .given .1) ∙ c .before .before .before .size-of .ensures)
+unfolding sizeLine
+returns-2 c = c .two2 .ensures ∙ ap (λ s. answered (sizeLine s)) (sym (c .before .enum-told .given .1) ∙ c .before .before .before .size-of .ensures .0)
 
 returns-3 : tie.Need-returns-3
-unfolding sizeNumbers
-returns-3 c = c .two3 .ensures ∙ ap (λ s. answered (sizeNumbers s)) (sym (c .before .enum-told2 .given .1) ∙ c .before .before .before .size-of .ensures)
+unfolding sizeLine
+returns-3 c = c .two3 .ensures ∙ ap (λ s. answered (sizeLine s)) (sym (c .before .enum-told2 .given .1) ∙ c .before .before .before .size-of .ensures .0)
 
 pub element-spec : {M : Type 1} → statement M
 element-spec =

@@ -28,11 +28,11 @@ returns : tie.Need-returns
 unfolding numeralNumbers
 returns c =
     let at-numbered = c .before .before .before .before in
-    c .two .ensures ∙ ap (λ s. answered (numeralNumbers s)) (sym (c .before .before .n .given .1) ∙ at-numbered .numbered .ensures)
+    c .two .ensures ∙ ap (λ s. answered (numeralNumbers s)) (sym (c .before .before .n .given .1) ∙ at-numbered .numbered .ensures .0)
 
 returns-2 : tie.Need-returns-2
 unfolding numeralNumbers
-returns-2 c = c .two2 .ensures ∙ ap (λ s. answered (numeralNumbers s)) (sym (c .before .enum-told .given .1) ∙ c .before .before .before .numbered .ensures)
+returns-2 c = c .two2 .ensures ∙ ap (λ s. answered (numeralNumbers s)) (sym (c .before .enum-told .given .1) ∙ c .before .before .before .numbered .ensures .0)
 
 pub numbered-spec : {M : Type 1} → statement M
 numbered-spec =

@@ -2,7 +2,7 @@
 use mathlib.Core.Path.{ap, sym, _∙_}
 use borrow.Author.Needs.{needs}
 use Rattle.vectors.specs.Answers.{answered}
-use Rattle.vectors.specs.Parts.{stepNumbers}
+use Rattle.vectors.specs.Parts.{stepLine}
 use Rattle.vectors.proofs.parts.step.Statement.{statement}
 use Rattle.vectors.proofs.parts.step.Tie as tie
 
@@ -25,16 +25,16 @@ four-requires-2 : tie.Need-four-requires-2
 four-requires-2 c κs = search needs
 
 returns : tie.Need-returns
-unfolding stepNumbers
+unfolding stepLine
 returns c =
     let at-step = c .before .before .before .before in
-    c .four .ensures ∙ ap (λ s. answered (stepNumbers s)) (sym (c .before .before .property .given .1) ∙ at-step .step .ensures)
+    c .four .ensures ∙ ap (λ s. answered (stepLine s)) (sym (c .before .before .property .given .1) ∙ at-step .step .ensures .0)
 
 returns-2 : tie.Need-returns-2
-unfolding stepNumbers
+unfolding stepLine
 returns-2 c =
     let at-step = c .before .before .before .before in
-    c .four2 .ensures ∙ ap (λ s. answered (stepNumbers s)) (sym (c .before .before .number .given .1) ∙ at-step .step .ensures)
+    c .four2 .ensures ∙ ap (λ s. answered (stepLine s)) (sym (c .before .before .number .given .1) ∙ at-step .step .ensures .0)
 
 pub step-spec : {M : Type 1} → statement M
 step-spec =

@@ -18,7 +18,7 @@ same-length c = search needs
 returns : tie.Need-returns
 returns c =
     let e = c .before .before .before .read .ensures in
-    (c .shown .ensures ∙ ap (λ r. answered (readingNumbers r)) (e .0), e .1)
+    (c .shown .ensures ∙ ap (λ r. answered (readingNumbers r)) (e .0), e .1 .1 .0)
 
 pub run-spec : {M : Type 1} → statement M
 run-spec = tie.close (tie.spec read-requires shown-requires same-length returns)

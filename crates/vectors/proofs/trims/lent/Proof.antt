@@ -43,10 +43,10 @@ returns c =
     let room = length (a .out .now) in
     let e = at-trim .trim .ensures in (
       joined (writtenNumbers (trimmedOf (a .file .now) (a .row) (a .table .now) room)) (checksum (trimmedTable (a .file .now) (a .row) (a .table .now) room) ∷ [])
-          (c .push .ensures ∙ ap (λ n. extended (at-with-written .with-written .result) (n ∷ [])) (c .before .numbers-checksum .ensures ∙ ap checksum (e .2)))
+          (c .push .ensures ∙ ap (λ n. extended (at-with-written .with-written .result) (n ∷ [])) (c .before .numbers-checksum .ensures ∙ ap checksum (e .1 .1)))
           (put-after (writtenNumbers (at-trim .trim .result)) (at-with-written .with-written .ensures) (at-with-written .before .none .ensures)
           ∙ ap (λ w. answered (writtenNumbers w)) (e .0)),
-      e .1,
+      e .1 .0,
     )
 
 pub lent-spec : {M : Type 1} → statement M

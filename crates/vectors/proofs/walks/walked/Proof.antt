@@ -21,7 +21,7 @@ unfolding walkedTable
 returns c =
     let at-walk = c .before .before .before .before .before in
     let e = at-walk .walk .ensures in
-    rw (← e .0, eq-eqb _ _ (c .before .if1 .taken)) (c .shown .ensures, e .1)
+    rw (← e .0, eq-eqb _ _ (c .before .if1 .taken)) (c .shown .ensures, e .1 .0)
 
 clear-requires : tie.Need-clear-requires
 clear-requires c κs = search needs
@@ -38,7 +38,7 @@ returns-2 c =
     let at-else1 = c .before .before .before .before .before in
     let at-walk = at-else1 .before .before .before .before in
     let e = at-walk .walk .ensures in
-    rw (← e .0, ne-eqb _ _ (at-else1 .if1 .left)) (c .shown2 .ensures, c .before .before .before .clear .ensures ∙ ap cleared (e .1))
+    rw (← e .0, ne-eqb _ _ (at-else1 .if1 .left)) (c .shown2 .ensures, c .before .before .before .clear .ensures ∙ ap cleared (e .1 .0))
 
 pub walked-spec : {M : Type 1} → statement M
 walked-spec =
