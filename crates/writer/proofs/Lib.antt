@@ -9,5 +9,6 @@ pub mod Plans
 pub mod Writing
 pub mod Written
 pub mod Writable
+pub mod Answers
 pub mod Numbers
 pub mod RoundTrip

@@ -118,10 +118,10 @@ module _ (plan s : List ℕ) (flags room : ℕ) (source : AreBytes s) where
     rows-counted : length rs ≡ w .count
     rows-counted = omega (arith, length-rowsAt plan 0 (rowCount plan), w .whole)
 
-    is-plan : isPlan plan ≡ true
+    pub is-plan : isPlan plan ≡ true
     is-plan = rw (eq-eqb (length plan % 8) 0 (omega (arith, w .whole)), le-leb (rowCount plan) 1024 (omega (arith, w .whole, w .few)))
 
-    few : length rs ≤ 1024
+    pub few : length rs ≤ 1024
     few = omega (arith, rows-counted, w .few)
 
     at : (k : ℕ) → k < length rs → RightRow s rs k
@@ -140,10 +140,10 @@ module _ (plan s : List ℕ) (flags room : ℕ) (source : AreBytes s) where
     unfolding judged
     is-judged = each-judged s rs 0 [] rs (parents-are rs few .1 (λ k b. at k b .parent)) fitting named
 
-    right : judged s rs .number ≡ 0
+    pub right : judged s rs .number ≡ 0
     right = ap (λ (j : Judged). j .number) is-judged
 
-    long : length (fileBytes flags s rs) ≡ 16 + allOwnBytes rs
+    pub long : length (fileBytes flags s rs) ≡ 16 + allOwnBytes rs
     long = file-long flags s rs inside
 
     is-written : writtenOf plan s flags room .number ≡ 0
