@@ -4,6 +4,7 @@ use mathlib.Core.Path.{_≡_, refl, ap, sym, _∙_}
 use mathlib.Core.List.{List, _++_}
 use lib.Dec.{ltb}
 use lib.ListN.{length, drop}
+use Rattle.le.specs.Le.{AreBytes}
 use Rattle.le.proofs.Tests.{by-test}
 use Rattle.table.specs.Table.{isPlan}
 use Rattle.plan.specs.Plan.{judged}
@@ -11,6 +12,7 @@ use Rattle.format.specs.Rows.{allOwnBytes}
 use Rattle.emit.specs.declared.Written.{Written}
 use Rattle.emit.specs.Emission.{done, byLength, fileBytes, emission, leftBy}
 use Rattle.writer.specs.Writer.{planRows, byNumber, writtenOf, outputAfter}
+use Rattle.writer.specs.Writable.{Writable}
 use Rattle.writer.specs.Answers.{Writes, Refuses}
 use Rattle.writer.proofs.Plans.{plan-bytes}
 use Rattle.writer.proofs.Writing.{left-alone, goes-on, emission-done}
@@ -21,16 +23,19 @@ left-done : (size : ℕ) (bytes out : List ℕ) {w : Written} → w ≡ done siz
 unfolding leftBy
 left-done size bytes out e l = rw (e, l)
 
+pub is-done : (plan s : List ℕ) (flags room : ℕ) → AreBytes s → Writable plan s room → writtenOf plan s flags room ≡ done (16 + allOwnBytes (planRows plan))
+is-done plan s flags room source w =
+    goes-on plan s flags room (is-plan plan s flags room source w) (right plan s flags room source w)
+    ∙ emission-done flags s (planRows plan) room _ (long plan s flags room source w) (w .short) (w .fits)
+
 pub writes : Writes
 unfolding outputAfter
 writes plan s flags out source w =
     let room = length out in
     let rs = planRows plan in
-    let size = long plan s flags room source w in
-    let is-right = right plan s flags room source w in
-    let answer : writtenOf plan s flags room ≡ done _
-    = goes-on plan s flags room (is-plan plan s flags room source w) is-right ∙ emission-done flags s rs room _ size (w .short) (w .fits) in
-    (answer, left-done _ (fileBytes flags s rs) out answer size ∙ ap (λ b. b ++ drop (16 + allOwnBytes rs) out) (plan-bytes flags s rs (few plan s flags room source w) is-right))
+    let answer = is-done plan s flags room source w in
+    let bytes = plan-bytes flags s rs (few plan s flags room source w) (right plan s flags room source w) in
+    (answer, left-done _ (fileBytes flags s rs) out answer (long plan s flags room source w) ∙ ap (λ b. b ++ drop (16 + allOwnBytes rs) out) bytes)
 
 -- ---- refusal
 no-length : (n room : ℕ) → (byLength n room .number ≡ 0 → ⊥) → byLength n room .length ≡ 0
@@ -52,5 +57,5 @@ pub refuses : Refuses
 unfolding outputAfter
 refuses plan s flags out source h =
     let room = length out in
-    let refused : writtenOf plan s flags room .number ≡ 0 → ⊥ = λ e. h (writesExactly plan s flags room source .0 e) in
-    (refused, none-written plan s flags room refused, sym (left-alone (writtenOf plan s flags room .number) (fileBytes flags s (planRows plan)) out refused))
+    let some : writtenOf plan s flags room .number ≡ 0 → ⊥ = λ e. h (writesExactly plan s flags room source .0 e) in
+    (some, none-written plan s flags room some, sym (left-alone (writtenOf plan s flags room .number) (fileBytes flags s (planRows plan)) out some))

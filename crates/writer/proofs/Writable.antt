@@ -8,7 +8,7 @@ use mathlib.Core.Logic.{ite}
 use native.Mathlib.Decide.{ℕ-discrete}
 use lib.Dec.{eqb, leb}
 use lib.ListN.{length}
-use borrow.Author.Tests.{eq-eqb, ne-eqb, eqb-true, le-leb, le-ltb}
+use borrow.Author.Tests.{eq-eqb, ne-eqb, eqb-true, le-leb}
 use Rattle.le.specs.Le.{AreBytes}
 use Rattle.table.specs.declared.Row.{Row}
 use Rattle.table.specs.Table.{rowCount, isPlan}
@@ -29,7 +29,7 @@ use Rattle.writer.proofs.Order.{Whole}
 use Rattle.writer.proofs.Judged.{Fitting, Named, judged-parts, each-judged}
 use Rattle.writer.proofs.Rebuilt.{good-exactly}
 use Rattle.writer.proofs.Ancestors.{parents-are}
-use Rattle.writer.proofs.Plans.{Inside, exactly-good, fitting-inside, whole-body, plan-bytes, plan-rows, plan-few, plan-wellFormed}
+use Rattle.writer.proofs.Plans.{Inside, is-inside, exactly-good, fitting-inside, whole-body, plan-bytes, plan-rows, plan-few, plan-wellFormed}
 use Rattle.writer.proofs.Writing.{count-few, goes-on, emission-done}
 use Rattle.writer.proofs.Written.{number, written-right, rows-few, wide-rows}
 
@@ -39,12 +39,12 @@ each-at P [] h k b = absurd (omega (arith, b))
 each-at P (r ∷ rs) h zero b = h .0
 each-at P (r ∷ rs) h (suc k) b = each-at P rs (h .1) k (omega (arith, b))
 
-at-each : (P : Row → Type 0) (rs : List Row) → ((k : ℕ) → k < length rs → P (rowOf rs k)) → Each P rs
+pub at-each : (P : Row → Type 0) (rs : List Row) → ((k : ℕ) → k < length rs → P (rowOf rs k)) → Each P rs
 at-each P [] h = tt
 at-each P (r ∷ rs) h = (h 0 (omega arith), at-each P rs (λ k b. h (suc k) (omega (arith, b))))
 
 -- ---- the rows naming a row
-naming-filter : (rs : List Row) (k : ℕ) → naming rs k ≡ length (rowsNaming rs k)
+pub naming-filter : (rs : List Row) (k : ℕ) → naming rs k ≡ length (rowsNaming rs k)
 unfolding naming
 naming-filter [] k = refl
 naming-filter (r ∷ rs) k = by (ℕ-discrete (r .parent) k) (naming-filter rs k)
@@ -71,15 +71,15 @@ unfolding owns
 owns-all s [] h = refl
 owns-all s (r ∷ rs) h = omega (arith, h .0, owns-all s rs (h .1))
 
-file-long : (flags : ℕ) (s : List ℕ) (rs : List Row) → Each (Inside s) rs → length (fileBytes flags s rs) ≡ 16 + allOwnBytes rs
+pub file-long : (flags : ℕ) (s : List ℕ) (rs : List Row) → Each (Inside s) rs → length (fileBytes flags s rs) ≡ 16 + allOwnBytes rs
 file-long flags s rs h =
     omega (arith, length-fileBytes flags s rs, length-nodesBytes s 0 rs, owns-all s rs (each-map (whole-body s) rs h))
 
 inside-fitting : (s : List ℕ) (r : Row) → Inside s r → (IsKnown r → exactly (bodyOf s r) (r .properties) ≡ true) → Fitting s r
-inside-fitting s r i b = (rw (le-ltb (r .end) (r .start) (i .0), le-ltb (length s) (r .end) (i .1)), b)
+inside-fitting s r i b = (is-inside s r i, b)
 
 -- ---- 20
-whole-plan : (plan : List ℕ) → isPlan plan ≡ true → length plan ≡ 8 * rowCount plan
+pub whole-plan : (plan : List ℕ) → isPlan plan ≡ true → length plan ≡ 8 * rowCount plan
 whole-plan plan e =
     let none = eqb-true (length plan % 8) 0 (and-eq-true-iff (eqb (length plan % 8) 0) (leb (rowCount plan) 1024) .0 e .0) in
     omega (arith, none)

@@ -24,7 +24,7 @@ pub left-alone : (n : ℕ) (bytes out : List ℕ) → (n ≡ 0 → ⊥) → out 
 unfolding leftBy
 left-alone n bytes out h = rw (ne-eqb n 0 h)
 
-by-refusal : (n place : ℕ) (next : Written) → (n ≡ 0 → ⊥) → byNumber n place next ≡ refused n place
+pub by-refusal : (n place : ℕ) (next : Written) → (n ≡ 0 → ⊥) → byNumber n place next ≡ refused n place
 by-refusal zero place next h = absurd (h refl)
 by-refusal (suc n) place next h = refl
 
