@@ -1,5 +1,5 @@
 -- The numbers of the writer's answers, each exactly, with its place.
-use Prim.Native.Nat.{ℕ, _+_, _%_, _≤_, _<_}
+use Prim.Native.Nat.{ℕ, _+_, _≤_, _<_}
 use native.Mathlib.Omega.{arith}
 use mathlib.Core.Path.{_≡_, refl, ap, sym, subst, _∙_}
 use mathlib.Core.Logic.{_⊎_, inl, inr}
@@ -7,7 +7,7 @@ use mathlib.Core.Bool.{true, true≢false}
 use mathlib.Core.List.{List}
 use lib.Dec.{ltb}
 use lib.ListN.{length}
-use borrow.Author.Tests.{eq-eqb, le-leb, ltb-true, ltb-false}
+use borrow.Author.Tests.{ltb-true, ltb-false}
 use Rattle.le.specs.Le.{AreBytes}
 use Rattle.le.proofs.Tests.{by-test}
 use Rattle.table.specs.declared.Row.{Row}
@@ -24,12 +24,9 @@ use Rattle.writer.proofs.Writing.{count-few, by-refusal, goes-on}
 use Rattle.writer.proofs.Written.{number, rows-few}
 use Rattle.writer.proofs.First.{Told, told-range, told-wrong, told-21, told-22, told-23, told-24, told-first, First, first-wrong}
 use Rattle.writer.proofs.Answers.{is-done}
-use Rattle.writer.proofs.Writable.{at-each, file-long, whole-plan, writesExactly}
+use Rattle.writer.proofs.Writable.{at-each, file-long, whole-plan, plan-is, writesExactly}
 
 -- ---- 20
-plan-is : (plan : List ℕ) → IsPlan plan → isPlan plan ≡ true
-plan-is plan p = rw (eq-eqb (length plan % 8) 0 (omega (arith, p .whole)), le-leb (rowCount plan) 1024 (omega (arith, p .whole, p .few)))
-
 is-a-plan : (plan : List ℕ) → isPlan plan ≡ true → IsPlan plan
 is-a-plan plan t = record { count = rowCount plan; whole = whole-plan plan t; few = count-few plan t }
 
@@ -76,7 +73,7 @@ module _ (plan s : List ℕ) (flags room : ℕ) (source : AreBytes s) where
   outcome =
       by-test (isPlan plan)
       (λ t. by-rows t (first-wrong s rs (rows-few plan t) source))
-      (λ t. inl (λ p. true≢false (sym (plan-is plan p) ∙ t), rw t))
+      (λ t. inl (λ p. true≢false (sym (plan-is plan (p .count) (p .whole) (p .few)) ∙ t), rw t))
 
   -- ---- two answers are one
   same-number : {w v : Written} → answer ≡ w → answer ≡ v → w .number ≡ v .number

@@ -84,6 +84,9 @@ whole-plan plan e =
     let none = eqb-true (length plan % 8) 0 (and-eq-true-iff (eqb (length plan % 8) 0) (leb (rowCount plan) 1024) .0 e .0) in
     omega (arith, none)
 
+pub plan-is : (plan : List ℕ) (count : ℕ) → length plan ≡ 8 * count → count ≤ 1024 → isPlan plan ≡ true
+plan-is plan count whole few = rw (eq-eqb (length plan % 8) 0 (omega (arith, whole)), le-leb (rowCount plan) 1024 (omega (arith, whole, few)))
+
 module _ (plan s : List ℕ) (flags room : ℕ) (source : AreBytes s) where
   abbrev rs : List Row
   rs = planRows plan
@@ -119,7 +122,7 @@ module _ (plan s : List ℕ) (flags room : ℕ) (source : AreBytes s) where
     rows-counted = omega (arith, length-rowsAt plan 0 (rowCount plan), w .whole)
 
     pub is-plan : isPlan plan ≡ true
-    is-plan = rw (eq-eqb (length plan % 8) 0 (omega (arith, w .whole)), le-leb (rowCount plan) 1024 (omega (arith, w .whole, w .few)))
+    is-plan = plan-is plan (w .count) (w .whole) (w .few)
 
     pub few : length rs ≤ 1024
     few = omega (arith, rows-counted, w .few)
