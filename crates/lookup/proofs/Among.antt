@@ -22,16 +22,18 @@ use Rattle.format.proofs.Properties.{length-property, size-read, name-read, con
 use Rattle.format.proofs.Bodies.{body-good}
 use Rattle.lookup.specs.declared.Found.the-variants.{At, Refused}
 use Rattle.lookup.specs.Lookup.{inBody}
-use Rattle.lookup.specs.Statements.{NoneNamed, FirstNamed}
+use Rattle.lookup.specs.Statements.{NoneNamed, FirstNamed, dataFrom}
 use Rattle.lookup.proofs.Laws.{by-none, by-first}
 
--- ---- a property from its place to the next one's: its name, and its data
+-- ---- a property from its place to the next one's: its name, its data, and where they lie
 abbrev pub dataTo : (s : List ℕ) (at next : ℕ) → List ℕ
 dataTo s at next = take (next - dataAt s at) (drop (dataAt s at) s)
 
 pub record Lies (s : List ℕ) (at next : ℕ) (p : Property) : Type 0 where
   pub name : nameAt s at ≡ p .name
   pub content : dataTo s at next ≡ p .content
+  pub from : dataAt s at ≡ at + (8 + length (p .name))
+  pub past : next ≡ at + length (propertyBytes p)
 
 number-after : (pre l : List ℕ) (w k : ℕ) → numberAt w (pre ++ l) (length pre + k) ≡ numberAt w l k
 unfolding numberAt
@@ -53,6 +55,8 @@ lies p pre more good =
       content =
           rw (le-ltb (length s) (startAt s (length pre)) inside, start, taken, drop-append-add pre (propertyBytes p ++ more) (8 + length (p .name)), content-read p pre more good)
           (take-append-seam (p .content) more);
+      from = rw (le-ltb (length s) (startAt s (length pre)) inside) start;
+      past = refl;
     }
 
 -- ---- each of some properties lies at its place, up to the next place, the last one up to the end
@@ -88,22 +92,26 @@ module _ (s name : List ℕ) (stop : ℕ) where
       (λ t. absurd (h .0 (sym (l .0 .name) ∙ same-eq (nameAt s at) name t)))
       (λ t. rw t (ap suc (none-first starts ps (l .1) (h .1))))
 
-  abbrev At-first : List ℕ → Property → Type 0
-  At-first starts p = let i = firstNamed s name starts in
-      (i < length starts) × Lies s (getD (starts ++ (stop ∷ [])) i 0) (getD (starts ++ (stop ∷ [])) (suc i) 0) p
+  -- it lies after those before it
+  abbrev At-first : List ℕ → (before : List Property) → Property → Type 0
+  At-first starts before p = let i = firstNamed s name starts in let all = starts ++ (stop ∷ []) in
+      (i < length starts) × Lies s (getD all i 0) (getD all (suc i) 0) p × (getD all i 0 ≡ getD all 0 0 + length (flatMap propertyBytes before))
 
   first-first : (before : List Property) (p : Property) (after : List Property) (starts : List ℕ) → Lying s starts stop (before ++ (p ∷ after))
-      → NoneNamed name before → p .name ≡ name → At-first starts p
-  unfolding firstNamed
+      → NoneNamed name before → p .name ≡ name → At-first starts before p
+  unfolding firstNamed flatMap
   first-first [] p after [] l h e = absurd l
   first-first (b ∷ before) p after [] l h e = absurd l
   first-first [] p after (at ∷ starts) l h e =
       let is : same (nameAt s at) name ≡ true = ap (λ n. same n name) (l .0 .name ∙ e) ∙ same-refl name in
-      rw is (omega arith, l .0)
+      rw is (omega arith, l .0, omega arith)
   first-first (b ∷ before) p after (at ∷ starts) l h e =
       by-test (same (nameAt s at) name)
       (λ t. absurd (h .0 (sym (l .0 .name) ∙ same-eq (nameAt s at) name t)))
-      (λ t. let ih = first-first before p after starts (l .1) (h .1) e in rw t (omega (arith, ih .0), ih .1))
+      (λ t.
+      let ih = first-first before p after starts (l .1) (h .1) e in
+      let size = length-append (propertyBytes b) (flatMap propertyBytes before) in
+      rw t (omega (arith, ih .0), ih .1, omega (arith, ih .2, l .0 .past, size)))
 
 -- ---- a name is there or not
 pub there-or-not : (name : List ℕ) (ps : List Property) → ((p : Property) × FirstNamed name ps p) ⊎ NoneNamed name ps
@@ -133,20 +141,29 @@ module _ (k : ℕ) (s name : List ℕ) (good : GoodBody k s) where
       sym (by-none s name k (walk-done .0) (walk-done .1) (none-first s name (w .at) (w .starts) (good .properties) (lying k s good) h))
 
   -- what is found lies at these places
-  pub record In (p : Property) : Type 0 where
+  pub record In (before : List Property) (p : Property) : Type 0 where
     pub start : ℕ
     pub stop : ℕ
     pub is : inBody s k name ≡ At start stop
+    pub from : start ≡ dataFrom 0 before p
+    pub past : stop ≡ start + length (p .content)
     pub content : take (stop - start) (drop start s) ≡ p .content
 
-  pub first-in : (p : Property) → FirstNamed name (good .properties) p → In p
+  starts-at-0 : getD (places (properties s k)) 0 0 ≡ 0
+  starts-at-0 = rw (← few s k (good .most)) (pass-first s k 0)
+
+  pub first-in : (p : Property) (f : FirstNamed name (good .properties) p) → In (f .before) p
   first-in p f =
       let w = properties s k in
       let i = firstNamed s name (w .starts) in
       let at = first-first s name (w .at) (f .before) p (f .after) (w .starts) (subst (Lying s (w .starts) (w .at)) (f .parts) (lying k s good)) (f .earlier) (f .named) in
+      let from : dataAt s (getD (places w) i 0) ≡ dataFrom 0 (f .before) p = omega (arith, at .1 .from, at .2, starts-at-0) in
+      let past : getD (places w) (suc i) 0 ≡ dataAt s (getD (places w) i 0) + length (p .content) = omega (arith, at .1 .past, at .1 .from, length-property p) in
       record {
         start = dataAt s (getD (places w) i 0);
         stop = getD (places w) (i + 1) 0;
         is = sym (by-first s name k (walk-done .0) (walk-done .1) (λ e. omega (arith, at .0, e)));
+        from = from;
+        past = rw (add-one i) past;
         content = rw (add-one i) (at .1 .content);
       }

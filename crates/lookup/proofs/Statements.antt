@@ -21,7 +21,7 @@ use Rattle.format.proofs.Bodies.{body-sound}
 use Rattle.lookup.specs.declared.Found.{Found}
 use Rattle.lookup.specs.declared.Found.the-variants.{At, Refused}
 use Rattle.lookup.specs.Lookup.{inBody, shifted, lookupOf, numberOf, partOf, Within}
-use Rattle.lookup.specs.Statements.{IsRow, LiesIn, IsBody, NoneNamed, FirstNamed, Finds, Answers, LooksUp}
+use Rattle.lookup.specs.Statements.{IsRow, LiesIn, IsBody, NoneNamed, FirstNamed, dataFrom, Finds, Answers, LooksUp}
 use Rattle.lookup.proofs.Laws.{body-within}
 use Rattle.lookup.proofs.Rows.{no-row, reversed, outside, inside, length-body}
 use Rattle.lookup.proofs.Among.{there-or-not, good-exactly, none-in, first-in}
@@ -95,6 +95,14 @@ module _ (bs t : List ℕ) (row : ℕ) (name : List ℕ) (bytes : AreBytes bs) w
       found-0 : (b : IsBody bs r) (p : Property) → FirstNamed name (b .properties) p → n ≡ 0
       found-0 b p f = number-is ∙ ap numberOf (first-in (r .properties) body name b p f .is)
 
+      place-is : (b : IsBody bs r) (p : Property) (f : FirstNamed name (b .properties) p)
+          → let from = dataFrom (r .start) (f .before) p in found ≡ At from (from + length (p .content))
+      place-is b p f =
+          let at = first-in (r .properties) body name b p f in
+          let from : r .start + at .start ≡ dataFrom (r .start) (f .before) p = omega (arith, at .from) in
+          let past : r .start + at .stop ≡ dataFrom (r .start) (f .before) p + length (p .content) = omega (arith, at .from, at .past) in
+          sym in-body ∙ ap (shifted (r .start)) (at .is) ∙ ap (λ m. At m (r .start + at .stop)) from ∙ ap (At (dataFrom (r .start) (f .before) p)) past
+
       content-is : (b : IsBody bs r) (p : Property) → FirstNamed name (b .properties) p → partOf bs found ≡ p .content
       content-is b p f =
           let at = first-in (r .properties) body name b p f in
@@ -112,6 +120,7 @@ module _ (bs t : List ℕ) (row : ℕ) (name : List ℕ) (bytes : AreBytes bs) w
       among b = record {
         absent = (λ e. absent-by e (there-or-not name (b .properties)), none-43 b);
         found = (λ e. found-by e (there-or-not name (b .properties)), λ f. found-0 b (f .0) (f .1));
+        place = place-is b;
         content = content-is b;
       }
         where

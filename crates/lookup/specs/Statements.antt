@@ -5,13 +5,14 @@
 use Prim.Native.Nat.{ℕ, _+_, _*_, _≤_}
 use mathlib.Core.Path.{_≡_}
 use mathlib.Core.Logic.{_↔_}
-use mathlib.Core.List.{List, [], _∷_, _++_}
+use mathlib.Core.List.{List, [], _∷_, _++_, flatMap}
 use lib.ListN.{length}
 use Rattle.le.specs.Le.{AreBytes}
 use Rattle.table.specs.declared.Row.{Row}
 use Rattle.table.specs.Table.{rowFrom}
 use Rattle.format.specs.Rows.{bodyOf}
-use Rattle.format.specs.Layout.{Each, Property, GoodBody}
+use Rattle.format.specs.Layout.{Each, Property, propertyBytes, GoodBody}
+use Rattle.lookup.specs.declared.Found.the-variants.{At}
 use Rattle.lookup.specs.Lookup.{lookupOf, numberOf, partOf}
 
 -- not 40: the row's eight numbers are in the table
@@ -38,11 +39,17 @@ pub record FirstNamed (name : List ℕ) (ps : List Property) (p : Property) : Ty
   pub earlier : NoneNamed name before
   pub named : p .name ≡ name
 
+-- where a property's data starts, in a body that starts at a place: after the properties before it, its header and its name
+abbrev pub dataFrom : (start : ℕ) (before : List Property) → Property → ℕ
+dataFrom start before p = start + (length (flatMap propertyBytes before) + (8 + length (p .name)))
+
 -- in a body that is these properties: 43 exactly when none has the name; found, which is number 0, exactly when one has it, and
--- then the part is the first such one's data
+-- then the place is the first such one's data's and the part is that data
 pub record Finds (bs t : List ℕ) (row : ℕ) (name : List ℕ) (ps : List Property) : Type 0 where
   pub absent : (numberOf (lookupOf bs t row name) ≡ 43) ↔ NoneNamed name ps
   pub found : (numberOf (lookupOf bs t row name) ≡ 0) ↔ ((p : Property) × FirstNamed name ps p)
+  pub place : (p : Property) (f : FirstNamed name ps p)
+      → let from = dataFrom (rowFrom t (8 * row) .start) (f .before) p in lookupOf bs t row name ≡ At from (from + length (p .content))
   pub content : (p : Property) → FirstNamed name ps p → partOf bs (lookupOf bs t row name) ≡ p .content
 
 pub record Answers (bs t : List ℕ) (row : ℕ) (name : List ℕ) (r : Row) : Type 0 where

@@ -101,7 +101,7 @@ module _ (all : List Row) (few : length all ≤ 1024) where
 
   -- ---- a right parent, by either
   module _ (k : ℕ) (path : List ℕ) (b : k < length all) (c : PathAt k path) where
-    right-parent : rightParent (rowOf all k) path ≡ true → RightParent all k
+    pub right-parent : rightParent (rowOf all k) path ≡ true → RightParent all k
     unfolding rightParent
     right-parent h =
         by-test (eqb (rowOf all k .kind) root)
@@ -113,7 +113,7 @@ module _ (all : List Row) (few : length all ≤ 1024) where
         let held = on-held (rowOf all k .parent) k path (omega (arith, b)) c (rw t at h) in
         record { none = (λ e. absurd (not e), λ e. absurd (omega (arith, held .earlier, e, b, few))); other = λ n. held })
 
-    parent-right : RightParent all k → rightParent (rowOf all k) path ≡ true
+    pub parent-right : RightParent all k → rightParent (rowOf all k) path ≡ true
     unfolding rightParent
     parent-right m =
         by-test (eqb (rowOf all k .kind) root)
@@ -144,7 +144,7 @@ module _ (all : List Row) (few : length all ≤ 1024) where
         rw (none, none-above k (start k) path (omega (arith, b, few)) c))
         (λ t. climb-from (rowOf all k .parent) k (start k) path c (rw t at p))
 
-    path-next : rightParent (rowOf all k) path ≡ true → PathAt (suc k) (pathOf k (rowOf all k) path)
+    pub path-next : rightParent (rowOf all k) path ≡ true → PathAt (suc k) (pathOf k (rowOf all k) path)
     unfolding pathOf
     path-next p =
         by-test (isKnown (rowOf all k .kind))

@@ -9,5 +9,8 @@ pub mod Plans
 pub mod Writing
 pub mod Written
 pub mod Writable
+pub mod First
+pub mod Answers
+pub mod Exactly
 pub mod Numbers
 pub mod RoundTrip

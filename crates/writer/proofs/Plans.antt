@@ -8,7 +8,7 @@ use mathlib.Core.List.{List, [], _∷_, _++_, map, append-assoc, append-nil}
 use lib.Dec.{eqb, ltb}
 use lib.ListN.{length, take, drop, length-append, length-drop}
 use lib.Seq.{take-length, length-take-le}
-use borrow.Author.Tests.{eqb-true, eqb-false, ltb-false}
+use borrow.Author.Tests.{eqb-true, eqb-false, le-ltb, ltb-false}
 use Rattle.le.specs.Le.{AreBytes}
 use Rattle.le.proofs.Laws.{bytes-take, bytes-drop}
 use Rattle.le.proofs.Tests.{by-test}
@@ -23,7 +23,7 @@ use Rattle.format.proofs.Each.{each-both, each-map}
 use Rattle.format.proofs.Headers.{length-header, length-fileHeader}
 use Rattle.format.proofs.Rows.{part, length-rows}
 use Rattle.format.proofs.Bodies.{body-sound}
-use Rattle.plan.specs.Plan.{judged}
+use Rattle.plan.specs.Plan.{outside, judged}
 use Rattle.emit.specs.Emission.{sizeOf, nodesBytes, roots, fileBytes}
 use Rattle.emit.proofs.Whole.{length-fileBytes}
 use Rattle.writer.specs.Forest.{nodesUnder, forestOf, laidOut}
@@ -126,10 +126,16 @@ or-eq-false true b e = absurd (true≢false e)
 abbrev pub Inside : (s : List ℕ) → Row → Type 0
 Inside s r = (r .start ≤ r .end) × (r .end ≤ length s)
 
-pub fitting-inside : (s : List ℕ) (r : Row) → Fitting s r → Inside s r
-fitting-inside s r f =
-    let inside = or-eq-false (ltb (r .end) (r .start)) (ltb (length s) (r .end)) (f .0) in
+pub not-outside : (s : List ℕ) (r : Row) → outside (length s) r ≡ false → Inside s r
+not-outside s r e =
+    let inside = or-eq-false (ltb (r .end) (r .start)) (ltb (length s) (r .end)) e in
     (ltb-false (r .end) (r .start) (inside .0), ltb-false (length s) (r .end) (inside .1))
+
+pub is-inside : (s : List ℕ) (r : Row) → Inside s r → outside (length s) r ≡ false
+is-inside s r i = rw (le-ltb (r .end) (r .start) (i .0), le-ltb (length s) (r .end) (i .1))
+
+pub fitting-inside : (s : List ℕ) (r : Row) → Fitting s r → Inside s r
+fitting-inside s r f = not-outside s r (f .0)
 
 pub whole-body : (s : List ℕ) (r : Row) → Inside s r → Whole s r
 whole-body s r inside = length-take-le (r .end - r .start) (drop (r .start) s) (rw length-drop (omega (arith, inside .1)))

@@ -8,7 +8,7 @@ use mathlib.Core.Logic.{ite}
 use native.Mathlib.Decide.{ℕ-discrete}
 use lib.Dec.{eqb, leb}
 use lib.ListN.{length}
-use borrow.Author.Tests.{eq-eqb, ne-eqb, eqb-true, le-leb, le-ltb}
+use borrow.Author.Tests.{eq-eqb, ne-eqb, eqb-true, le-leb}
 use Rattle.le.specs.Le.{AreBytes}
 use Rattle.table.specs.declared.Row.{Row}
 use Rattle.table.specs.Table.{rowCount, isPlan}
@@ -29,7 +29,7 @@ use Rattle.writer.proofs.Order.{Whole}
 use Rattle.writer.proofs.Judged.{Fitting, Named, judged-parts, each-judged}
 use Rattle.writer.proofs.Rebuilt.{good-exactly}
 use Rattle.writer.proofs.Ancestors.{parents-are}
-use Rattle.writer.proofs.Plans.{Inside, exactly-good, fitting-inside, whole-body, plan-bytes, plan-rows, plan-few, plan-wellFormed}
+use Rattle.writer.proofs.Plans.{Inside, is-inside, exactly-good, fitting-inside, whole-body, plan-bytes, plan-rows, plan-few, plan-wellFormed}
 use Rattle.writer.proofs.Writing.{count-few, goes-on, emission-done}
 use Rattle.writer.proofs.Written.{number, written-right, rows-few, wide-rows}
 
@@ -39,12 +39,12 @@ each-at P [] h k b = absurd (omega (arith, b))
 each-at P (r ∷ rs) h zero b = h .0
 each-at P (r ∷ rs) h (suc k) b = each-at P rs (h .1) k (omega (arith, b))
 
-at-each : (P : Row → Type 0) (rs : List Row) → ((k : ℕ) → k < length rs → P (rowOf rs k)) → Each P rs
+pub at-each : (P : Row → Type 0) (rs : List Row) → ((k : ℕ) → k < length rs → P (rowOf rs k)) → Each P rs
 at-each P [] h = tt
 at-each P (r ∷ rs) h = (h 0 (omega arith), at-each P rs (λ k b. h (suc k) (omega (arith, b))))
 
 -- ---- the rows naming a row
-naming-filter : (rs : List Row) (k : ℕ) → naming rs k ≡ length (rowsNaming rs k)
+pub naming-filter : (rs : List Row) (k : ℕ) → naming rs k ≡ length (rowsNaming rs k)
 unfolding naming
 naming-filter [] k = refl
 naming-filter (r ∷ rs) k = by (ℕ-discrete (r .parent) k) (naming-filter rs k)
@@ -71,18 +71,21 @@ unfolding owns
 owns-all s [] h = refl
 owns-all s (r ∷ rs) h = omega (arith, h .0, owns-all s rs (h .1))
 
-file-long : (flags : ℕ) (s : List ℕ) (rs : List Row) → Each (Inside s) rs → length (fileBytes flags s rs) ≡ 16 + allOwnBytes rs
+pub file-long : (flags : ℕ) (s : List ℕ) (rs : List Row) → Each (Inside s) rs → length (fileBytes flags s rs) ≡ 16 + allOwnBytes rs
 file-long flags s rs h =
     omega (arith, length-fileBytes flags s rs, length-nodesBytes s 0 rs, owns-all s rs (each-map (whole-body s) rs h))
 
 inside-fitting : (s : List ℕ) (r : Row) → Inside s r → (IsKnown r → exactly (bodyOf s r) (r .properties) ≡ true) → Fitting s r
-inside-fitting s r i b = (rw (le-ltb (r .end) (r .start) (i .0), le-ltb (length s) (r .end) (i .1)), b)
+inside-fitting s r i b = (is-inside s r i, b)
 
 -- ---- 20
-whole-plan : (plan : List ℕ) → isPlan plan ≡ true → length plan ≡ 8 * rowCount plan
+pub whole-plan : (plan : List ℕ) → isPlan plan ≡ true → length plan ≡ 8 * rowCount plan
 whole-plan plan e =
     let none = eqb-true (length plan % 8) 0 (and-eq-true-iff (eqb (length plan % 8) 0) (leb (rowCount plan) 1024) .0 e .0) in
     omega (arith, none)
+
+pub plan-is : (plan : List ℕ) (count : ℕ) → length plan ≡ 8 * count → count ≤ 1024 → isPlan plan ≡ true
+plan-is plan count whole few = rw (eq-eqb (length plan % 8) 0 (omega (arith, whole)), le-leb (rowCount plan) 1024 (omega (arith, whole, few)))
 
 module _ (plan s : List ℕ) (flags room : ℕ) (source : AreBytes s) where
   abbrev rs : List Row
@@ -118,10 +121,10 @@ module _ (plan s : List ℕ) (flags room : ℕ) (source : AreBytes s) where
     rows-counted : length rs ≡ w .count
     rows-counted = omega (arith, length-rowsAt plan 0 (rowCount plan), w .whole)
 
-    is-plan : isPlan plan ≡ true
-    is-plan = rw (eq-eqb (length plan % 8) 0 (omega (arith, w .whole)), le-leb (rowCount plan) 1024 (omega (arith, w .whole, w .few)))
+    pub is-plan : isPlan plan ≡ true
+    is-plan = plan-is plan (w .count) (w .whole) (w .few)
 
-    few : length rs ≤ 1024
+    pub few : length rs ≤ 1024
     few = omega (arith, rows-counted, w .few)
 
     at : (k : ℕ) → k < length rs → RightRow s rs k
@@ -140,10 +143,10 @@ module _ (plan s : List ℕ) (flags room : ℕ) (source : AreBytes s) where
     unfolding judged
     is-judged = each-judged s rs 0 [] rs (parents-are rs few .1 (λ k b. at k b .parent)) fitting named
 
-    right : judged s rs .number ≡ 0
+    pub right : judged s rs .number ≡ 0
     right = ap (λ (j : Judged). j .number) is-judged
 
-    long : length (fileBytes flags s rs) ≡ 16 + allOwnBytes rs
+    pub long : length (fileBytes flags s rs) ≡ 16 + allOwnBytes rs
     long = file-long flags s rs inside
 
     is-written : writtenOf plan s flags room .number ≡ 0

@@ -20,11 +20,11 @@ pub count-few : (plan : List ℕ) → isPlan plan ≡ true → rowCount plan ≤
 count-few plan e = leb-true (rowCount plan) 1024 (and-eq-true-iff (eqb (length plan % 8) 0) (leb (rowCount plan) 1024) .0 e .1)
 
 -- a refusal leaves the output
-left-alone : (n : ℕ) (bytes out : List ℕ) → (n ≡ 0 → ⊥) → out ≡ leftBy n bytes out
+pub left-alone : (n : ℕ) (bytes out : List ℕ) → (n ≡ 0 → ⊥) → out ≡ leftBy n bytes out
 unfolding leftBy
 left-alone n bytes out h = rw (ne-eqb n 0 h)
 
-by-refusal : (n place : ℕ) (next : Written) → (n ≡ 0 → ⊥) → byNumber n place next ≡ refused n place
+pub by-refusal : (n place : ℕ) (next : Written) → (n ≡ 0 → ⊥) → byNumber n place next ≡ refused n place
 by-refusal zero place next h = absurd (h refl)
 by-refusal (suc n) place next h = refl
 
