@@ -235,6 +235,11 @@ module _ (kind : ℕ) (ps : List Property) (bones : ℕ) (d : Distinct ps) (good
 pub fits-rules : (kind : ℕ) (ps : List Property) → FitsRules kind ps ↔ Each (λ p. ByLine kind (p .name) (λ l. FitsLine l p)) ps
 fits-rules kind ps = (each-map (λ p. fits-agree kind p .0) ps, each-map (λ p. fits-agree kind p .1) ps)
 
+pub keeps-rules : (kind : ℕ) (ps : List Property) (bones : ℕ) → Each GoodProperty ps → Distinct ps → FitsRules kind ps
+    → Each (λ p. KeepsRule (ruleOf kind (p .name)) ps bones p) ps ↔ Each (λ p. ByLine kind (p .name) (λ l. Keeps l ps bones p)) ps
+keeps-rules kind ps bones good d fits =
+    (each-map (λ p. keeps-agree kind ps bones d good fits p .0) ps, each-map (λ p. keeps-agree kind ps bones d good fits p .1) ps)
+
 pub obeys-agree : (kind : ℕ) (ps : List Property) (bones : ℕ) → Each GoodProperty ps → ObeysRules kind ps bones ↔ Obeys kind ps bones
 obeys-agree kind ps bones good = (
   λ o. record {
@@ -251,6 +256,6 @@ obeys-agree kind ps bones good = (
         fits = fits;
         complete = o .complete;
         partnered = o .partnered;
-        keeps = each-map (λ p. keeps-agree kind ps bones (o .distinct) good fits p .1) ps (o .keeps);
+        keeps = keeps-rules kind ps bones good (o .distinct) fits .1 (o .keeps);
       },
 )

@@ -19,3 +19,4 @@ pub mod Rules
 pub mod Links
 pub mod Sizes
 pub mod Statements
+pub mod Numbers

@@ -31,7 +31,7 @@ counted : (n : ℕ) (v : Verdict) (fs : List Face) (links : ℕ) → (judgedBy n
 counted zero v fs links = (λ e. refl, λ e. refl)
 counted (suc n) v fs links = (λ e. e, λ e. e)
 
-none-before : (s name : List ℕ) → Says (has s [] name) ⊥
+pub none-before : (s name : List ℕ) → Says (has s [] name) ⊥
 unfolding firstNamed
 none-before s name = (λ e. false≢true e, λ h. absurd h)
 
