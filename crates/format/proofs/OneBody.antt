@@ -1,14 +1,14 @@
 -- A body is of one list of properties: the first one's numbers, name and data are read from the bytes, and so on.
-use Prim.Native.Nat.{ℕ, zero, suc, _+_}
+use Prim.Native.Nat.{ℕ, _+_}
 use native.Mathlib.Omega.{arith}
-use mathlib.Core.Path.{_≡_, refl, ap, sym, _∙_, subst}
+use mathlib.Core.Path.{_≡_, refl, ap, sym, _∙_}
 use mathlib.Core.List.{List, [], _∷_, _++_, append-assoc, flatMap}
 use lib.ListN.{length, take, drop}
 use Rattle.le.specs.Le.{numberAt}
 use Rattle.props.specs.declared.Size.{Size}
 use Rattle.props.specs.declared.Size.the-variants.{Bytes, Text, NoSuch}
 use Rattle.props.specs.Types.{sizeOf}
-use Rattle.format.specs.Layout.{Each, Property, propertyBytes, EndsInZero, Content, GoodProperty, GoodBody}
+use Rattle.format.specs.Layout.{Each, Property, propertyBytes, Content, GoodProperty}
 use Rattle.format.specs.Laws.{OneBody}
 use Rattle.format.proofs.Properties.{code-read, size-read, elements-read, name-read, content-read}
 use Rattle.format.proofs.Unique.{cut}

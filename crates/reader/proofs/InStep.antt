@@ -1,5 +1,5 @@
 -- The rows of a valid file and its nodes, one by one: a known row's body is of its node's properties, which obey the rules.
-use Prim.Native.Nat.{ℕ, suc, _+_, _-_}
+use Prim.Native.Nat.{ℕ, suc, _+_}
 use native.Mathlib.Omega.{arith}
 use mathlib.Core.Path.{_≡_, refl, ap, sym, _∙_}
 use mathlib.Core.Logic.{_⊎_, inl, inr, ⊎-elim}
@@ -12,10 +12,8 @@ use Rattle.kinds.specs.Kinds.{mesh, isKnown}
 use Rattle.table.specs.declared.Row.{Row}
 use Rattle.table.specs.Table.{noParent}
 use Rattle.body.specs.Body.{properties}
-use Rattle.rules.specs.Rules.{linesOf}
-use Rattle.judge.specs.Judge.{nodeFaces}
 use Rattle.format.specs.Forest.{Forest, end, known, unknown, count, nodes, header, encode, fileHeader, fileOf}
-use Rattle.format.specs.Rows.{nodeRow, hashOf, rows, rowsOf, bodyOf, ownBytes}
+use Rattle.format.specs.Rows.{hashOf, rows, rowsOf, bodyOf}
 use Rattle.format.specs.Layout.{Property, GoodBody, WellFormed, propertyBytes}
 use Rattle.format.proofs.Headers.{length-header, length-fileHeader}
 use Rattle.format.proofs.Rows.{hash-back, part}

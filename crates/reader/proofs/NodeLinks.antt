@@ -1,29 +1,25 @@
 -- The links that the reading resolves are those of the nodes: the same properties, and each reaches its one node.
-use Prim.Native.Nat.{ℕ, zero, suc, _+_, _<_}
+use Prim.Native.Nat.{ℕ, zero, suc, _+_}
 use native.Mathlib.Omega.{arith}
 use mathlib.Core.Path.{_≡_, refl, ap, sym, _∙_, subst}
-use mathlib.Core.Logic.{_⊎_, inl, inr, ⊎-elim, _↔_}
-use mathlib.Core.Bool.{true, false, cond, _&&_, and-eq-true-iff, false≢true}
+use mathlib.Core.Logic.{⊎-elim}
+use mathlib.Core.Bool.{true, false, _&&_, and-eq-true-iff, false≢true}
 use mathlib.Core.List.{List, [], _∷_, _++_, map, map-append}
 use lib.Dec.{eqb}
 use lib.ListN.{length, getD}
 use borrow.Author.Tests.{eq-eqb, eqb-true, eqb-false}
-use Rattle.le.specs.Le.{val, numberAt}
+use Rattle.le.specs.Le.{val}
 use Rattle.le.proofs.Tests.{by-test}
-use Rattle.kinds.specs.Kinds.{isKnown}
 use Rattle.table.specs.declared.Row.{Row}
 use Rattle.body.specs.Body.{properties}
-use Rattle.rules.specs.declared.Line.{Line}
-use Rattle.rules.specs.Table.{lines, linkTo}
+use Rattle.rules.specs.Table.{linkTo}
 use Rattle.rules.specs.Rules.{linesOf, ruleOf}
-use Rattle.judge.specs.Properties.{ruleAt, restAt}
-use Rattle.format.specs.Rows.{hashOf, bodyOf}
-use Rattle.format.specs.Layout.{Each, Property, GoodBody}
+use Rattle.format.specs.Rows.{hashOf}
+use Rattle.format.specs.Layout.{Each, Property}
 use Rattle.format.proofs.Each.{each-append}
 use Rattle.links.specs.Links.{Link, reached, linksAt, rowLinks, linksFrom, linksOf}
 use Rattle.valid.specs.Among.{Picks, none, taken, left}
-use Rattle.valid.specs.Obeys.{Obeys}
-use Rattle.valid.specs.Nodes.{Node, NodeProperty, propertiesFrom, IsLink, noNode, IsNode, IsOnly, NodeLink, ReachesOne, LinksAre}
+use Rattle.valid.specs.Nodes.{Node, NodeProperty, propertiesFrom, IsLink, IsNode, IsOnly, NodeLink, ReachesOne, LinksAre}
 use Rattle.valid.proofs.Described.{Described, described}
 use Rattle.valid.proofs.Described as Found
 use Rattle.valid.proofs.Ruled.{FitsRules}
@@ -34,7 +30,7 @@ use Rattle.valid.proofs.Listed.{to-line, some-line}
 use Rattle.valid.proofs.Picks.{picks-append}
 use Rattle.reader.specs.Acceptance.{rowsOfLink, nodesOfLink}
 use Rattle.reader.proofs.InStep as Step
-use Rattle.reader.proofs.InStep.{KnownAs, SameAs, InStep}
+use Rattle.reader.proofs.InStep.{SameAs, InStep}
 
 -- ---- the rows that are reached are the nodes of the kind and hash
 no-cons : (x : ℕ) (l : List ℕ) → x ∷ l ≡ [] → ⊥

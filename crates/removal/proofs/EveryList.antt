@@ -21,7 +21,7 @@ use Rattle.valid.specs.Valid.{Valid}
 use Rattle.reader.specs.declared.Reading.the-variants.{Accepted}
 use Rattle.reader.specs.Reading.{verdict}
 use Rattle.reader.specs.Reading.{tableAfter as readTable}
-use Rattle.reader.specs.Acceptance.{RowsGive, rowFaces, facesOf}
+use Rattle.reader.specs.Acceptance.{RowsGive, rowFaces}
 use Rattle.reader.proofs.Exactly.{valid-flags, valid-verdict, verdict-valid, valid-gives, in-room, has-room, answersTheRules}
 use Rattle.removal.specs.Tally.{Tallied, noMarks, fileLeft, tallyStep, answers, marksAfter}
 use Rattle.removal.specs.RemovalSequence.{Trimming, answerTo, fileFrom, answersOf, fileAfter, EachTrimming, fedBy, marksBy, IsRead, Goes, Leaves, IsLeft, HoldsOf, EveryList}

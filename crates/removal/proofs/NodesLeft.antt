@@ -1,18 +1,18 @@
 -- The nodes that are left: their faces are those that they had, and their links reach the same nodes.
-use Prim.Native.Nat.{ℕ, zero, suc, _+_, _<_}
+use Prim.Native.Nat.{ℕ, zero, suc, _+_}
 use native.Mathlib.Omega.{arith}
-use mathlib.Core.Path.{_≡_, refl, ap, sym, _∙_, subst}
+use mathlib.Core.Path.{_≡_, refl, ap, sym, _∙_}
 use mathlib.Core.Logic.{Iff·rfl}
 use mathlib.Core.Bool.{Bool, true, false, false≢true}
 use mathlib.Core.List.{List, [], _∷_, _++_, map, map-append, map-map, flatMap}
-use lib.ListN.{length, getD, drop}
+use lib.ListN.{drop}
 use Rattle.le.specs.Le.{val}
 use Rattle.kinds.specs.Kinds.{isKnown}
 use Rattle.rules.specs.declared.Line.{Line}
 use Rattle.rules.specs.Table.{lines, linkTo}
 use Rattle.format.specs.Layout.{Each, Property, WellFormed}
 use Rattle.format.proofs.Each.{each-append, each-both, each-map}
-use Rattle.valid.specs.Nodes.{Node, nodesOf, meshFaces, allFaces, NodeProperty, propertiesFrom, IsLink, noNode, IsNode, IsOnly, NodeLink, ReachesOne, LinksAre}
+use Rattle.valid.specs.Nodes.{Node, nodesOf, meshFaces, allFaces, NodeProperty, propertiesFrom, IsLink, IsNode, IsOnly, NodeLink, ReachesOne, LinksAre}
 use Rattle.valid.proofs.Picks.{picks-map, picks-each, picks-holds, each-some}
 use Rattle.reader.proofs.InStep.{bare-faces}
 use Rattle.removal.specs.Left.{unmarked, numberOf, Stays, unmarkedOf, NodeLinkStays, movedSource, movedNodeLink}

@@ -1,8 +1,8 @@
 -- The rules as the reading goes by them are the rules in document 01's words: types, kv's type by kp, and signed numbers.
-use Prim.Native.Nat.{ℕ, zero, suc, _+_, _-_, _^_, _≤_, _<_}
+use Prim.Native.Nat.{ℕ, zero, suc, _+_, _-_, _≤_, _<_}
 use native.Mathlib.Omega.{arith}
 use mathlib.Core.Path.{_≡_, refl, sym, ap, _∙_}
-use mathlib.Core.Logic.{_⊎_, inl, inr, _↔_, ⊎-elim, Iff·trans}
+use mathlib.Core.Logic.{_⊎_, inl, inr, _↔_, ⊎-elim}
 use mathlib.Core.Bool.{Bool, true, false, cond, not, _||_, false≢true}
 use mathlib.Core.List.{List, [], _∷_, _++_}
 use lib.Dec.{eqb, ltb}
@@ -13,16 +13,15 @@ use Rattle.names.specs.Names.{same, bytesOk}
 use Rattle.names.proofs.Laws.{same-eq, same-refl}
 use Rattle.kinds.specs.Kinds.{curve}
 use Rattle.rules.specs.declared.Line.{Line}
-use Rattle.rules.specs.Table.{letters, lines, free, keys, byte, short, int, float, v4, string, N, keyType, anyType}
+use Rattle.rules.specs.Table.{letters, lines, free, byte, short, int, float, v4, string, N, keyType, anyType}
 use Rattle.rules.specs.Rules.{isN, takes, isText, ruleOf}
 use Rattle.rules.proofs.Laws.{all}
 use Rattle.judge.specs.Judge.{signed}
-use Rattle.judge.specs.Properties.{keyTypes}
 use Rattle.format.specs.Layout.{Each, Property, EndsInZero, GoodProperty}
 use Rattle.format.proofs.Each.{each-both, each-map}
 use Rattle.valid.specs.Among.{Some}
-use Rattle.valid.specs.Lines.{Lists, ByLine, IsN, IsKeyType, Takes}
-use Rattle.valid.specs.Obeys.{Has, Distinct, FitsLine, ofNamed, HasText, KeyTyped, ReadSigned, BoneParent, Keeps, Obeys}
+use Rattle.valid.specs.Lines.{ByLine, IsN, IsKeyType, Takes}
+use Rattle.valid.specs.Obeys.{Has, Distinct, FitsLine, ofNamed, KeyTyped, ReadSigned, BoneParent, Keeps, Obeys}
 use Rattle.valid.proofs.Ruled.{FitsRule, wanted, KeepsRule, FitsRules, ObeysRules}
 use Rattle.valid.proofs.Says.{Says, says-eqb, says-or}
 use Rattle.valid.proofs.Lines.{keys-line, key-text, rotation-letters, visible-letters}

@@ -1,18 +1,15 @@
 -- The line that the reading's search finds is the one of its kind that lists the name: no two lines of the table meet in a name.
-use Prim.Native.Nat.{ℕ, zero, suc, _<_}
-use native.Mathlib.Omega.{arith}
-use mathlib.Core.Path.{_≡_, refl, sym, ap, _∙_, subst}
-use mathlib.Core.Logic.{_⊎_, inl, inr, _↔_}
-use mathlib.Core.Bool.{Bool, true, false, cond, not, _&&_, _||_, false≢true, and-eq-true-iff}
+use Prim.Native.Nat.{ℕ}
+use mathlib.Core.Path.{_≡_, refl, sym, _∙_, subst}
+use mathlib.Core.Logic.{inl, inr, _↔_}
+use mathlib.Core.Bool.{Bool, true, false, cond, not, _&&_, false≢true, and-eq-true-iff}
 use mathlib.Core.List.{List, [], _∷_, _++_}
 use lib.Dec.{eqb}
-use lib.ListN.{length, getD}
 use borrow.Author.Tests.{eq-eqb, eqb-true, eqb-false, not-true}
 use Rattle.le.specs.Le.{val, le, numberAt}
 use Rattle.le.proofs.Tests.{by-test}
 use Rattle.names.specs.Names.{same, decimal, number}
 use Rattle.names.specs.Names.{numbered as numberIn}
-use Rattle.names.proofs.Laws.{same-refl}
 use Rattle.rules.specs.declared.Line.{Line}
 use Rattle.rules.specs.Table.{letters, numbered, unpacked, lines, free, nameOf}
 use Rattle.rules.specs.Rules.{isNumber, lists, ruleIn, ofKind, linesOf, ruleOf}

@@ -3,11 +3,11 @@ use Prim.Native.Nat.{ℕ, zero, suc, _+_, _*_, _/_, _<_}
 use native.Mathlib.Omega.{arith}
 use native.Mathlib.Nat.{zero-mul, one-mul}
 use mathlib.Core.Path.{_≡_, refl, sym, ap, _∙_}
-use mathlib.Core.Logic.{_⊎_, inl, inr, ⊎-elim}
-use mathlib.Core.Bool.{Bool, true, false, cond, not, _&&_, _||_, false≢true}
-use mathlib.Core.List.{List, [], _∷_, _++_, map, append-nil}
+use mathlib.Core.Logic.{inl, inr}
+use mathlib.Core.Bool.{Bool, true, false, not, _&&_, _||_, false≢true}
+use mathlib.Core.List.{List, [], _∷_, map, append-nil}
 use lib.Dec.{eqb}
-use lib.ListN.{length, drop}
+use lib.ListN.{drop}
 use borrow.Author.Tests.{eq-eqb, ne-eqb, eqb-true, eqb-false}
 use Rattle.le.specs.Le.{val, le, numberAt}
 use Rattle.le.proofs.Tests.{by-test}
@@ -15,7 +15,6 @@ use Rattle.names.specs.Names.{same, decimal, number}
 use Rattle.names.specs.Names.{numbered as numberIn}
 use Rattle.names.proofs.Laws.{same-eq, same-refl}
 use Rattle.kinds.specs.Kinds.{mesh}
-use Rattle.props.specs.Step.{codeAt, lengthAt}
 use Rattle.body.specs.Body.{properties}
 use Rattle.faces.specs.declared.Face.{Face}
 use Rattle.faces.specs.Faces.{widthOf, facesIn}
@@ -25,14 +24,13 @@ use Rattle.rules.specs.Rules.{lists, ruleIn, ofKind, linesOf, ruleOf, isN}
 use Rattle.rules.proofs.Laws.{all}
 use Rattle.judge.specs.Properties.{restAt}
 use Rattle.judge.specs.Judge.{nodeFaces}
-use Rattle.format.specs.Layout.{Each, Property, GoodBody}
+use Rattle.format.specs.Layout.{Property, GoodBody}
 use Rattle.format.proofs.Each.{each-map}
-use Rattle.valid.specs.Lines.{Lists, ByLine}
+use Rattle.valid.specs.Lines.{Lists}
 use Rattle.valid.specs.Obeys.{Has, Distinct, value, ofNamed, elementsOf, Obeys}
-use Rattle.valid.specs.Nodes.{Node, numbersFrom, faceOf, meshFaces}
+use Rattle.valid.specs.Nodes.{numbersFrom, meshFaces}
 use Rattle.valid.proofs.Ruled.{FitsRules}
-use Rattle.valid.proofs.Says.{says-eqb, says-same, says-and}
-use Rattle.valid.proofs.Described.{At, Described, none, one, described}
+use Rattle.valid.proofs.Described.{Described, none, one, described}
 use Rattle.valid.proofs.Lines.{faces-line}
 use Rattle.valid.proofs.Listed.{all-each, from-line}
 use Rattle.valid.proofs.Values.{takes-number, values-read}

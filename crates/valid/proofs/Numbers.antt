@@ -1,7 +1,7 @@
 -- A node's refusals, each exactly: 13, 14 and 15 in turn.
 use Prim.Native.Nat.{ℕ, zero, suc}
 use native.Mathlib.Omega.{arith}
-use mathlib.Core.Path.{_≡_, refl, ap, sym, _∙_}
+use mathlib.Core.Path.{_≡_, refl, sym, _∙_}
 use mathlib.Core.Logic.{_↔_, _⊎_, inl, inr, ⊎-elim, Iff·trans}
 use mathlib.Core.Bool.{Bool, true, false, cond, true≢false}
 use mathlib.Core.List.{List, [], _∷_, _++_}
@@ -16,9 +16,8 @@ use Rattle.judge.specs.declared.Fault.the-variants.{Right, Whole, Element}
 use Rattle.judge.specs.declared.Verdict.{Verdict}
 use Rattle.judge.specs.Properties.{ruleAt, besideOf}
 use Rattle.judge.specs.Judge.{refuse, isMistyped, typed, lacks, faultOf, byFault, valued, nodeFaces, nodeLinks, andThen, verdictAt, judgedBy, judgedAt, judged}
-use Rattle.format.specs.Layout.{Property, GoodBody}
 use Rattle.format.proofs.Each.{each-map}
-use Rattle.valid.specs.Statements.{WellTyped, NothingMissing, AllKept, NodeAnswers, JudgedExactly}
+use Rattle.valid.specs.Statements.{WellTyped, AllKept, JudgedExactly}
 use Rattle.valid.proofs.Agree.{fits-rules, keeps-rules}
 use Rattle.valid.proofs.Described.{described}
 use Rattle.valid.proofs.Types.{typed-right}

@@ -1,9 +1,8 @@
 -- The width of b, h and i is their element size; and there is one list of nodes.
-use Prim.Native.Nat.{ℕ}
-use mathlib.Core.Path.{_≡_, refl, ap, _∙_}
+use mathlib.Core.Path.{refl, ap, _∙_}
 use mathlib.Core.List.{List, [], _∷_, _++_}
-use Rattle.format.specs.Forest.{Forest, end, known, unknown}
-use Rattle.format.specs.Layout.{Property, WellFormed}
+use Rattle.format.specs.Forest.{end, known, unknown}
+use Rattle.format.specs.Layout.{Property}
 use Rattle.format.proofs.OneBody.{oneBody}
 use Rattle.valid.specs.Nodes.{Node, nodesOf}
 use Rattle.valid.specs.Statements.{WidthIsSize, OneNodeList}
