@@ -50,17 +50,17 @@ scanOf v fs = countedBy (below v 0 fs) fs
 
 -- ---- document 01's number and values of an answer: the refusal's number, 0 for none; the value that is refused, counted
 -- from 0; faces and degenerate faces
-pub record Numbers : Type 0 where
+pub record ScanNumbers : Type 0 where
   pub number : ℕ
   pub element : ℕ
   pub faces : ℕ
   pub degenerate : ℕ
 
-abbrev pub numbersBy : Values → Scanned → Numbers
+abbrev pub scanNumbersBy : Values → Scanned → ScanNumbers
 -- "each value below V": no refusal, and all faces are counted
-numbersBy Below s = record { number = 0; element = 0; faces = s .faces .0; degenerate = s .degenerate }
+scanNumbersBy Below s = record { number = 0; element = 0; faces = s .faces .0; degenerate = s .degenerate }
 -- "any other property rule above broken": 15, by the first value that is not below V; "all other numbers of it are 0"
-numbersBy (Past k) s = record { number = 15; element = k; faces = 0; degenerate = 0 }
+scanNumbersBy (Past k) s = record { number = 15; element = k; faces = 0; degenerate = 0 }
 
-abbrev pub numbersOf : Scanned → Numbers
-numbersOf s = numbersBy (s .values) s
+abbrev pub scanNumbers : Scanned → ScanNumbers
+scanNumbers s = scanNumbersBy (s .values) s

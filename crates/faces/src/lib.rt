@@ -1,7 +1,7 @@
 // The faces of a mesh: whether each of their values is a vertex, how many faces there are, and how many are degenerate.
 ghost use mathlib.Core.Path.{_≡_};
 ghost use Prim.Native.Nat.{_≤_, _*_};
-ghost use Rattle.faces.specs.Faces.{widthOf, faceAt, facesIn, isDegenerate, countedBy, scanOf, numbersOf};
+ghost use Rattle.faces.specs.Faces.{widthOf, faceAt, facesIn, isDegenerate, countedBy, scanOf, scanNumbers};
 ghost use Rattle.faces.specs.declared.Values.the-variants.{Past};
 ghost use mathlib.Core.List.{[]};
 
@@ -92,7 +92,7 @@ fn past(k: u64) -> Scanned
 // Passes over so many faces once.
 pub fn scan(bytes: &[u8], code: u16, count: u32, vertices: u32) -> Scanned
     ensures result { λ r. ⌜ r ≡ scanOf vertices (facesIn (widthOf code) count (now (bytes .entry))) ⌝ }
-    ensures numbers { λ r. ⌜ numbersOf r ≡ numbersOf (scanOf vertices (facesIn (widthOf code) count (now (bytes .entry)))) ⌝ }
+    ensures numbers { λ r. ⌜ scanNumbers r ≡ scanNumbers (scanOf vertices (facesIn (widthOf code) count (now (bytes .entry)))) ⌝ }
 {
     let width = width_of(code);
     let step = 3 * width as usize;

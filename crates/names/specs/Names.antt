@@ -46,12 +46,12 @@ unfoldable pub numbered : List ℕ → List ℕ → Numeral
 numbered name prefix = cond (same (take (length prefix) name) prefix) (number (drop (length prefix) name)) Not
 
 -- ---- document 01's values of an answer: whether a name has a number by `%d`, and which
-pub record Numbers : Type 0 where
+pub record NumeralNumbers : Type 0 where
   pub is : Bool
   pub value : ℕ
 
-abbrev pub numbersOf : Numeral → Numbers
+abbrev pub numeralNumbers : Numeral → NumeralNumbers
 -- "`%d` is one to three digits": that number
-numbersOf (Is n) = record { is = true; value = n }
+numeralNumbers (Is n) = record { is = true; value = n }
 -- another name, for which the rules have no number: 0
-numbersOf Not = record { is = false; value = 0 }
+numeralNumbers Not = record { is = false; value = 0 }

@@ -37,22 +37,3 @@ sizeNumbers (Bytes w) = record { number = 0; size = w }
 sizeNumbers Text = record { number = 0; size = 0 }
 -- "type code .. wrong": 11
 sizeNumbers NoSuch = record { number = 11; size = 0 }
-
--- a type that is there, with its element's size
-abbrev pub sized : ℕ → SizeNumbers
-sized w = record { number = 0; size = w }
-
--- the same by type code, without the enum: "0x62 `b` 1, 0x68 `h` 2, 0x69 `i` 4, 0x6C `l` 8, 0x66 `f` 4, 0x64 `d` 8,
--- 0x7632 `v2` 8, 0x7633 `v3` 12, 0x7634 `v4` 16. 0x73 `s`"; any other type code is "wrong", 11
-abbrev pub elementOf : ℕ → SizeNumbers
-elementOf code =
-    cond (eqb code 0x62) (sized 1)
-    (cond (eqb code 0x68) (sized 2)
-    (cond (eqb code 0x69) (sized 4)
-    (cond (eqb code 0x6C) (sized 8)
-    (cond (eqb code 0x66) (sized 4)
-    (cond (eqb code 0x64) (sized 8)
-    (cond (eqb code 0x7632) (sized 8)
-    (cond (eqb code 0x7633) (sized 12)
-    (cond (eqb code 0x7634) (sized 16)
-    (cond (eqb code 0x73) (sized 0) (record { number = 11; size = 0 }))))))))))

@@ -3,7 +3,7 @@ ghost use mathlib.Core.Path.{_≡_};
 ghost use Prim.Native.Nat.{_+_, _≤_, _<_};
 ghost use lib.Dec.{leb};
 ghost use lib.ListN.{length, drop};
-ghost use Rattle.props.specs.Types.{sizeOf, noSuch, sizeNumbers, elementOf};
+ghost use Rattle.props.specs.Types.{sizeOf, noSuch, sizeNumbers};
 ghost use Rattle.props.specs.Step.{headerRefusal, dataRefusal, toZero, dataOf, stepAt, codeAt, lengthAt, nameAt, startAt, dataAt, stepNumbers};
 
 // The size of one element, by type code. A string's size is found in its data.
@@ -15,7 +15,7 @@ pub enum Size {
 
 pub fn size_of(code: u16) -> Size
     ensures result { λ r. ⌜ r ≡ sizeOf code ⌝ }
-    ensures numbers { λ r. ⌜ sizeNumbers r ≡ elementOf code ⌝ }
+    ensures numbers { λ r. ⌜ sizeNumbers r ≡ sizeNumbers (sizeOf code) ⌝ }
 {
     match code {
         0x62 => Size::Bytes(1), // b

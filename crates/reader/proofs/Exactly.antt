@@ -4,7 +4,7 @@ use native.Mathlib.Omega.{arith}
 use mathlib.Core.Path.{_≡_, refl, ap, sym, _∙_, subst}
 use mathlib.Core.Logic.{_↔_, inr}
 use mathlib.Core.Bool.{Bool, true, false, false≢true}
-use mathlib.Core.List.{List, [], _++_, append-nil}
+use mathlib.Core.List.{List, []}
 use lib.Dec.{ltb}
 use lib.ListN.{length, length-map}
 use borrow.Author.Tests.{ltb-true, ltb-false}
@@ -18,11 +18,10 @@ use Rattle.rules.specs.Table.{lines}
 use Rattle.rules.specs.Rules.{linesOf}
 use Rattle.faces.specs.Faces.{degenerate}
 use Rattle.judge.specs.Judge.{judged}
-use Rattle.format.specs.Forest.{Forest, end, known, unknown, nodes, encode, count, fileHeader, fileOf}
+use Rattle.format.specs.Forest.{Forest, end, known, unknown, nodes, count, fileOf}
 use Rattle.format.specs.Rows.{rows, rowsOf, bodyOf}
 use Rattle.format.specs.Layout.{Property, WellFormed}
 use Rattle.format.proofs.Each.{each-both, each-map}
-use Rattle.format.proofs.Headers.{length-fileHeader}
 use Rattle.format.proofs.Rows.{ownBytesAddUp}
 use Rattle.format.proofs.Unique.{encodingUnique}
 use Rattle.links.specs.Links.{reached, linksAt, linksOf, resolved, linked}
@@ -42,6 +41,7 @@ use Rattle.reader.specs.declared.Reading.the-variants.{Accepted, Refused
 use Rattle.reader.specs.Reading.{bonesUnder, judgedRow, ruled, byNumber, accountOf, checked, verdict, readingOf, tableAfter}
 use Rattle.reader.specs.Acceptance.{IsValid, Exactly, rowsOfLink, nodesOfLink, AnswerOf, RowsGive, AnswersTheRules, OneForest}
 use Rattle.reader.proofs.Counts.{own-under, reached-nodes}
+use Rattle.reader.proofs.Parts.{file-lies}
 use Rattle.reader.proofs.Nodes.{KnownRow, UnknownRow, each-known}
 use Rattle.reader.proofs.Charges.{own-split, ruled-counts, resolved-counts}
 use Rattle.reader.proofs.InStep.{valid-step, length-step, kinds-step, faces-step, known-bytes, unknown-bytes}
@@ -110,11 +110,10 @@ module _ (s : List ℕ) (f : Forest) where
   -- the rules and the links of a well-formed file
   rows-valid : (flags : ℕ) → s ≡ fileOf flags f → WellFormed f → nodes f ≤ 1024
       → ((ruled s all all .number ≡ 0) × (linked s all .number ≡ 0)) ↔ (EachKnown NodeRuled (bones f) f × EachKnown (NodeLinked f) (bones f) f)
-  unfolding fileOf linked
+  unfolding linked
   rows-valid flags e well few =
-      let whole : s ≡ fileHeader (count f) flags ++ (encode f ++ []) = e ∙ ap (λ l. fileHeader (count f) flags ++ l) (sym (append-nil (encode f))) in
-      let nodes-rows = each-known s all Q P known-row unknown-row f (fileHeader (count f) flags) [] noParent 0 16 (bones f) well whole
-      (sym (length-fileHeader (count f) flags)) (own-under f noParent 0 16 (inr (omega arith))) (λ p a b. refl) (inr (omega arith)) in
+      let nodes-rows = each-known s all Q P known-row unknown-row f [] noParent 0 16 (bones f) well (file-lies s flags f e)
+      (own-under f noParent 0 16 (inr (omega arith))) (λ p a b. refl) (inr (omega arith)) in
       let rules = ruled-each s all all in
       let links = linked-each s all 0 0 all in
       let rows-both = each-both (RightRow s all) (LinkedRow s all) all in

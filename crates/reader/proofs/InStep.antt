@@ -4,23 +4,23 @@ use native.Mathlib.Omega.{arith}
 use mathlib.Core.Path.{_≡_, refl, ap, sym, _∙_}
 use mathlib.Core.Logic.{_⊎_, inl, inr, ⊎-elim}
 use mathlib.Core.Bool.{true, false}
-use mathlib.Core.List.{List, [], _∷_, _++_, append-assoc, append-nil, map, flatMap}
+use mathlib.Core.List.{List, [], _∷_, _++_, map, flatMap}
 use lib.Dec.{eqb}
-use lib.ListN.{length, length-append}
+use lib.ListN.{length}
 use Rattle.le.proofs.Tests.{by-test}
 use Rattle.kinds.specs.Kinds.{mesh, isKnown}
 use Rattle.table.specs.declared.Row.{Row}
 use Rattle.table.specs.Table.{noParent}
 use Rattle.body.specs.Body.{properties}
-use Rattle.format.specs.Forest.{Forest, end, known, unknown, count, nodes, header, encode, fileHeader, fileOf}
+use Rattle.format.specs.Forest.{Forest, end, known, unknown, nodes, encode, fileOf}
 use Rattle.format.specs.Rows.{hashOf, rows, rowsOf, bodyOf}
 use Rattle.format.specs.Layout.{Property, GoodBody, WellFormed, propertyBytes}
-use Rattle.format.proofs.Headers.{length-header, length-fileHeader}
-use Rattle.format.proofs.Rows.{hash-back, part}
+use Rattle.format.proofs.Rows.{hash-back}
 use Rattle.valid.specs.Obeys.{ofNamed, Obeys}
 use Rattle.valid.specs.Valid.{bones, EachKnown, NodeRuled, Valid}
 use Rattle.valid.specs.Nodes.{Node, nodesOf, knownBytes, unknownBytes, meshFaces, allFaces}
 use Rattle.valid.proofs.Meshes.{node-faces}
+use Rattle.reader.proofs.Parts.{Lie, known-parts, after-unknown, file-lies}
 use Rattle.reader.specs.Reading.{ownKnown, ownUnknown}
 use Rattle.reader.specs.Acceptance.{ofRow, ofNode, rowFaces, facesOf}
 
@@ -47,25 +47,19 @@ step-append none b = b
 step-append (one h a) b = one h (step-append a b)
 
 module _ (s : List ℕ) where
-  in-step : (f : Forest) (pre post : List ℕ) (parent row at beside : ℕ) (well : WellFormed f) → s ≡ pre ++ (encode f ++ post) → at ≡ length pre
+  in-step : (f : Forest) (post : List ℕ) (parent row at beside : ℕ) (well : WellFormed f) → Lie s f post at
       → EachKnown NodeRuled beside f → InStep s (rows f parent row at) (nodesOf f well)
-  in-step end pre post parent row at beside well e a ruled = none
-  in-step (known k h ps body kids next) pre post parent row at beside well e a ruled =
-      let hd = header k (24 + length body + length (encode kids)) h ps (count kids) in
+  in-step end post parent row at beside well lie ruled = none
+  in-step (known k h ps body kids next) post parent row at beside well lie ruled =
       let here : ℕ = at + 24 + length body in
-      let e1 : s ≡ (pre ++ hd) ++ (body ++ (encode kids ++ (encode next ++ post))) = e ∙ simp append-assoc in
-      let e2 : s ≡ ((pre ++ hd) ++ body) ++ (encode kids ++ (encode next ++ post)) = e ∙ simp append-assoc in
-      let e3 : s ≡ (((pre ++ hd) ++ body) ++ encode kids) ++ (encode next ++ post) = e ∙ simp append-assoc in
-      let a1 : at + 24 ≡ length (pre ++ hd) = simp (length-append, length-header) (omega arith) in
-      let a2 : here ≡ length ((pre ++ hd) ++ body) = simp (length-append, length-header) (omega arith) in
-      let a3 : here + length (encode kids) ≡ length (((pre ++ hd) ++ body) ++ encode kids) = simp (length-append, length-header) (omega arith) in
+      let parts = known-parts s post at k h ps body kids next lie in
       one (record {
         kind = refl;
         hash = sym (hash-back h);
         reads = inl (record {
           isOne = well .0;
           body = body;
-          here = part s (pre ++ hd) body (encode kids ++ (encode next ++ post)) (at + 24) e1 a1;
+          here = parts .bodyHere;
           good = well .3;
           beside = beside;
           obeys = ruled .0 (well .3);
@@ -73,20 +67,14 @@ module _ (s : List ℕ) where
         });
       })
       (step-append
-      (in-step kids ((pre ++ hd) ++ body) (encode next ++ post) row (suc row) here (bones kids) (well .4) e2 a2 (ruled .1))
-      (in-step next (((pre ++ hd) ++ body) ++ encode kids) post parent (suc row + nodes kids) (here + length (encode kids)) beside (well .5) e3 a3 (ruled .2)))
-  in-step (unknown k h ps c rest next) pre post parent row at beside well e a ruled =
-      let hd = header k (24 + length rest) h ps c in
-      let e3 : s ≡ ((pre ++ hd) ++ rest) ++ (encode next ++ post) = e ∙ simp append-assoc in
-      let a3 : at + 24 + length rest ≡ length ((pre ++ hd) ++ rest) = simp (length-append, length-header) (omega arith) in
+      (in-step kids (encode next ++ post) row (suc row) here (bones kids) (well .4) (parts .below) (ruled .1))
+      (in-step next post parent (suc row + nodes kids) (here + length (encode kids)) beside (well .5) (parts .beside) (ruled .2)))
+  in-step (unknown k h ps c rest next) post parent row at beside well lie ruled =
       one (record { kind = refl; hash = sym (hash-back h); reads = inr (well .0, refl) })
-      (in-step next ((pre ++ hd) ++ rest) post parent (suc row) (at + 24 + length rest) beside (well .3) e3 a3 ruled)
+      (in-step next post parent (suc row) (at + 24 + length rest) beside (well .3) (after-unknown s post at k h ps c rest next lie) ruled)
 
 pub valid-step : (s : List ℕ) (flags : ℕ) (f : Forest) (v : Valid flags f) → s ≡ fileOf flags f → InStep s (rowsOf f) (nodesOf f (v .wellFormed .2))
-unfolding fileOf
-valid-step s flags f v e =
-    in-step s f (fileHeader (count f) flags) [] noParent 0 16 (bones f) (v .wellFormed .2)
-    (e ∙ ap (λ l. fileHeader (count f) flags ++ l) (sym (append-nil (encode f)))) (sym (length-fileHeader (count f) flags)) (v .ruled)
+valid-step s flags f v e = in-step s f [] noParent 0 16 (bones f) (v .wellFormed .2) (file-lies s flags f e) (v .ruled)
 
 pub length-step : {s : List ℕ} {rs : List Row} {ns : List Node} → InStep s rs ns → length rs ≡ length ns
 length-step none = refl

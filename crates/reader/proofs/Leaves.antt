@@ -7,13 +7,13 @@ use mathlib.Core.List.{List, _++_}
 use lib.Dec.{ltb}
 use lib.ListN.{length, drop, replicate, length-append, length-replicate, getD-replicate, List·getD-append}
 use lib.Seq.{drop-at, getD-append-add}
-use borrow.Author.Tests.{le-leb, lt-leb}
+use borrow.Author.Tests.{lt-leb}
 use Rattle.le.specs.Le.{AreBytes}
 use Rattle.le.proofs.Tests.{by-test}
 use Rattle.table.specs.declared.Row.{Row}
 use Rattle.table.specs.Table.{hasRoom, zeroed, cleared, flat, filled}
 use Rattle.table.proofs.Rows.{length-flat}
-use Rattle.table.proofs.Clearing.{length-cleared, length-filled}
+use Rattle.table.proofs.Clearing.{length-cleared, length-filled, fits-hasRoom}
 use Rattle.walk.specs.Walk.{limited}
 use Rattle.walk.proofs.Depth.{neverTooDeep}
 use Rattle.reader.specs.declared.Reading.{Reading}
@@ -67,10 +67,6 @@ module _ (s t : List ℕ) where
   unfolding hasRoom
   no-room h = lt-leb 8192 (length t) h
 
-  room : 8192 ≤ length t → hasRoom t ≡ true
-  unfolding hasRoom
-  room h = le-leb 8192 (length t) h
-
   left-cleared : hasRoom t ≡ true → {n place : ℕ} → verdict s ≡ Refused n place → tableAfter s t ≡ zeroed 8192 t
   unfolding tableAfter cleared
   left-cleared h e = rw (h, e) (rw h)
@@ -94,7 +90,7 @@ module _ (s t : List ℕ) where
     leaves : TableLeft s t
     leaves = record {
       untouched = λ h. let short = short-table s t (no-room h) in (sym (short .0), sym (short .1));
-      refused = λ h n place e i b. ap (λ u. numberIn u i) (left-cleared (room h) (sym (in-room s t (room h)) ∙ e)) ∙ zeroed-in 8192 t i b;
+      refused = λ h n place e i b. ap (λ u. numberIn u i) (left-cleared (fits-hasRoom t h) (sym (in-room s t (fits-hasRoom t h)) ∙ e)) ∙ zeroed-in 8192 t i b;
       accepted = λ a e i h b.
           let in-it = has-room s t e in
           let v = sym (in-room s t in-it) ∙ e in

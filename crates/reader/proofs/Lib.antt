@@ -1,4 +1,5 @@
 pub mod Counts
+pub mod Parts
 pub mod Nodes
 pub mod Judging
 pub mod Loops

@@ -3,7 +3,7 @@ use Prim.Native.Nat.{ℕ, _+_, _≤_}
 use native.Mathlib.Omega.{arith}
 use mathlib.Core.Path.{_≡_, refl, ap, sym, _∙_, subst}
 use mathlib.Core.Logic.{inr}
-use mathlib.Core.List.{List, [], _∷_, _++_, flatMap, append-nil}
+use mathlib.Core.List.{List, [], _∷_, flatMap}
 use lib.ListN.{length, length-append}
 use Rattle.le.specs.Le.{AreBytes}
 use Rattle.le.proofs.Tests.{by-test}
@@ -12,10 +12,9 @@ use Rattle.table.specs.Table.{noParent}
 use Rattle.faces.specs.declared.Face.{Face}
 use Rattle.faces.specs.Faces.{isDegenerate, degenerate}
 use Rattle.judge.specs.Judge.{judged}
-use Rattle.format.specs.Forest.{Forest, encode, count, fileHeader, fileOf}
+use Rattle.format.specs.Forest.{Forest, fileOf}
 use Rattle.format.specs.Rows.{rowsOf, ownBytes, allOwnBytes}
 use Rattle.format.specs.Layout.{Each}
-use Rattle.format.proofs.Headers.{length-fileHeader}
 use Rattle.format.proofs.Each.{each-map}
 use Rattle.format.proofs.Rows.{body-length, ownBytesAddUp}
 use Rattle.valid.specs.Valid.{bones, NodeRuled, Valid}
@@ -27,6 +26,7 @@ use Rattle.reader.specs.Reading.{bonesUnder, judgedRow, verdict}
 use Rattle.reader.specs.Contract.{Small}
 use Rattle.reader.specs.Acceptance.{rowFaces, facesOf}
 use Rattle.reader.proofs.Counts.{own-under}
+use Rattle.reader.proofs.Parts.{file-lies}
 use Rattle.reader.proofs.Nodes.{KnownRow, UnknownRow, each-known}
 use Rattle.reader.proofs.Judging.{judged-known, judged-unknown}
 use Rattle.reader.proofs.Exactly.{verdict-valid, valid-gives}
@@ -55,11 +55,9 @@ module _ (s : List ℕ) (f : Forest) where
   unknown-row r u = (ap (λ j. j .number) (judged-unknown s r (bonesUnder all (r .parent)) u), rw u (omega arith))
 
   rows-small : (flags : ℕ) → Valid flags f → s ≡ fileOf flags f → Each Q all
-  unfolding fileOf
   rows-small flags v e =
-      let whole : s ≡ fileHeader (count f) flags ++ (encode f ++ []) = e ∙ ap (λ l. fileHeader (count f) flags ++ l) (sym (append-nil (encode f))) in
-      each-known s all Q NodeRuled known-row unknown-row f (fileHeader (count f) flags) [] noParent 0 16 (bones f) (v .wellFormed .2) whole
-      (sym (length-fileHeader (count f) flags)) (own-under f noParent 0 16 (inr (omega (arith, v .few)))) (λ p a b. refl) (inr (omega (arith, v .few))) .1 (v .ruled)
+      each-known s all Q NodeRuled known-row unknown-row f [] noParent 0 16 (bones f) (v .wellFormed .2) (file-lies s flags f e)
+      (own-under f noParent 0 16 (inr (omega (arith, v .few)))) (λ p a b. refl) (inr (omega (arith, v .few))) .1 (v .ruled)
 
 all-faces : (s : List ℕ) (rs : List Row) → Each (λ r. length (rowFaces s r) ≤ ownBytes r) rs → length (facesOf s rs) ≤ allOwnBytes rs
 unfolding facesOf flatMap

@@ -22,9 +22,9 @@ use Rattle.format.proofs.Each.{each-both, each-map}
 use Rattle.valid.specs.Among.{Some}
 use Rattle.valid.specs.Lines.{ByLine, IsN, IsKeyType, Takes}
 use Rattle.valid.specs.Obeys.{Has, Distinct, FitsLine, ofNamed, KeyTyped, ReadSigned, BoneParent, Keeps, Obeys}
-use Rattle.valid.proofs.Ruled.{FitsRule, wanted, KeepsRule, FitsRules, ObeysRules}
+use Rattle.valid.proofs.Ruled.{FitsRule, wanted, FitsRules, ObeysRules}
 use Rattle.valid.proofs.Says.{Says, says-eqb, says-or}
-use Rattle.valid.proofs.Lines.{keys-line, key-text, rotation-letters, visible-letters}
+use Rattle.valid.proofs.Lines.{key-text, rotation-letters, visible-letters}
 use Rattle.valid.proofs.Values.{takes-string}
 use Rattle.valid.proofs.Strings.{says-string}
 use Rattle.valid.proofs.Listed.{all-each, to-line, from-line}
@@ -79,7 +79,7 @@ fits-agree kind p =
     )
 
 -- ---- kv's type by kp: by the first kp, as no name stands twice
-abbrev kp : List ℕ
+abbrev pub kp : List ℕ
 kp = letters "kp"
 
 unfoldable firstIs : (text : List ℕ) → List Property → Bool
@@ -92,7 +92,7 @@ wanted-by [] = refl
 wanted-by (p ∷ ps) = by-test (same (p .name) kp) (λ t. rw t) (λ t. rw t (wanted-by ps))
 
 -- the strings of some properties named kp end in a zero
-abbrev Ends : List Property → Type 0
+abbrev pub Ends : List Property → Type 0
 Ends ps = Each (λ p. p .name ≡ kp → EndsInZero (p .content)) ps
 
 abbrev Text : (text : List ℕ) → List Property → Type 0
@@ -143,7 +143,7 @@ key-by false false code r′ v′ n = (
   λ h. eq-eqb float code (sym (h .2 (λ k. false≢true (r′ .1 k)) (λ k. false≢true (v′ .1 k)))),
 )
 
-key-agree : (ps : List Property) (code : ℕ) → Distinct ps → Ends ps → (takes (wanted ps) code ≡ true) ↔ KeyTyped ps code
+pub key-agree : (ps : List Property) (code : ℕ) → Distinct ps → Ends ps → (takes (wanted ps) code ≡ true) ↔ KeyTyped ps code
 key-agree ps code d e =
     let by = key-by (firstIs (letters "rq") ps) (firstIs (letters "vb") ps) code (says-first (letters "rq") rotation-letters ps d e)
     (says-first (letters "vb") visible-letters ps d e) (not-both ps d) in
@@ -153,7 +153,7 @@ key-agree ps code d e =
     )
 
 -- ---- signed numbers
-signed-agree : (v bones : ℕ) → BoneParent (signed v) bones ↔ ((z : ℤ) → ReadSigned v z → BoneParent z bones)
+pub signed-agree : (v bones : ℕ) → BoneParent (signed v) bones ↔ ((z : ℤ) → ReadSigned v z → BoneParent z bones)
 signed-agree v bones =
     by-test (ltb v 0x80000000)
     (λ t.
@@ -178,83 +178,38 @@ signed-agree v bones =
     back (suc m) e high f = f (negsuc (suc m)) (omega (arith, e, high), omega (arith, e))
 
 -- ---- all of it
-module _ (kind : ℕ) (ps : List Property) (bones : ℕ) (d : Distinct ps) (good : Each GoodProperty ps) (fits : FitsRules kind ps) where
-  ends : kind ≡ curve → Ends ps
-  ends k =
-      each-map (λ p b n.
-      let code : p .code ≡ string = takes-string _ (p .code) (rw (k, n) at (b .1 .0)) key-text in
-      (rw code at (b .0 .3)) .1) ps (each-both _ _ ps .0 (good, fits))
+pub ends : (kind : ℕ) (ps : List Property) → Each GoodProperty ps → FitsRules kind ps → kind ≡ curve → Ends ps
+ends kind ps good fits k =
+    each-map (λ p b n.
+    let code : p .code ≡ string = takes-string _ (p .code) (rw (k, n) at (b .1 .0)) key-text in
+    (rw code at (b .0 .3)) .1) ps (each-both _ _ ps .0 (good, fits))
 
-  module _ (p : Property) where
-    abbrev l : Line
-    l = ruleOf kind (p .name)
-
-    keeps-to : KeepsRule l ps bones p → Keeps l ps bones p
-    keeps-to k = record {
-      isFlag = k .isFlag;
-      isTaken = k .isTaken;
-      perVertex = k .perVertex;
-      perWeight = k .perWeight;
-      areFaces = k .areFaces;
-      perIndex = k .perIndex;
-      perKey = λ e. let h = k .perKey e in (h .0, key-agree ps (p .code) d (ends (keys-line kind (p .name) e)) .0 (h .1));
-      parentRight = λ e. signed-agree _ bones .0 (k .parentRight e);
-    }
-
-    keeps-from : Keeps l ps bones p → KeepsRule l ps bones p
-    keeps-from k = record {
-      isFlag = k .isFlag;
-      isTaken = k .isTaken;
-      perVertex = k .perVertex;
-      perWeight = k .perWeight;
-      areFaces = k .areFaces;
-      perIndex = k .perIndex;
-      perKey = λ e. let h = k .perKey e in (h .0, key-agree ps (p .code) d (ends (keys-line kind (p .name) e)) .1 (h .1));
-      parentRight = λ e. signed-agree _ bones .1 (k .parentRight e);
-    }
-
-    free-keeps : Keeps free ps bones p
-    free-keeps = record {
-      isFlag = λ e. absurd (omega (arith, e));
-      isTaken = λ e. absurd (omega (arith, e));
-      perVertex = λ e. absurd (omega (arith, e));
-      perWeight = λ e. absurd (omega (arith, e));
-      areFaces = λ e. absurd (omega (arith, e));
-      perIndex = λ e. absurd (omega (arith, e));
-      perKey = λ e. absurd (omega (arith, e));
-      parentRight = λ e. absurd (omega (arith, e));
-    }
-
-    keeps-agree : KeepsRule l ps bones p ↔ ByLine kind (p .name) (λ l. Keeps l ps bones p)
-    keeps-agree = (
-      λ k. to-line kind (p .name) (λ l. Keeps l ps bones p) (keeps-to k),
-      λ k. keeps-from (from-line kind (p .name) (λ l. Keeps l ps bones p) free-keeps k),
-    )
+free-keeps : (ps : List Property) (bones : ℕ) (p : Property) → Keeps free ps bones p
+free-keeps ps bones p = record {
+  isFlag = λ e. absurd (omega (arith, e));
+  isTaken = λ e. absurd (omega (arith, e));
+  perVertex = λ e. absurd (omega (arith, e));
+  perWeight = λ e. absurd (omega (arith, e));
+  areFaces = λ e. absurd (omega (arith, e));
+  perIndex = λ e. absurd (omega (arith, e));
+  perKey = λ e. absurd (omega (arith, e));
+  parentRight = λ e. absurd (omega (arith, e));
+}
 
 pub fits-rules : (kind : ℕ) (ps : List Property) → FitsRules kind ps ↔ Each (λ p. ByLine kind (p .name) (λ l. FitsLine l p)) ps
 fits-rules kind ps = (each-map (λ p. fits-agree kind p .0) ps, each-map (λ p. fits-agree kind p .1) ps)
 
-pub keeps-rules : (kind : ℕ) (ps : List Property) (bones : ℕ) → Each GoodProperty ps → Distinct ps → FitsRules kind ps
-    → Each (λ p. KeepsRule (ruleOf kind (p .name)) ps bones p) ps ↔ Each (λ p. ByLine kind (p .name) (λ l. Keeps l ps bones p)) ps
-keeps-rules kind ps bones good d fits =
-    (each-map (λ p. keeps-agree kind ps bones d good fits p .0) ps, each-map (λ p. keeps-agree kind ps bones d good fits p .1) ps)
-
-pub obeys-agree : (kind : ℕ) (ps : List Property) (bones : ℕ) → Each GoodProperty ps → ObeysRules kind ps bones ↔ Obeys kind ps bones
-obeys-agree kind ps bones good = (
-  λ o. record {
-    distinct = o .distinct;
-    fits = fits-rules kind ps .0 (o .fits);
-    complete = o .complete;
-    partnered = o .partnered;
-    keeps = each-map (λ p. keeps-agree kind ps bones (o .distinct) good (o .fits) p .0) ps (o .keeps);
-  },
-  λ o.
-      let fits = fits-rules kind ps .1 (o .fits) in
-      record {
-        distinct = o .distinct;
-        fits = fits;
-        complete = o .complete;
-        partnered = o .partnered;
-        keeps = keeps-rules kind ps bones good (o .distinct) fits .1 (o .keeps);
-      },
+pub keeps-rules : (kind : ℕ) (all : List Property) (bones : ℕ) (ps : List Property)
+    → Each (λ p. Keeps (ruleOf kind (p .name)) all bones p) ps ↔ Each (λ p. ByLine kind (p .name) (λ l. Keeps l all bones p)) ps
+keeps-rules kind all bones ps = (
+  each-map (λ p. to-line kind (p .name) (λ l. Keeps l all bones p)) ps,
+  each-map (λ p. from-line kind (p .name) (λ l. Keeps l all bones p) (free-keeps all bones p)) ps,
 )
+
+pub obeys-agree : (kind : ℕ) (ps : List Property) (bones : ℕ) → ObeysRules kind ps bones ↔ Obeys kind ps bones
+obeys-agree kind ps bones =
+    let fits = fits-rules kind ps in
+    let keeps = keeps-rules kind ps bones ps in (
+      λ o. record { distinct = o .distinct; fits = fits .0 (o .fits); complete = o .complete; partnered = o .partnered; keeps = keeps .0 (o .keeps) },
+      λ o. record { distinct = o .distinct; fits = fits .1 (o .fits); complete = o .complete; partnered = o .partnered; keeps = keeps .1 (o .keeps) },
+    )

@@ -63,3 +63,7 @@ walked (p ∷ ps) pre h {s} e =
 
 pub described : (n : ℕ) (s : List ℕ) (good : GoodBody n s) → Described s (properties s n .starts) (good .properties)
 described n s good = rw (← few s n (good .most), ← good .counted) (walked (good .properties) [] (good .good) (good .bytes))
+
+pub each-good : {s starts : List ℕ} {ps : List Property} → Described s starts ps → Each GoodProperty ps
+each-good none = tt
+each-good (one a d) = (a .good, each-good d)

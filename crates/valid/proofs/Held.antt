@@ -2,7 +2,7 @@
 use Prim.Native.Nat.{ℕ, zero, suc, _*_, _/_, _%_, _≤_, _<_}
 use native.Mathlib.Omega.{arith}
 use mathlib.Core.Path.{_≡_, refl, sym, ap, _∙_}
-use mathlib.Core.Logic.{_↔_, Iff·trans, Iff·rfl, Iff·and}
+use mathlib.Core.Logic.{_↔_, Iff·trans, Iff·and}
 use mathlib.Core.Bool.{Bool, true, false, cond, _&&_, false≢true}
 use mathlib.Core.List.{List, [], _∷_, _++_}
 use lib.Dec.{eqb, leb}
@@ -10,6 +10,7 @@ use borrow.Author.Tests.{eqb-true}
 use lib.IntN.{ℤ, pos, negsuc}
 use Rattle.le.specs.Le.{numberAt}
 use Rattle.le.proofs.Tests.{by-test}
+use Rattle.kinds.specs.Kinds.{curve}
 use Rattle.props.specs.Step.{lengthAt, codeAt}
 use Rattle.faces.specs.declared.Values.{Values}
 use Rattle.faces.specs.declared.Values.the-variants.{Below, Past}
@@ -25,8 +26,9 @@ use Rattle.judge.specs.Properties.{restAt, valueAt}
 use Rattle.judge.specs.Judge.{whole, sole, signed, parentOk, byValues, faceFault, faultOf, byFault, valued}
 use Rattle.format.specs.Layout.{Each, Property}
 use Rattle.valid.specs.Among.{Some}
-use Rattle.valid.specs.Obeys.{value, elementsOf, vertexCount, AreFaces, BoneParent}
-use Rattle.valid.proofs.Ruled.{FitsRule, wanted, KeepsRule}
+use Rattle.valid.specs.Obeys.{Distinct, value, elementsOf, vertexCount, AreFaces, KeyTyped, ReadSigned, BoneParent, Keeps}
+use Rattle.valid.proofs.Ruled.{FitsRule, wanted}
+use Rattle.valid.proofs.Agree.{Ends, key-agree, signed-agree}
 use Rattle.valid.proofs.Says.{Says, says-eqb, says-leb, says-ltb, says-and}
 use Rattle.valid.proofs.Described.{At, Described, none, one}
 use Rattle.valid.proofs.Lines.{flag-line, text-line, vertices-line, weights-line, faces-line, indices-line, keys-line, parent-line}
@@ -59,6 +61,7 @@ says-parent (negsuc (suc n)) bones = (λ e. absurd (false≢true e), λ h. absur
 
 -- ---- one property, by what its line holds it to
 module _ (kind : ℕ) (s : List ℕ) (ps : List Property) (bones : ℕ) (b : Beside) (beside : Beheld kind ps bones b)
+    (d : Distinct ps) (ends : kind ≡ curve → Ends ps)
     {at : ℕ} {p : Property} (a : At s at p) (fits : FitsRule (ruleOf kind (p .name)) p) where
   abbrev l : Line
   l = ruleOf kind (p .name)
@@ -103,16 +106,16 @@ module _ (kind : ℕ) (s : List ℕ) (ps : List Property) (bones : ℕ) (b : Bes
 
   keys-right : l .held ≡ keys .held →
       (whole (eqb (lengthAt s at) (b .keys) && takes (b .types) (codeAt s at)) ≡ Right)
-      ↔ (p .elements ≡ elementsOf (letters "kb") ps) × (takes (wanted ps) (p .code) ≡ true)
+      ↔ (p .elements ≡ elementsOf (letters "kb") ps) × KeyTyped ps (p .code)
   keys-right e =
       let line = keys-line kind (p .name) e in
       let n : ℕ = elementsOf (letters "kb") ps in
       let test = takes (wanted ps) (p .code) in
       rw (a .elements, a .code, beside .keys line, beside .types line)
-      (Iff·trans (whole-right (eqb (p .elements) n && test)) (says-and (eqb (p .elements) n) test (says-eqb (p .elements) n) Iff·rfl))
+      (Iff·trans (whole-right (eqb (p .elements) n && test)) (says-and (eqb (p .elements) n) test (says-eqb (p .elements) n) (key-agree ps (p .code) d (ends line))))
 
   parent-right : l .held ≡ boneNumber .held →
-      (sole (parentOk (signed (numberAt 4 (restAt s at) 0)) (b .bones)) ≡ Right) ↔ BoneParent (signed (value p 0)) bones
+      (sole (parentOk (signed (numberAt 4 (restAt s at) 0)) (b .bones)) ≡ Right) ↔ ((z : ℤ) → ReadSigned (value p 0) z → BoneParent z bones)
   unfolding widthOf
   parent-right e =
       let line = parent-line kind (p .name) e in
@@ -120,9 +123,10 @@ module _ (kind : ℕ) (s : List ℕ) (ps : List Property) (bones : ℕ) (b : Bes
       let n : isN (p .code) ≡ true = rw code in
       let four : widthOf (codeAt s at) ≡ 4 = rw (a .code, code) in
       let read : numberAt 4 (restAt s at) 0 ≡ value p 0 = ap (λ w. numberAt w (restAt s at) 0) (sym four) ∙ value-read a n (fits .1 (line .1)) in
-      rw (read, beside .bones) (Iff·trans (sole-right (parentOk (signed (value p 0)) bones)) (says-parent (signed (value p 0)) bones))
+      rw (read, beside .bones) (Iff·trans (sole-right (parentOk (signed (value p 0)) bones))
+      (Iff·trans (says-parent (signed (value p 0)) bones) (signed-agree (value p 0) bones)))
 
-  kept : faultOf l s at b ≡ Right → KeepsRule l ps bones p
+  kept : faultOf l s at b ≡ Right → Keeps l ps bones p
   unfolding faultOf
   kept q = record {
     isFlag = λ e. flag-right e .0 (rw e at q);
@@ -135,7 +139,7 @@ module _ (kind : ℕ) (s : List ℕ) (ps : List Property) (bones : ℕ) (b : Bes
     parentRight = λ e. parent-right e .0 (rw e at q);
   }
 
-  right : KeepsRule l ps bones p → faultOf l s at b ≡ Right
+  right : Keeps l ps bones p → faultOf l s at b ≡ Right
   unfolding faultOf
   right k =
       by-held (flag .held) (λ e. flag-right e .1 (k .isFlag e))
@@ -157,12 +161,12 @@ passed Whole at v = (λ e. absurd (omega arith), λ h. cc)
 passed (Element k) at v = (λ e. absurd (omega arith), λ h. cc)
 
 pub valued-right : (kind : ℕ) (s : List ℕ) (all : List Property) (bones : ℕ) (b : Beside) → Beheld kind all bones b →
-    {starts : List ℕ} {ps : List Property} → Described s starts ps → Each (λ p. FitsRule (ruleOf kind (p .name)) p) ps →
-    (valued (linesOf kind) s b starts .number ≡ 0) ↔ Each (λ p. KeepsRule (ruleOf kind (p .name)) all bones p) ps
+    Distinct all → (kind ≡ curve → Ends all) → {starts : List ℕ} {ps : List Property} → Described s starts ps → Each (λ p. FitsRule (ruleOf kind (p .name)) p) ps →
+    (valued (linesOf kind) s b starts .number ≡ 0) ↔ Each (λ p. Keeps (ruleOf kind (p .name)) all bones p) ps
 unfolding valued
-valued-right kind s all bones b beside none fits = (λ e. tt, λ h. refl)
-valued-right kind s all bones b beside (one {at} {p} {starts} {ps} a d) fits =
+valued-right kind s all bones b beside d ends none fits = (λ e. tt, λ h. refl)
+valued-right kind s all bones b beside d ends (one {at} {p} {starts} {ps} a more) fits =
     rw (a .name)
     (Iff·trans (passed (faultOf (ruleOf kind (p .name)) s at b) at (valued (linesOf kind) s b starts))
-    (Iff·and (kept kind s all bones b beside a (fits .0), right kind s all bones b beside a (fits .0))
-    (valued-right kind s all bones b beside d (fits .1))))
+    (Iff·and (kept kind s all bones b beside d ends a (fits .0), right kind s all bones b beside d ends a (fits .0))
+    (valued-right kind s all bones b beside d ends more (fits .1))))

@@ -18,7 +18,7 @@ use Rattle.judge.specs.Properties.{ruleAt, besideOf}
 use Rattle.judge.specs.Judge.{refuse, isMistyped, typed, lacks, faultOf, byFault, valued, nodeFaces, nodeLinks, andThen, verdictAt, judgedBy, judgedAt, judged}
 use Rattle.format.proofs.Each.{each-map}
 use Rattle.valid.specs.Statements.{WellTyped, AllKept, JudgedExactly}
-use Rattle.valid.proofs.Agree.{fits-rules, keeps-rules}
+use Rattle.valid.proofs.Agree.{ends, fits-rules, keeps-rules}
 use Rattle.valid.proofs.Described.{described}
 use Rattle.valid.proofs.Types.{typed-right}
 use Rattle.valid.proofs.Missing.{lacks-none}
@@ -142,7 +142,7 @@ judgedExactly kind n s bones good =
     ) in
     let k : WellTyped kind ps → (values .number ≡ 0) ↔ AllKept kind ps bones = λ h.
     let f = fits .1 (h .1) in
-    Iff·trans (valued-right kind s ps bones (besideOf kind s starts bones) (beheld kind s d f bones) d f) (keeps-rules kind ps bones (good .good) (h .0) f) in
+    Iff·trans (valued-right kind s ps bones (besideOf kind s starts bones) (beheld kind s d f bones) (h .0) (ends kind ps (good .good) f) d f) (keeps-rules kind ps bones ps) in
     let same : judged kind n s bones .number ≡ verdict .number = same-number (verdict .number) verdict (nodeFaces (linesOf kind) s starts) (nodeLinks (linesOf kind) s starts) in
     let ask = lacks kind (linesOf kind) s starts in
     let only = typed-only (linesOf kind) s [] starts in

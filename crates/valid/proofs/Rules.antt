@@ -14,9 +14,9 @@ use Rattle.judge.specs.Judge.{refuse, typed, lacks, valued, nodeFaces, nodeLink
 use Rattle.format.specs.Layout.{Property, GoodBody}
 use Rattle.valid.specs.Obeys.{Obeys}
 use Rattle.valid.proofs.Ruled.{ObeysRules}
-use Rattle.valid.proofs.Agree.{obeys-agree}
+use Rattle.valid.proofs.Agree.{ends, obeys-agree}
 use Rattle.valid.proofs.Says.{Says}
-use Rattle.valid.proofs.Described.{Described, described}
+use Rattle.valid.proofs.Described.{Described, described, each-good}
 use Rattle.format.proofs.Each.{each-map}
 use Rattle.valid.proofs.Types.{refused, typed-right}
 use Rattle.valid.proofs.Missing.{lacks-none}
@@ -50,10 +50,10 @@ module _ (kind : ℕ) (s : List ℕ) (bones : ℕ) where
             let typing = types .0 (ordered .0 e .0) in
             let rest = after .0 (ordered .0 e .1) in
             let present = missing .0 (rest .0) in
-            let held = valued-right kind s ps bones (besideOf kind s starts bones) (beheld kind s d (typing .2) bones) d (typing .2) in
+            let held = valued-right kind s ps bones (besideOf kind s starts bones) (beheld kind s d (typing .2) bones) (typing .1) (ends kind ps (each-good d) (typing .2)) d (typing .2) in
             record { distinct = typing .1; fits = typing .2; complete = present .0; partnered = present .1; keeps = held .0 (rest .1) },
         λ o.
-            let held = valued-right kind s ps bones (besideOf kind s starts bones) (beheld kind s d (o .fits) bones) d (o .fits) in
+            let held = valued-right kind s ps bones (besideOf kind s starts bones) (beheld kind s d (o .fits) bones) (o .distinct) (ends kind ps (each-good d) (o .fits)) d (o .fits) in
             ordered .1 (
               types .1 (each-map (λ p f h. h) ps (o .fits), o .distinct, o .fits),
               after .1 (missing .1 (o .complete, o .partnered), held .1 (o .keeps)),
@@ -70,7 +70,7 @@ module _ (kind : ℕ) (s : List ℕ) (bones : ℕ) where
 -- for callers: what is not refused obeys the rules, and what obeys them is not refused
 module _ (kind n : ℕ) (s : List ℕ) (bones : ℕ) (good : GoodBody n s) where
   abbrev agree : ObeysRules kind (good .properties) bones ↔ Obeys kind (good .properties) bones
-  agree = obeys-agree kind (good .properties) bones (good .good)
+  agree = obeys-agree kind (good .properties) bones
 
   pub obeyed : judged kind n s bones .number ≡ 0 → Obeys kind (good .properties) bones
   obeyed e = agree .0 (judged-right kind s bones n good .0 e)

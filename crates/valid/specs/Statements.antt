@@ -1,4 +1,4 @@
--- What the definitions of this crate rest on, as named statements.
+-- What the definitions of this crate rest on, and the refusals of one node, as named statements.
 use Prim.Native.Nat.{ℕ}
 use mathlib.Core.Path.{_≡_}
 use mathlib.Core.Logic.{_↔_}

@@ -32,7 +32,7 @@ use Rattle.vectors.specs.Files.{walkNumbers, readingNumbers, fileNumbers
 use Rattle.vectors.specs.Leaves.{writtenLine, leafLine}
 use Rattle.vectors.specs.Listings.{listNumbers}
 use Rattle.vectors.specs.Outputs.{putNumbers, intoOutput, outputLine}
-use Rattle.vectors.specs.Parts.{sizeLine, nameLine, numeralNumbers, stepLine, indexNumbers, partLine}
+use Rattle.vectors.specs.Parts.{sizeLine, nameLine, numeralLine, stepLine, indexNumbers, partLine}
 use Rattle.vectors.specs.Rows.{placesOf, foundNumbers, seenNumbers, tableNumbers, tableLine, lookupNumbers, queryLine, rowLine}
 use Rattle.vectors.specs.Statements.{HasAll}
 use Rattle.vectors.specs.Trims.{trimNumbers, trimLine}
@@ -69,8 +69,8 @@ size (Bytes n) = short (omega arith)
 size Text = short (omega arith)
 size NoSuch = short (omega arith)
 
-numeral : (n : Numeral) → AtMost 12 (numeralNumbers n)
-unfolding numeralNumbers
+numeral : (n : Numeral) → AtMost 12 (numeralLine n)
+unfolding numeralLine
 numeral (Is n) = short (omega arith)
 numeral Not = short (omega arith)
 

@@ -32,9 +32,9 @@ unfoldable pub nameLine : List ℕ → List ℕ
 nameLine s = cond (ltb 65535 (length s)) [] (bit (sizeOk (length s) && bytesOk s) ∷ [])
 
 -- 13: the number in a name
-unfoldable pub numeralNumbers : Numeral → List ℕ
-numeralNumbers (Is n) = 1 ∷ n ∷ []
-numeralNumbers Not = 0 ∷ 0 ∷ []
+unfoldable pub numeralLine : Numeral → List ℕ
+numeralLine (Is n) = 1 ∷ n ∷ []
+numeralLine Not = 0 ∷ 0 ∷ []
 
 -- 15: a parent is one more than its kind, and none is 0
 unfoldable pub parentOf : ℕ → Parent
@@ -58,7 +58,7 @@ partLine f first second =
     cond (eqb function 10) (sizeLine (sizeOf (f .x % 65536)))
     (cond (eqb function 11) (nameLine first)
     (cond (eqb function 12) (bit (same first second) ∷ [])
-    (cond (eqb function 13) (numeralNumbers (numbered first second))
+    (cond (eqb function 13) (numeralLine (numbered first second))
     (cond (eqb function 14) (bit (isKnown (f .x % 4294967296)) ∷ [])
     (cond (eqb function 15) (bit (mayStand (parentOf (f .x)) count) ∷ [])
     (cond (eqb function 16) (stepLine (stepAt first (f .x)))

@@ -8,7 +8,7 @@ ghost use Rattle.props.specs.Step.{stepAt};
 ghost use Rattle.names.specs.Names.{numbered};
 ghost use Rattle.body.specs.Body.{properties};
 ghost use Rattle.vectors.specs.Answers.{answered};
-ghost use Rattle.vectors.specs.Parts.{sizeLine, nameLine, numeralNumbers, parentOf, stepLine, indexNumbers, partLine};
+ghost use Rattle.vectors.specs.Parts.{sizeLine, nameLine, numeralLine, parentOf, stepLine, indexNumbers, partLine};
 
 // 10 a type's element size, 11 to 13 names, 14 and 15 kinds, 16 to 18 properties. Names and bodies are blocks; codes,
 // kinds and places are x and y.
@@ -65,7 +65,7 @@ fn name(bytes: &[u8]) -> Answer
 }
 
 fn numbered(name: &[u8], prefix: &[u8]) -> Answer
-    ensures { λ r. ⌜ r ≡ answered (numeralNumbers (numbered (now (name .entry)) (now (prefix .entry)))) ⌝ }
+    ensures { λ r. ⌜ r ≡ answered (numeralLine (numbered (now (name .entry)) (now (prefix .entry)))) ⌝ }
 {
     match names::numbered(name, prefix) {
         names::Numeral::Is(n) => Answer::two(1, n as u64),

@@ -10,7 +10,7 @@ use borrow.Author.Needs.{needs}
 use Rattle.faces.specs.declared.Face.{Face}
 use Rattle.faces.specs.declared.Values.{Values}
 use Rattle.faces.specs.declared.Values.the-variants.{Past}
-use Rattle.faces.specs.Faces.{widthOf, facesIn, below, degenerate as degenerates, countedBy, scanOf, numbersOf}
+use Rattle.faces.specs.Faces.{widthOf, facesIn, below, degenerate as degenerates, countedBy, scanOf, scanNumbers}
 use Rattle.le.proofs.Answers.{told}
 use Rattle.faces.proofs.Laws.{first, ended, length-facesIn, past-first, past-second, past-third, passed, below-none}
 use Rattle.faces.proofs.Laws.{counted, not-counted, count-none, scan-past, scan-below}
@@ -95,7 +95,7 @@ returns : tie.Need-returns Inv-loop μ-loop
 returns c =
     let m = c .before .before .before in
     let l = m .before .before in
-    told numbersOf (c .past .ensures ∙ stopped m (past-first (limit l) (l .loop .done) (m .face-at .result) (behind l) (omega arith)))
+    told scanNumbers (c .past .ensures ∙ stopped m (past-first (limit l) (l .loop .done) (m .face-at .result) (behind l) (omega arith)))
 
 add-past : tie.Need-add-past Inv-loop μ-loop
 add-past c = omega arith
@@ -107,7 +107,7 @@ returns-2 : tie.Need-returns-2 Inv-loop μ-loop
 returns-2 c =
     let m = c .before .before .before .before .before in
     let l = m .before .before in
-    told numbersOf (c .past2 .ensures ∙ stopped m (past-second (limit l) (l .loop .done) (m .face-at .result) (behind l) (omega arith) (omega arith)))
+    told scanNumbers (c .past2 .ensures ∙ stopped m (past-second (limit l) (l .loop .done) (m .face-at .result) (behind l) (omega arith) (omega arith)))
 
 add-past-2 : tie.Need-add-past-2 Inv-loop μ-loop
 add-past-2 c = omega arith
@@ -119,7 +119,7 @@ returns-3 : tie.Need-returns-3 Inv-loop μ-loop
 returns-3 c =
     let m = c .before .before .before .before .before .before .before in
     let l = m .before .before in
-    told numbersOf (c .past3 .ensures ∙ stopped m (past-third (limit l) (l .loop .done) (m .face-at .result) (behind l) (omega arith) (omega arith) (omega arith)))
+    told scanNumbers (c .past3 .ensures ∙ stopped m (past-third (limit l) (l .loop .done) (m .face-at .result) (behind l) (omega arith) (omega arith) (omega arith)))
 
 is-degenerate-requires : tie.Need-is-degenerate-requires Inv-loop μ-loop
 is-degenerate-requires c κs = search needs
@@ -169,7 +169,7 @@ returns-4 c =
     let l = c .before in
     let a = l .before .before .before .args in
     let none = ended (l .before .width-of .result) (l .loop .left) (drop (l .loop .at) (a .bytes .now)) (omega arith) in
-    told numbersOf
+    told scanNumbers
     (scan-below (a .vertices) (all l)
     (sym (l .loop .inv .3) ∙ below-none (a .vertices) (l .loop .done) none)
     (omega (arith, l .loop .inv .1, length-facesIn (widthOf (a .code)) (a .count) (a .bytes .now)))

@@ -4,13 +4,13 @@ use lib.Seq.{length-take-le}
 use borrow.Author.Needs.{needs}
 use borrow.Author.Tests.{not-true, not-false}
 use Rattle.le.proofs.Answers.{told}
-use Rattle.names.specs.Names.{numbersOf}
+use Rattle.names.specs.Names.{numeralNumbers}
 use Rattle.names.proofs.Laws.{numbered-short, numbered-other, numbered-by}
 use Rattle.names.proofs.numbered.Statement.{statement}
 use Rattle.names.proofs.numbered.Tie as tie
 
 returns : tie.Need-returns
-returns c = told numbersOf (sym (numbered-short _ _ (c .if1 .taken)))
+returns c = told numeralNumbers (sym (numbered-short _ _ (c .if1 .taken)))
 
 slice-aggregate-same : tie.Need-slice-aggregate-same
 slice-aggregate-same c = sym (length-take-le _ (c .before .before .before .before .args .name .now) (c .before .if1 .left))
@@ -19,7 +19,7 @@ same-requires : tie.Need-same-requires
 same-requires c κs = search needs
 
 returns-2 : tie.Need-returns-2
-returns-2 c = told numbersOf (sym (numbered-other _ _ (sym (c .before .same .ensures) ∙ not-true _ (c .if2 .taken))))
+returns-2 c = told numeralNumbers (sym (numbered-other _ _ (sym (c .before .same .ensures) ∙ not-true _ (c .if2 .taken))))
 
 sub-number : tie.Need-sub-number
 sub-number c = search needs
@@ -36,7 +36,7 @@ number-requires c κs = search needs
 returns-3 : tie.Need-returns-3
 returns-3 c =
     let s = c .before .before in
-    told numbersOf (c .number .ensures ∙ sym (numbered-by _ _ (sym (s .before .same .ensures) ∙ not-false _ (s .if2 .left))))
+    told numeralNumbers (c .number .ensures ∙ sym (numbered-by _ _ (sym (s .before .same .ensures) ∙ not-false _ (s .if2 .left))))
 
 pub numbered-spec : {M : Type 1} → statement M
 numbered-spec =

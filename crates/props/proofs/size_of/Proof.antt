@@ -2,13 +2,13 @@
 use Prim.Native.Nat.{ℕ}
 use mathlib.Core.Path.{_≡_, refl, ap, sym}
 use borrow.Author.Tests.{ne-eqb}
-use Rattle.props.specs.Types.{sizeOf, elementOf}
+use Rattle.le.proofs.Answers.{told}
+use Rattle.props.specs.Types.{sizeOf, sizeNumbers}
 use Rattle.props.proofs.size_of.Statement.{statement}
 use Rattle.props.proofs.size_of.Tie as tie
 
--- by the one table and by the other
-by-code : {k code : ℕ} → code ≡ k → (sizeOf k ≡ sizeOf code) × (elementOf k ≡ elementOf code)
-by-code e = (ap sizeOf (sym e), ap elementOf (sym e))
+by-code : {k code : ℕ} → code ≡ k → (sizeOf k ≡ sizeOf code) × (sizeNumbers (sizeOf k) ≡ sizeNumbers (sizeOf code))
+by-code e = told sizeNumbers (ap sizeOf (sym e))
 
 returns : tie.Need-returns
 returns c = by-code (c .match .keys1)

@@ -2,7 +2,7 @@
 use mathlib.Core.Path.{ap, sym, _∙_}
 use borrow.Author.Needs.{needs}
 use Rattle.vectors.specs.Answers.{answered}
-use Rattle.vectors.specs.Parts.{numeralNumbers}
+use Rattle.vectors.specs.Parts.{numeralLine}
 use Rattle.vectors.proofs.parts.numbered.Statement.{statement}
 use Rattle.vectors.proofs.parts.numbered.Tie as tie
 
@@ -25,14 +25,14 @@ two-requires-2 : tie.Need-two-requires-2
 two-requires-2 c κs = search needs
 
 returns : tie.Need-returns
-unfolding numeralNumbers
+unfolding numeralLine
 returns c =
     let at-numbered = c .before .before .before .before in
-    c .two .ensures ∙ ap (λ s. answered (numeralNumbers s)) (sym (c .before .before .n .given .1) ∙ at-numbered .numbered .ensures .0)
+    c .two .ensures ∙ ap (λ s. answered (numeralLine s)) (sym (c .before .before .n .given .1) ∙ at-numbered .numbered .ensures .0)
 
 returns-2 : tie.Need-returns-2
-unfolding numeralNumbers
-returns-2 c = c .two2 .ensures ∙ ap (λ s. answered (numeralNumbers s)) (sym (c .before .enum-told .given .1) ∙ c .before .before .before .numbered .ensures .0)
+unfolding numeralLine
+returns-2 c = c .two2 .ensures ∙ ap (λ s. answered (numeralLine s)) (sym (c .before .enum-told .given .1) ∙ c .before .before .before .numbered .ensures .0)
 
 pub numbered-spec : {M : Type 1} → statement M
 numbered-spec =
