@@ -6,6 +6,7 @@ use mathlib.Core.List.{List, [], _∷_, _++_}
 use lib.Dec.{eqb, ltb}
 use lib.ListN.{length, replicate}
 use lib.Seq.{sets}
+use Rattle.base.specs.Limits.{mostProperties}
 use Rattle.names.specs.Names.{same}
 use Rattle.props.specs.declared.Step.{Step}
 use Rattle.props.specs.declared.Step.the-variants.{Past, Refused}
@@ -38,7 +39,7 @@ pass s (suc k) at = byStep at (pass s k) (stepAt s at)
 
 -- 9, "over 64 properties"; or what the first property that is refused is refused with
 unfoldable pub properties : List ℕ → ℕ → Walked
-properties s k = cond (ltb 64 k) (stop 9 0) (pass s k 0)
+properties s k = cond (ltb mostProperties k) (stop 9 0) (pass s k 0)
 
 -- "exactly its count (at most 64) of properties by the rules of 9 to 11": none is refused, and they end with the bytes
 unfoldable pub exactly : List ℕ → ℕ → Bool

@@ -2,6 +2,7 @@
 ghost use mathlib.Core.Path.{_≡_};
 ghost use Prim.Native.Nat.{_≤_};
 ghost use lib.ListN.{length};
+ghost use Rattle.base.specs.Limits.{mostProperties};
 ghost use Rattle.body.specs.Body.{pass, properties, exactly, answerOf, indexOf, firstNamed};
 
 // How a walk over properties ended: with number 0 just past the last, with another refused at a property.
@@ -14,7 +15,7 @@ pub struct Passed {
 pub fn pass(body: &[u8], count: u32) -> Passed
     ensures { λ r. ⌜ r ≡ answerOf (properties (now (body .entry)) count) ⌝ }
 {
-    if 64 < count {
+    if base::MOST_PROPERTIES < count {
         return Passed { number: 9, at: 0 };
     }
     let mut at: usize = 0;
@@ -54,10 +55,10 @@ pub struct Index {
 // Walks over so many properties, at most 64, and notes where they start.
 pub fn index_of(body: &[u8], count: u32) -> Index
     ensures result { λ r. ⌜ r ≡ indexOf (properties (now (body .entry)) count) ⌝ }
-    ensures bound { λ r. ⌜ r .count ≤ 64 ⌝ }
+    ensures bound { λ r. ⌜ r .count ≤ mostProperties ⌝ }
 {
     let mut starts = [0usize; 65];
-    if 64 < count {
+    if base::MOST_PROPERTIES < count {
         return Index {
             number: 9,
             count: 0,

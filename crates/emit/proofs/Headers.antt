@@ -7,7 +7,7 @@ use lib.ListN.{length}
 use lib.Seq.{sets}
 use Rattle.le.specs.Le.{le}
 use Rattle.le.proofs.Laws.{le-halves}
-use Rattle.le.proofs.Stores.{sets-append}
+use Rattle.base.proofs.Stores.{sets-append}
 use Rattle.table.specs.declared.Row.{Row}
 use Rattle.format.specs.Forest.{header, fileHeader}
 use Rattle.format.specs.Rows.{hashOf}

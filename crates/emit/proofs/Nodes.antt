@@ -7,7 +7,7 @@ use mathlib.Core.List.{List, [], _++_, append-assoc, append-nil}
 use lib.ListN.{length, take, drop, length-append, length-drop, drop-of-length-le}
 use lib.Seq.{sets, length-take-le, sets-eq, drop-drop}
 use borrow.Rule.Slice.PartMut.{midOf, putMid}
-use Rattle.le.proofs.Stores.{sets-append}
+use Rattle.base.proofs.Stores.{sets-append}
 use Rattle.table.specs.declared.Row.{Row}
 use Rattle.table.specs.Table.{rowAt, rowsAt}
 use Rattle.format.specs.Forest.{header}

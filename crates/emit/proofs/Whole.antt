@@ -7,7 +7,7 @@ use mathlib.Core.List.{List, _++_}
 use lib.ListN.{length, drop, length-append}
 use lib.Seq.{sets, sets-eq}
 use borrow.Author.Tests.{lt-ltb, le-ltb}
-use Rattle.le.proofs.Stores.{sets-append}
+use Rattle.base.proofs.Stores.{sets-append}
 use Rattle.format.specs.Forest.{fileHeader}
 use Rattle.format.proofs.Headers.{length-fileHeader}
 use Rattle.table.specs.declared.Row.{Row}

@@ -4,6 +4,7 @@ use mathlib.Core.Path.{_≡_}
 use mathlib.Core.Bool.{Bool, true, false}
 use mathlib.Core.List.{List, _++_}
 use lib.ListN.{length, getD}
+use Rattle.base.specs.Limits.{mostBytes}
 use Rattle.table.specs.declared.Row.{Row}
 use Rattle.table.specs.Table.{rowAt, rowsAt}
 use Rattle.format.specs.Forest.{header}
@@ -22,9 +23,9 @@ Sized zs s t n = (i : ℕ) → i < n → getD zs i 0 ≡ sizeOf s i (rowAt t i) 
 -- what was measured of n rows: their file is over 16,777,216 bytes; or it is not, and this is its length, and its roots, and
 -- its sizes
 abbrev pub MeasuredBy : Bool → Measured → (s t : List ℕ) (n : ℕ) (sizes : List ℕ) → Type 0
-MeasuredBy true m s t n zs = 16777216 < 16 + length (nodesBytes s 0 (rowsAt t 0 n))
+MeasuredBy true m s t n zs = mostBytes < 16 + length (nodesBytes s 0 (rowsAt t 0 n))
 MeasuredBy false m s t n zs =
-    (m .length ≡ 16 + length (nodesBytes s 0 (rowsAt t 0 n))) × (m .length ≤ 16777216) × (m .roots ≡ roots (rowsAt t 0 n)) × Sized zs s t n
+    (m .length ≡ 16 + length (nodesBytes s 0 (rowsAt t 0 n))) × (m .length ≤ mostBytes) × (m .roots ≡ roots (rowsAt t 0 n)) × Sized zs s t n
 
 abbrev pub Measures : Measured → (s t : List ℕ) (n : ℕ) (sizes : List ℕ) → Type 0
 Measures m s t n zs = MeasuredBy (m .over) m s t n zs

@@ -5,6 +5,7 @@ use mathlib.Core.Bool.{cond}
 use mathlib.Core.List.{List, [], _∷_, _++_}
 use lib.Dec.{eqb, ltb}
 use lib.ListN.{length, drop}
+use Rattle.base.specs.Limits.{mostBytes, mostRows}
 use Rattle.kinds.specs.Kinds.{root}
 use Rattle.table.specs.declared.Row.{Row}
 use Rattle.table.specs.Table.{rowsAt}
@@ -16,7 +17,7 @@ use Rattle.emit.specs.declared.Written.{Written}
 
 -- the rows to emit: the first of a table, as many as are asked for, and at most 1,024
 abbrev pub emittedRows : (t : List ℕ) (rows : ℕ) → List Row
-emittedRows t rows = rowsAt t 0 (min rows 1024)
+emittedRows t rows = rowsAt t 0 (min rows mostRows)
 
 -- ---- sizes
 
@@ -64,7 +65,7 @@ done n = record { number = 0; place = 0; length = n }
 
 -- "25 length over 16,777,216, 26 output too short"
 abbrev pub byLength : (n room : ℕ) → Written
-byLength n room = cond (ltb 16777216 n) (refused 25 0) (cond (ltb room n) (refused 26 0) (done n))
+byLength n room = cond (ltb mostBytes n) (refused 25 0) (cond (ltb room n) (refused 26 0) (done n))
 
 unfoldable pub emission : (flags : ℕ) (s : List ℕ) → List Row → (room : ℕ) → Written
 emission flags s rows room = byLength (length (fileBytes flags s rows)) room

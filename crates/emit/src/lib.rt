@@ -4,13 +4,15 @@ ghost use mathlib.Core.Path.{_≡_};
 ghost use Prim.Native.Nat.{ℕ, _+_, _≤_, _<_};
 ghost use lib.ListN.{length, getD};
 ghost use lib.Seq.{sets};
+ghost use Rattle.base.specs.Limits.{mostRows};
 ghost use Rattle.table.specs.Table.{rowsAt};
 ghost use Rattle.format.specs.Forest.{header, fileHeader};
 ghost use Rattle.format.specs.Rows.{hashOf, bodyOf};
 ghost use Rattle.emit.specs.Emission.{emittedRows, nodesBytes, emission, outputOf};
 ghost use Rattle.emit.specs.Contract.{nodeBytes, Sized, Measures};
 
-const ROOT: u32 = 0x746F6F72;
+// The largest file, as a length is summed up.
+const MOST_BYTES: u64 = base::MOST_BYTES as u64;
 
 // Number 0 and the file's length, or a refusal's number and place; all other numbers are 0.
 pub struct Written {
@@ -38,7 +40,7 @@ fn own(source: &[u8], row: table::Row) -> u64
 // holds the sum of its children's sizes. The length only grows, so that the pass ends as soon as it is over the limit; no
 // size exceeds the length.
 fn measure(plan: &[u32], rows: usize, source: &[u8], sizes: &mut [u32]) -> Measured
-    requires { ⌜ (rows ≤ 1024) × (length (now sizes) ≡ 1024) × ((p : ℕ) → getD (now sizes) p 0 ≡ 0) ⌝ }
+    requires { ⌜ (rows ≤ mostRows) × (length (now sizes) ≡ mostRows) × ((p : ℕ) → getD (now sizes) p 0 ≡ 0) ⌝ }
     ensures { λ r. ⌜ Measures r (now (source .entry)) (now (plan .entry)) rows (now (sizes .exit)) ⌝ }
 {
     let mut length: u64 = 16;
@@ -49,7 +51,7 @@ fn measure(plan: &[u32], rows: usize, source: &[u8], sizes: &mut [u32]) -> Measu
         let row = table::row_at(plan, i);
         let own = own(source, row);
         length += own;
-        if 16777216 < length {
+        if MOST_BYTES < length {
             return Measured {
                 over: true,
                 roots: 0,
@@ -63,7 +65,7 @@ fn measure(plan: &[u32], rows: usize, source: &[u8], sizes: &mut [u32]) -> Measu
         if parent < i {
             sizes[parent] = sizes[parent] + size;
         }
-        if row.kind == ROOT {
+        if row.kind == kinds::ROOT {
             roots += 1;
         }
     }
@@ -78,7 +80,7 @@ fn measure(plan: &[u32], rows: usize, source: &[u8], sizes: &mut [u32]) -> Measu
 fn put_file_header(out: &mut [u8], roots: u32, flags: u32)
     ensures { λ _. ⌜ now (out .exit) ≡ sets (now (out .entry)) 0 (fileHeader roots flags) ⌝ }
 {
-    le::put_u32(out, 0, 0x74736163);
+    le::put_u32(out, 0, format::FIRST_FOUR);
     le::put_u32(out, 4, 1);
     le::put_u32(out, 8, roots);
     le::put_u32(out, 12, flags);
@@ -110,8 +112,8 @@ fn put_node(out: &mut [u8], at: usize, source: &[u8], row: table::Row, size: u32
 
 // Writes the nodes of the rows, one behind the other.
 fn put_nodes(out: &mut [u8], plan: &[u32], rows: usize, source: &[u8], sizes: &[u32])
-    requires rows { ⌜ rows ≤ 1024 ⌝ }
-    requires length { ⌜ length (now sizes) ≡ 1024 ⌝ }
+    requires rows { ⌜ rows ≤ mostRows ⌝ }
+    requires length { ⌜ length (now sizes) ≡ mostRows ⌝ }
     requires sizes { ⌜ Sized (now sizes) (now source) (now plan) rows ⌝ }
     requires room { ⌜ 16 + length (nodesBytes (now source) 0 (rowsAt (now plan) 0 rows)) ≤ length (now out) ⌝ }
     ensures { λ _. ⌜ now (out .exit) ≡ sets (now (out .entry)) 16 (nodesBytes (now (source .entry)) 0 (rowsAt (now (plan .entry)) 0 rows)) ⌝ }
@@ -130,8 +132,12 @@ pub fn emit(plan: &[u32], rows: usize, source: &[u8], flags: u32, out: &mut [u8]
     ensures result { λ r. ⌜ r ≡ emission flags (now (source .entry)) (emittedRows (now (plan .entry)) rows) (length (now (out .entry))) ⌝ }
     ensures output { λ r. ⌜ now (out .exit) ≡ outputOf flags (now (source .entry)) (emittedRows (now (plan .entry)) rows) (now (out .entry)) ⌝ }
 {
-    let n = if rows < 1024 { rows } else { 1024 };
-    let mut sizes = [0u32; 1024];
+    let n = if rows < base::MOST_ROWS {
+        rows
+    } else {
+        base::MOST_ROWS
+    };
+    let mut sizes = [0u32; base::MOST_ROWS];
     let m = measure(plan, n, source, &mut sizes);
     if m.over {
         return Written {

@@ -6,6 +6,7 @@ use mathlib.Core.List.{List, [], _∷_}
 use lib.Dec.{eqb, ltb}
 use lib.ListN.{length, drop}
 use Rattle.le.specs.Le.{numberAt}
+use Rattle.props.specs.Types.{byte, short}
 use Rattle.faces.specs.declared.Face.{Face}
 use Rattle.faces.specs.declared.Values.{Values}
 use Rattle.faces.specs.declared.Values.the-variants.{Below, Past}
@@ -13,7 +14,7 @@ use Rattle.faces.specs.declared.Scanned.{Scanned}
 
 -- the width of a value, the size of b, h, i; any other type is read as i
 unfoldable pub widthOf : ℕ → ℕ
-widthOf code = cond (eqb code 0x62) 1 (cond (eqb code 0x68) 2 4)
+widthOf code = cond (eqb code byte) 1 (cond (eqb code short) 2 4)
 
 -- the face at a place of some bytes, of values of a width
 abbrev pub faceAt : ℕ → List ℕ → ℕ → Face

@@ -34,8 +34,8 @@ pub fn width_of(code: u16) -> u32
     ensures bound { λ r. ⌜ r ≤ 4 ⌝ }
 {
     match code {
-        0x62 => 1,
-        0x68 => 2,
+        props::BYTE => 1,
+        props::SHORT => 2,
         _ => 4,
     }
 }

@@ -9,13 +9,14 @@ use lib.ListN.{length, take, drop, length-append}
 use lib.Seq.{take-at, take-append-seam}
 use borrow.Author.Tests.{ltb-true, ltb-false}
 use Rattle.le.specs.Le.{AreBytes}
-use Rattle.le.proofs.Tests.{by-test}
+use Rattle.base.proofs.Tests.{by-test}
 use Rattle.props.specs.declared.Step.{Step}
 use Rattle.props.specs.declared.Step.the-variants.{Past, Refused}
 use Rattle.props.specs.Step.{stepAt}
 use Rattle.body.specs.Body.{byStep, pass, properties}
 use Rattle.body.proofs.Laws.{few, many}
-use Rattle.format.specs.Layout.{Each, Property, propertyBytes, GoodProperty, GoodBody}
+use Rattle.base.specs.Lists.{Each}
+use Rattle.format.specs.Layout.{Property, propertyBytes, GoodProperty, GoodBody}
 use Rattle.format.proofs.Properties.{step-good, step-sound, step-told}
 
 -- ---- a good body is walked to its end

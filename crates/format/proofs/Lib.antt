@@ -1,4 +1,3 @@
-pub mod Each
 pub mod Headers
 pub mod Rows
 pub mod Stages

@@ -8,7 +8,8 @@ use Rattle.le.specs.Le.{numberAt}
 use Rattle.props.specs.declared.Size.{Size}
 use Rattle.props.specs.declared.Size.the-variants.{Bytes, Text, NoSuch}
 use Rattle.props.specs.Types.{sizeOf}
-use Rattle.format.specs.Layout.{Each, Property, propertyBytes, Content, GoodProperty}
+use Rattle.base.specs.Lists.{Each}
+use Rattle.format.specs.Layout.{Property, propertyBytes, Content, GoodProperty}
 use Rattle.format.specs.Laws.{OneBody}
 use Rattle.format.proofs.Properties.{code-read, size-read, elements-read, name-read, content-read}
 use Rattle.format.proofs.Unique.{cut}

@@ -8,7 +8,7 @@ use lib.ListN.{length, take, drop, length-append, length-drop}
 use lib.Seq.{length-take-le, take-append-seam, drop-append-seam, drop-drop}
 use Rattle.le.specs.Le.{le, numberAt, AreBytes}
 use Rattle.le.proofs.Laws.{val-le, numberAt-lt, rest, rest-drop, part-front, le-front}
-use Rattle.le.proofs.Tests.{by-test}
+use Rattle.base.proofs.Tests.{by-test}
 use Rattle.names.specs.Names.{bytesOk}
 use Rattle.props.specs.declared.Cursor.{Cursor}
 use Rattle.props.specs.declared.Property.{Property as Parts}

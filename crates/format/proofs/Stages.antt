@@ -8,7 +8,7 @@ use lib.Dec.{eqb, leb, ltb}
 use lib.ListN.{length, take, length-append}
 use lib.Seq.{length-take-le}
 use borrow.Author.Tests.{eq-eqb, ne-eqb, eqb-true, eqb-false, leb-true, leb-false, le-leb, lt-leb, ltb-false, not-true}
-use Rattle.le.proofs.Tests.{by-test}
+use Rattle.base.proofs.Tests.{by-test}
 use Rattle.names.specs.Names.{sizeOk, byteOk, bytesOk}
 use Rattle.props.specs.declared.Size.{Size}
 use Rattle.props.specs.declared.Size.the-variants.{Bytes, Text, NoSuch}
@@ -19,7 +19,8 @@ use Rattle.props.specs.declared.Step.the-variants.{Past, Refused}
 use Rattle.props.specs.Types.{sizeOf, noSuch}
 use Rattle.props.specs.Step.{headerRefusal, dataRefusal, toZero, fit, dataOf, past}
 use Rattle.props.proofs.Cases.{no-type, no-name, name-fits, fit-in, elements-fit}
-use Rattle.format.specs.Layout.{Each, NameByte, EndsInZero, Content}
+use Rattle.base.specs.Lists.{Each}
+use Rattle.format.specs.Layout.{NameByte, EndsInZero, Content}
 
 -- ---- a name's size and bytes
 pub size-good : (n : ℕ) → 1 ≤ n → n ≤ 32 → sizeOk n ≡ true

@@ -12,8 +12,9 @@ use Rattle.table.specs.declared.Row.{Row}
 use Rattle.table.specs.Table.{noParent}
 use Rattle.format.specs.Forest.{Forest, end, known, unknown, nodes, encode}
 use Rattle.format.specs.Rows.{rows}
-use Rattle.format.specs.Layout.{Each, Placed}
-use Rattle.format.proofs.Each.{each-append, each-map}
+use Rattle.base.specs.Lists.{Each}
+use Rattle.format.specs.Layout.{Placed}
+use Rattle.base.proofs.Lists.{each-append, each-map}
 use Rattle.format.proofs.Headers.{length-header}
 
 -- a body lies between two places, behind its node's header

@@ -4,6 +4,8 @@ use mathlib.Core.Path.{_≡_}
 use mathlib.Core.Bool.{true, false}
 use mathlib.Core.List.{List, [], _∷_, _++_, flatMap}
 use lib.ListN.{length}
+use Rattle.base.specs.Limits.{mostProperties, mostRows}
+use Rattle.base.specs.Lists.{Each}
 use Rattle.le.specs.Le.{le, AreBytes}
 use Rattle.kinds.specs.declared.Parent.{Parent}
 use Rattle.kinds.specs.declared.Parent.the-variants.{Kind}
@@ -12,10 +14,6 @@ use Rattle.props.specs.declared.Size.{Size}
 use Rattle.props.specs.declared.Size.the-variants.{Bytes, Text, NoSuch}
 use Rattle.props.specs.Types.{sizeOf}
 use Rattle.format.specs.Forest.{Forest, end, known, unknown, count, nodes, encode}
-
-abbrev pub Each : {A : Type 0} → (A → Type 0) → List A → Type 0
-Each P [] = Unit {0}
-Each P (x ∷ xs) = P x × Each P xs
 
 -- ---- one property
 
@@ -59,7 +57,7 @@ pub record GoodBody (n : ℕ) (body : List ℕ) : Type 0 where
   pub properties : List Property
   pub good : Each GoodProperty properties
   pub counted : length properties ≡ n
-  pub most : n ≤ 64
+  pub most : n ≤ mostProperties
   pub bytes : body ≡ flatMap propertyBytes properties
 
 -- ---- nodes
@@ -93,4 +91,4 @@ Placed parent (unknown k h p c rest next) = (mayStand parent k ≡ true) × Plac
 
 -- not "a 1,025th node"
 abbrev pub Few : Forest → Type 0
-Few f = nodes f ≤ 1024
+Few f = nodes f ≤ mostRows

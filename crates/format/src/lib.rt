@@ -4,6 +4,9 @@ ghost use mathlib.Core.Path.{_≡_};
 ghost use Prim.Native.Nat.{_<_};
 ghost use Rattle.format.specs.Rows.{ownBytes, bodyOf};
 
+// The first four bytes of a file, `63 61 73 74`, as a number.
+pub const FIRST_FOUR: u32 = 0x74736163;
+
 // A node's own bytes. They have a type of their own, so that faces are never added to them.
 pub struct OwnBytes(pub u64);
 

@@ -3,7 +3,7 @@ use Prim.Native.Nat.{ℕ, zero, suc, _+_, _≤_}
 use native.Mathlib.Omega.{arith}
 use mathlib.Core.Path.{_≡_, refl}
 use mathlib.Core.List.{List, [], _∷_, _++_}
-use Rattle.le.proofs.Tests.{by-test}
+use Rattle.base.proofs.Tests.{by-test}
 use Rattle.faces.specs.declared.Face.{Face}
 use Rattle.rules.specs.declared.Line.{Line}
 use Rattle.rules.specs.Rules.{linesOf}

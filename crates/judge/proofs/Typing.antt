@@ -10,8 +10,8 @@ use lib.ListN.{length, take, drop, getD, set, drop-of-length-le, length-set}
 use lib.Seq.{drop-cons, take-suc, take-suc-set, take-all, sets, length-sets}
 use borrow.Author.Tests.{eq-eqb, le-ltb}
 use Rattle.le.specs.Le.{numberAt}
-use Rattle.le.proofs.Stores.{sets-more}
-use Rattle.le.proofs.Tests.{by-test}
+use Rattle.base.proofs.Stores.{sets-more}
+use Rattle.base.proofs.Tests.{by-test}
 use Rattle.names.specs.Names.{same}
 use Rattle.names.proofs.Laws.{same-eq}
 use Rattle.props.specs.Step.{codeAt, lengthAt, nameAt}

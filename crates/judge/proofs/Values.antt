@@ -22,8 +22,7 @@ use Rattle.judge.specs.declared.Kept.{Kept}
 use Rattle.judge.specs.declared.Verdict.{Verdict}
 use Rattle.judge.specs.declared.Judged.{Judged}
 use Rattle.judge.specs.Properties.{ruleAt, besideOf}
-use Rattle.judge.specs.Judge.{refuse, faultOf, byFault, valued, heldFaces, nodeFaces, linkCount, nodeLinks, refusedWith, judgedBy}
-use Rattle.judge.specs.Judge.{typed, lacks, andThen, verdictAt, judgedAt}
+use Rattle.judge.specs.Judge.{refuse, faultOf, byFault, valued, heldFaces, nodeFaces, linkCount, nodeLinks, refusedWith, judgedBy, typed, lacks, andThen, verdictAt, judgedAt}
 use Rattle.judge.specs.Contract.{lineNumber, keptBy, keptAt, valuedTo, Bounded}
 use Rattle.judge.proofs.Counted.{degenerate-append}
 

@@ -4,6 +4,7 @@ use mathlib.Core.Bool.{Bool, false, _||_}
 use mathlib.Core.List.{List, [], _∷_}
 use lib.Dec.{eqb}
 use lib.ListN.{length, getD}
+use Rattle.base.specs.Limits.{mostProperties}
 use Rattle.le.specs.Le.{numberAt}
 use Rattle.props.specs.Step.{nameAt}
 use Rattle.faces.specs.declared.Face.{Face}
@@ -52,6 +53,6 @@ valuedTo ls s b starts =
 -- most so much
 pub record Bounded (r : Judged) (size : ℕ) : Type 0 where
   pub place : r .at ≤ 24 + size
-  pub faces : r .faces .0 ≤ 64 * 2 ^ 32
-  pub degenerates : r .degenerate ≤ 64 * 2 ^ 32
-  pub links : r .links ≤ 64
+  pub faces : r .faces .0 ≤ mostProperties * 2 ^ 32
+  pub degenerates : r .degenerate ≤ mostProperties * 2 ^ 32
+  pub links : r .links ≤ mostProperties

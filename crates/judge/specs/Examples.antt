@@ -10,7 +10,9 @@ use Rattle.kinds.specs.Kinds.{root, mesh, blendShape, bone, curve}
 use Rattle.props.specs.Step.{headerRefusal, dataRefusal, toZero, dataOf, nameAt, stepAt}
 use Rattle.body.specs.Body.{pass, properties, firstNamed}
 use Rattle.faces.specs.Faces.{widthOf, facesIn, below, degenerate}
-use Rattle.rules.specs.Table.{letters, lines, unpacked, texts, byte, short, int, long, float, string, v3, v4}
+use Rattle.base.specs.Letters.{letters}
+use Rattle.props.specs.Types.{byte, short, int, long, float, string, v3, v4}
+use Rattle.rules.specs.Table.{lines, unpacked, texts}
 use Rattle.rules.specs.Rules.{lists, ruleIn, ofKind, linesOf, isText, inSet, isOneOf}
 use Rattle.judge.specs.declared.Judged.{Judged}
 use Rattle.judge.specs.Properties.{lengthOf, valueOf, typesOf, besideOf}

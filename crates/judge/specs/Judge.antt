@@ -16,7 +16,8 @@ use Rattle.faces.specs.declared.Values.{Values}
 use Rattle.faces.specs.declared.Values.the-variants.{Below, Past}
 use Rattle.faces.specs.Faces.{widthOf, facesIn, below, degenerate}
 use Rattle.rules.specs.declared.Line.{Line}
-use Rattle.rules.specs.Table.{letters, required, nameOf, flag, vertices, weights, faces, indices, keys, boneNumber, oneOf, linkTo}
+use Rattle.base.specs.Letters.{letters}
+use Rattle.rules.specs.Table.{required, nameOf, flag, vertices, weights, faces, indices, keys, boneNumber, oneOf, linkTo}
 use Rattle.rules.specs.Rules.{takes, misfits, linesOf, isOneOf}
 use Rattle.judge.specs.declared.Beside.{Beside}
 use Rattle.judge.specs.declared.Fault.{Fault}

@@ -10,7 +10,9 @@ use Rattle.props.specs.Step.{codeAt, lengthAt, nameAt, startAt}
 use Rattle.body.specs.Body.{firstNamed}
 use Rattle.faces.specs.Faces.{widthOf}
 use Rattle.rules.specs.declared.Line.{Line}
-use Rattle.rules.specs.Table.{letters, float, v4, N}
+use Rattle.base.specs.Letters.{letters}
+use Rattle.props.specs.Types.{float, v4}
+use Rattle.rules.specs.Table.{N}
 use Rattle.rules.specs.Rules.{ruleIn, isText}
 use Rattle.judge.specs.declared.Beside.{Beside}
 

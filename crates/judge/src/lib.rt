@@ -4,6 +4,7 @@ ghost use Prim.Native.Nat.{_+_, _≤_, _<_};
 ghost use mathlib.Core.List.{[], map};
 ghost use lib.ListN.{length};
 ghost use lib.Seq.{sets};
+ghost use Rattle.base.specs.Limits.{mostProperties};
 ghost use Rattle.le.specs.Le.{numberAt};
 ghost use Rattle.props.specs.Step.{codeAt, lengthAt};
 ghost use Rattle.rules.specs.Table.{linesFrom};
@@ -12,11 +13,13 @@ ghost use Rattle.judge.specs.Properties.{restAt, valueAt, has, lengthOf,
 ghost use Rattle.judge.specs.Judge.{typed, isMissing, misses, unpartnered, lacks, whole, sole, signed, parentOk, faultOf, linkCount, facesAt, faceFault, refusedWith, judgedAt, judged};
 ghost use Rattle.judge.specs.Contract.{Within, lineNumber, keyAt, hasKey, keptBy, keptAt, valuedTo, Bounded};
 
-const MESH: u32 = 0x6873656D;
+// Types, as a line has them.
+const FLOAT: u32 = props::FLOAT as u32;
 
-const BLEND_SHAPE: u32 = 0x68736C62;
+const V4: u32 = props::V4 as u32;
 
-const CURVE: u32 = 0x76727563;
+// Room for the places of a node's properties.
+const PLACES: usize = base::MOST_PROPERTIES as usize;
 
 // A refusal's number, 0 for none, and its place as an offset from the node's header.
 pub struct Verdict {
@@ -61,13 +64,13 @@ fn misfit(l: rules::Line, body: &[u8], at: usize) -> bool
 // The first property whose name came before, or which has another type or length than its line says. It notes where each
 // property's line stands among the lines of the kind.
 fn typed(lines: &[rules::Columns], body: &[u8], starts: &[usize], numbers: &mut [usize]) -> Verdict
-    requires { ⌜ (length (now starts) ≤ 64) × (length (now starts) ≤ length (now numbers)) × Within (now body) (now starts) ⌝ }
+    requires { ⌜ (length (now starts) ≤ mostProperties) × (length (now starts) ≤ length (now numbers)) × Within (now body) (now starts) ⌝ }
     ensures result { λ r. ⌜ r ≡ typed (linesFrom (now (lines .entry))) (now (body .entry)) [] (now (starts .entry)) ⌝ }
     ensures numbers { λ r. ⌜ (r .number ≡ 0 → now (numbers .exit)
         ≡ sets (now (numbers .entry)) 0 (map (lineNumber (linesFrom (now (lines .entry))) (now (body .entry))) (now (starts .entry)))) ⌝ }
     ensures place { λ r. ⌜ r .at ≤ 24 + length (now (body .entry)) ⌝ }
 {
-    let mut keys = [0u64; 64];
+    let mut keys = [0u64; PLACES];
     let mut i: usize = 0;
     while i < starts.len() {
         let at = starts[i];
@@ -102,7 +105,7 @@ fn has(body: &[u8], starts: &[usize], name: &[u8]) -> bool
 fn is_missing(l: rules::Line, body: &[u8], starts: &[usize]) -> bool
     ensures { λ r. ⌜ r ≡ isMissing l (now (body .entry)) (now (starts .entry)) ⌝ }
 {
-    if l.required != 1 {
+    if l.required != rules::held::REQUIRED {
         return false;
     }
     let letters = rules::name_of(l);
@@ -129,7 +132,7 @@ fn misses(lines: &[rules::Columns], body: &[u8], starts: &[usize]) -> bool
 fn unpartnered(kind: u32, body: &[u8], starts: &[usize]) -> bool
     ensures { λ r. ⌜ r ≡ unpartnered kind (now (body .entry)) (now (starts .entry)) ⌝ }
 {
-    if kind != MESH {
+    if kind != kinds::MESH {
         return false;
     }
     let wb = has(body, starts, b"wb");
@@ -195,16 +198,16 @@ fn types_of(body: &[u8], starts: &[usize]) -> u32
 {
     let i = body::find(body, starts, b"kp");
     if starts.len() <= i {
-        return 0x66;
+        return FLOAT;
     }
     let string = props::rest_at(body, starts[i]);
     if rules::is_text(string, b"rq") {
-        return 0x7634;
+        return V4;
     }
     if rules::is_text(string, b"vb") {
-        return 1;
+        return rules::held::N;
     }
-    0x66
+    FLOAT
 }
 
 fn beside_of(kind: u32, body: &[u8], starts: &[usize], bones: u32) -> Beside
@@ -215,12 +218,12 @@ fn beside_of(kind: u32, body: &[u8], starts: &[usize], bones: u32) -> Beside
     let mut indices: u32 = 0;
     let mut keys: u32 = 0;
     let mut types: u32 = 0;
-    if kind == MESH {
+    if kind == kinds::MESH {
         vertices = content_of(body, starts, b"vp").length;
         weights = content_of(body, starts, b"mi").value as u64 * vertices as u64;
-    } else if kind == BLEND_SHAPE {
+    } else if kind == kinds::BLEND_SHAPE {
         indices = content_of(body, starts, b"vi").length;
-    } else if kind == CURVE {
+    } else if kind == kinds::CURVE {
         keys = content_of(body, starts, b"kb").length;
         types = types_of(body, starts);
     }
@@ -274,13 +277,15 @@ fn fault_of(l: rules::Line, body: &[u8], at: usize, b: Beside) -> Fault
     let held = l.held;
     let elements = props::length_at(body, at);
     match held {
-        1 => sole(value_at(body, at) <= 1),
-        2 => whole(rules::one_of(l.set, props::rest_at(body, at))),
-        3 => whole(elements == b.vertices),
-        4 => whole(elements as u64 == b.weights),
-        6 => whole(elements == b.indices),
-        7 => whole((elements == b.keys) & rules::takes(b.types, props::code_at(body, at))),
-        8 => sole(is_bone(body, at, b.bones)),
+        rules::held::FLAG => sole(value_at(body, at) <= 1),
+        rules::held::ONE_OF => whole(rules::one_of(l.set, props::rest_at(body, at))),
+        rules::held::VERTICES => whole(elements == b.vertices),
+        rules::held::WEIGHTS => whole(elements as u64 == b.weights),
+        rules::held::INDICES => whole(elements == b.indices),
+        rules::held::KEYS => whole(
+            (elements == b.keys) & rules::takes(b.types, props::code_at(body, at)),
+        ),
+        rules::held::BONE_NUMBER => sole(is_bone(body, at, b.bones)),
         _ => Fault::Right,
     }
 }
@@ -331,7 +336,7 @@ fn faces_at(body: &[u8], at: usize, vertices: u32) -> Kept
 fn kept_at(l: rules::Line, body: &[u8], at: usize, b: Beside) -> Kept
     ensures { λ r. ⌜ (r ≡ keptAt l (now (body .entry)) at b) × (r .faces < 4294967296) × (r .degenerate < 4294967296) ⌝ }
 {
-    if l.held == 5 {
+    if l.held == rules::held::FACES {
         return faces_at(body, at, b.vertices);
     }
     broken(fault_of(l, body, at, b))
@@ -363,7 +368,7 @@ fn refused(number: u32, at: usize) -> Judged
 fn one_link(l: rules::Line) -> u32
     ensures { λ r. ⌜ r ≡ linkCount l ⌝ }
 {
-    if l.held == 9 {
+    if l.held == rules::held::LINK {
         return 1;
     }
     0
@@ -378,7 +383,7 @@ fn valued(
     numbers: &[usize],
     bones: u32,
 ) -> Judged
-    requires count { ⌜ length (now starts) ≤ 64 ⌝ }
+    requires count { ⌜ length (now starts) ≤ mostProperties ⌝ }
     requires numbers { ⌜ now numbers ≡ map (lineNumber (linesFrom (now lines)) (now body)) (now starts) ⌝ }
     requires places { ⌜ Within (now body) (now starts) ⌝ }
     ensures result { λ r. ⌜ r
@@ -428,11 +433,11 @@ fn judge_at(
     starts: &[usize],
     bones: u32,
 ) -> Judged
-    requires { ⌜ (length (now starts) ≤ 64) × Within (now body) (now starts) ⌝ }
+    requires { ⌜ (length (now starts) ≤ mostProperties) × Within (now body) (now starts) ⌝ }
     ensures result { λ r. ⌜ r ≡ judgedAt kind (linesFrom (now (lines .entry))) (now (body .entry)) (now (starts .entry)) bones ⌝ }
     ensures bounds { λ r. ⌜ Bounded r (length (now (body .entry))) ⌝ }
 {
-    let mut numbers = [0usize; 64];
+    let mut numbers = [0usize; PLACES];
     let v = typed(lines, body, starts, &mut numbers);
     if v.number != 0 {
         return refused(v.number, v.at);

@@ -12,7 +12,8 @@ use Rattle.kinds.specs.declared.Listed.{Listed}
 use Rattle.kinds.specs.declared.Listed.the-variants.{At, Unknown}
 use Rattle.kinds.specs.declared.Parent.the-variants.{None, Kind}
 use Rattle.kinds.specs.Kinds.{root, lines, lineIn, lineOf, isListed, isKnown, underBy, standsAtTop, standsUnder, mayStand}
-use Rattle.kinds.specs.Statements.{OneOf, sixteen, IsOneOfSixteen, KnownExactly, UnknownExactly, parents, IsParent, StandsExactly}
+use Rattle.base.specs.Lists.{Some}
+use Rattle.kinds.specs.Statements.{sixteen, IsOneOfSixteen, KnownExactly, UnknownExactly, parents, IsParent, StandsExactly}
 use Rattle.kinds.proofs.Related.{right, rightLine, allRight, related}
 use Rattle.kinds.proofs.Tops.{top-root}
 
@@ -25,19 +26,19 @@ the-sixteen : kinds lines ≡ sixteen
 unfolding lines kinds
 the-sixteen = refl
 
-listed : (ls : List Line) (k : ℕ) → (isListed (lineIn ls k) ≡ true) ↔ OneOf (kinds ls) (λ x. k ≡ x)
+listed : (ls : List Line) (k : ℕ) → (isListed (lineIn ls k) ≡ true) ↔ Some (λ x. k ≡ x) (kinds ls)
 unfolding lineIn kinds
 listed [] k = (λ e. false≢true e, λ x. absurd x)
 listed (l ∷ ls) k = by (eqb (l .kind) k) refl (listed ls k)
   where
-    by : (b : Bool) → eqb (l .kind) k ≡ b → (isListed (lineIn ls k) ≡ true) ↔ OneOf (kinds ls) (λ x. k ≡ x)
-        → (isListed (cond b (At l) (lineIn ls k)) ≡ true) ↔ (k ≡ l .kind) ⊎ OneOf (kinds ls) (λ x. k ≡ x)
+    by : (b : Bool) → eqb (l .kind) k ≡ b → (isListed (lineIn ls k) ≡ true) ↔ Some (λ x. k ≡ x) (kinds ls)
+        → (isListed (cond b (At l) (lineIn ls k)) ≡ true) ↔ (k ≡ l .kind) ⊎ Some (λ x. k ≡ x) (kinds ls)
     by true h ih = (λ e. inl (sym (eqb-true _ _ h)), λ s. refl)
     by false h ih = (λ e. inr (ih .0 e), ⊎-elim (λ e. absurd (true≢false (sym (eq-eqb _ _ (sym e)) ∙ h))) (ih .1))
 
 pub knownExactly : KnownExactly
 unfolding isKnown lineOf
-knownExactly k = subst (λ xs. (isListed (lineIn lines k) ≡ true) ↔ OneOf xs (λ x. k ≡ x)) the-sixteen (listed lines k)
+knownExactly k = subst (λ xs. (isListed (lineIn lines k) ≡ true) ↔ Some (λ x. k ≡ x) xs) the-sixteen (listed lines k)
 
 pub unknownExactly : UnknownExactly
 unknownExactly k = by (isKnown k) (knownExactly k)
@@ -53,13 +54,13 @@ unfoldable isPair : List (ℕ × ℕ) → (parent k : ℕ) → Bool
 isPair [] p k = false
 isPair (x ∷ xs) p k = (eqb (x .1) k && eqb p (x .0)) || isPair xs p k
 
-pairs : (xs : List (ℕ × ℕ)) (p k : ℕ) → (isPair xs p k ≡ true) ↔ OneOf xs (λ pair. (p ≡ pair .0) × (k ≡ pair .1))
+pairs : (xs : List (ℕ × ℕ)) (p k : ℕ) → (isPair xs p k ≡ true) ↔ Some (λ pair. (p ≡ pair .0) × (k ≡ pair .1)) xs
 unfolding isPair
 pairs [] p k = (λ e. false≢true e, λ x. absurd x)
 pairs (x ∷ xs) p k = by (eqb (x .1) k) (eqb p (x .0)) refl refl (pairs xs p k)
   where
-    by : (b c : Bool) → eqb (x .1) k ≡ b → eqb p (x .0) ≡ c → (isPair xs p k ≡ true) ↔ OneOf xs (λ pair. (p ≡ pair .0) × (k ≡ pair .1))
-        → (((b && c) || isPair xs p k) ≡ true) ↔ ((p ≡ x .0) × (k ≡ x .1)) ⊎ OneOf xs (λ pair. (p ≡ pair .0) × (k ≡ pair .1))
+    by : (b c : Bool) → eqb (x .1) k ≡ b → eqb p (x .0) ≡ c → (isPair xs p k ≡ true) ↔ Some (λ pair. (p ≡ pair .0) × (k ≡ pair .1)) xs
+        → (((b && c) || isPair xs p k) ≡ true) ↔ ((p ≡ x .0) × (k ≡ x .1)) ⊎ Some (λ pair. (p ≡ pair .0) × (k ≡ pair .1)) xs
     by true true f g ih = (λ e. inl (eqb-true _ _ g, sym (eqb-true _ _ f)), λ s. refl)
     by true false f g ih = (λ e. inr (ih .0 e), ⊎-elim (λ e. absurd (true≢false (sym (eq-eqb _ _ (e .0)) ∙ g))) (ih .1))
     by false c f g ih = (λ e. inr (ih .0 e), ⊎-elim (λ e. absurd (true≢false (sym (eq-eqb _ _ (sym (e .1))) ∙ f))) (ih .1))
@@ -78,7 +79,7 @@ all-stand : allStand parents ≡ true
 unfolding allStand isKnown standsUnder lineOf lineIn lines
 all-stand = refl
 
-pair-stands : (xs : List (ℕ × ℕ)) → allStand xs ≡ true → (p k : ℕ) → OneOf xs (λ pair. (p ≡ pair .0) × (k ≡ pair .1))
+pair-stands : (xs : List (ℕ × ℕ)) → allStand xs ≡ true → (p k : ℕ) → Some (λ pair. (p ≡ pair .0) × (k ≡ pair .1)) xs
     → (isKnown k && standsUnder p k) ≡ true
 unfolding allStand
 pair-stands [] h p k s = absurd s

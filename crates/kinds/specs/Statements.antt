@@ -5,15 +5,10 @@ use mathlib.Core.Path.{_≡_}
 use mathlib.Core.Logic.{_↔_, _⊎_}
 use mathlib.Core.Bool.{true, false}
 use mathlib.Core.List.{List, [], _∷_}
+use Rattle.base.specs.Lists.{Some}
 use Rattle.kinds.specs.declared.Parent.{Parent}
 use Rattle.kinds.specs.declared.Parent.the-variants.{None, Kind}
-use Rattle.kinds.specs.Kinds.{root, model, mesh, blendShape, skeleton, bone, ikHandle, constraint, animation, curve, curveModeOverride, notificationTrack, material, file, instance, metadata}
-use Rattle.kinds.specs.Kinds.{isKnown, mayStand}
-
--- one of a list has the property
-abbrev pub OneOf : {A : Type 0} → List A → (A → Type 0) → Type 0
-OneOf [] P = ⊥
-OneOf (x ∷ xs) P = P x ⊎ OneOf xs P
+use Rattle.kinds.specs.Kinds.{root, model, mesh, blendShape, skeleton, bone, ikHandle, constraint, animation, curve, curveModeOverride, notificationTrack, material, file, instance, metadata, isKnown, mayStand}
 
 -- ---- "Kinds"
 
@@ -27,7 +22,7 @@ sixteen =
     notificationTrack ∷ material ∷ file ∷ instance ∷ metadata ∷ []
 
 abbrev pub IsOneOfSixteen : ℕ → Type 0
-IsOneOfSixteen k = OneOf sixteen (λ listed. k ≡ listed)
+IsOneOfSixteen k = Some (λ listed. k ≡ listed) sixteen
 
 abbrev pub KnownExactly : Type 0
 KnownExactly = (k : ℕ) → (isKnown k ≡ true) ↔ IsOneOfSixteen k
@@ -50,7 +45,7 @@ parents =
     (material, file) ∷ (instance, file) ∷ []
 
 abbrev pub IsParent : (parent k : ℕ) → Type 0
-IsParent parent k = OneOf parents (λ pair. (parent ≡ pair .0) × (k ≡ pair .1))
+IsParent parent k = Some (λ pair. (parent ≡ pair .0) × (k ≡ pair .1)) parents
 
 -- "Root stands only at the top", and nothing else stands there; under a kind stand those that "Parents" names; and of any other
 -- kind, "it may stand below any known node"

@@ -2,24 +2,57 @@
 ghost use mathlib.Core.Path.{_≡_};
 ghost use Rattle.kinds.specs.Kinds.{lineFrom, lineOf, isKnown, standsAtTop, standsUnder, mayStand};
 
+// The sixteen known kinds.
+pub const ROOT: u32 = 0x746F6F72;
+
+pub const MODEL: u32 = 0x6C646F6D;
+
+pub const MESH: u32 = 0x6873656D;
+
+pub const BLEND_SHAPE: u32 = 0x68736C62;
+
+pub const SKELETON: u32 = 0x6C656B73;
+
+pub const BONE: u32 = 0x656E6F62;
+
+pub const IK_HANDLE: u32 = 0x64686B69;
+
+pub const CONSTRAINT: u32 = 0x74736E63;
+
+pub const ANIMATION: u32 = 0x6D696E61;
+
+pub const CURVE: u32 = 0x76727563;
+
+pub const CURVE_MODE_OVERRIDE: u32 = 0x564F4D43;
+
+pub const NOTIFICATION_TRACK: u32 = 0x6669746E;
+
+pub const MATERIAL: u32 = 0x6C74616D;
+
+pub const FILE: u32 = 0x656C6966;
+
+pub const INSTANCE: u32 = 0x74736E69;
+
+pub const METADATA: u32 = 0x6174656D;
+
 // A kind, how many kinds it may stand under, and which.
 const LINES: [[u32; 4]; 16] = [
-    [0x746F6F72, 0, 0, 0], // Root at the top
-    [0x6C646F6D, 1, 0x746F6F72, 0], // Model under Root
-    [0x6873656D, 1, 0x6C646F6D, 0], // Mesh under Model
-    [0x68736C62, 1, 0x6C646F6D, 0], // BlendShape under Model
-    [0x6C656B73, 1, 0x6C646F6D, 0], // Skeleton under Model
-    [0x656E6F62, 1, 0x6C656B73, 0], // Bone under Skeleton
-    [0x64686B69, 1, 0x6C656B73, 0], // IKHandle under Skeleton
-    [0x74736E63, 1, 0x6C656B73, 0], // Constraint under Skeleton
-    [0x6D696E61, 1, 0x746F6F72, 0], // Animation under Root
-    [0x76727563, 1, 0x6D696E61, 0], // Curve under Animation
-    [0x564F4D43, 1, 0x6D696E61, 0], // CurveModeOverride under Animation
-    [0x6669746E, 1, 0x6D696E61, 0], // NotificationTrack under Animation
-    [0x6C74616D, 1, 0x6C646F6D, 0], // Material under Model
-    [0x656C6966, 2, 0x6C74616D, 0x74736E69], // File under Material or Instance
-    [0x74736E69, 1, 0x746F6F72, 0], // Instance under Root
-    [0x6174656D, 1, 0x746F6F72, 0], // Metadata under Root
+    [ROOT, 0, 0, 0], // Root at the top
+    [MODEL, 1, ROOT, 0], // Model under Root
+    [MESH, 1, MODEL, 0], // Mesh under Model
+    [BLEND_SHAPE, 1, MODEL, 0], // BlendShape under Model
+    [SKELETON, 1, MODEL, 0], // Skeleton under Model
+    [BONE, 1, SKELETON, 0], // Bone under Skeleton
+    [IK_HANDLE, 1, SKELETON, 0], // IKHandle under Skeleton
+    [CONSTRAINT, 1, SKELETON, 0], // Constraint under Skeleton
+    [ANIMATION, 1, ROOT, 0], // Animation under Root
+    [CURVE, 1, ANIMATION, 0], // Curve under Animation
+    [CURVE_MODE_OVERRIDE, 1, ANIMATION, 0], // CurveModeOverride under Animation
+    [NOTIFICATION_TRACK, 1, ANIMATION, 0], // NotificationTrack under Animation
+    [MATERIAL, 1, MODEL, 0], // Material under Model
+    [FILE, 2, MATERIAL, INSTANCE], // File under Material or Instance
+    [INSTANCE, 1, ROOT, 0], // Instance under Root
+    [METADATA, 1, ROOT, 0], // Metadata under Root
 ];
 
 struct Line {

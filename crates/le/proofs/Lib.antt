@@ -1,4 +1,2 @@
-pub mod Answers
 pub mod Laws
-pub mod Stores
-pub mod Tests
+pub mod Puts

@@ -9,7 +9,8 @@ use Rattle.kinds.specs.Kinds.{lines as kindLines}
 use Rattle.table.specs.declared.Row.{Row}
 use Rattle.props.specs.Step.{headerRefusal, dataRefusal, toZero, dataOf, nameAt, stepAt}
 use Rattle.body.specs.Body.{pass, properties}
-use Rattle.rules.specs.Table.{letters, lines, unpacked}
+use Rattle.base.specs.Letters.{letters}
+use Rattle.rules.specs.Table.{lines, unpacked}
 use Rattle.rules.specs.Rules.{lists, ruleIn, ofKind, linesOf}
 use Rattle.links.specs.declared.Linked.{Linked}
 use Rattle.links.specs.Links.{refuse, reached, linksAt, linksFrom, resolved, linked}

@@ -6,11 +6,11 @@ use mathlib.Core.List.{List, [], _++_, append-assoc, append-nil}
 use lib.ListN.{length, length-append}
 use lib.Seq.{sets, length-sets}
 use borrow.Author.Tests.{eq-eqb, ne-eqb}
-use Rattle.le.proofs.Stores.{sets-append}
+use Rattle.base.proofs.Stores.{sets-append}
 use Rattle.text.specs.Text.{behind, written, decimal}
 use Rattle.text.proofs.Laws.{behind-put, written-put}
 use Rattle.table.specs.Table.{noParent}
-use Rattle.rules.specs.Table.{letters}
+use Rattle.base.specs.Letters.{letters}
 use Rattle.listing.specs.Listing.{parentText}
 use Rattle.listing.specs.Contract.{Puts}
 

@@ -6,7 +6,7 @@ use lib.ListN.{length, length-append}
 use Rattle.text.specs.Text.{decimalSize}
 use Rattle.text.proofs.Laws.{length-digits}
 use Rattle.table.specs.declared.Row.{Row}
-use Rattle.rules.specs.Table.{letters}
+use Rattle.base.specs.Letters.{letters}
 use Rattle.faces.specs.declared.Faces.{Faces as FaceCount}
 use Rattle.format.specs.Rows.{ownBytes}
 use Rattle.listing.specs.declared.Line.{Line}

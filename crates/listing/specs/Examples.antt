@@ -4,7 +4,7 @@ use mathlib.Core.Path.{_≡_, refl}
 use mathlib.Core.List.{[], _∷_, _++_, map}
 use Rattle.table.specs.declared.Row.{Row}
 use Rattle.table.specs.Table.{noParent}
-use Rattle.rules.specs.Table.{letters}
+use Rattle.base.specs.Letters.{letters}
 use Rattle.text.specs.Text.{glyph, digits, sizeIn}
 use Rattle.listing.specs.declared.Line.the-variants.{Summary, Node, FileHeader, Faces, Total, Refusal, TooLong}
 use Rattle.listing.specs.Listing.{parentText, wordsOf, newline, textOf}

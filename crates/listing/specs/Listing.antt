@@ -8,7 +8,7 @@ use lib.Dec.{eqb, leb}
 use lib.ListN.{length}
 use Rattle.table.specs.declared.Row.{Row}
 use Rattle.table.specs.Table.{noParent}
-use Rattle.rules.specs.Table.{letters}
+use Rattle.base.specs.Letters.{letters}
 use Rattle.faces.specs.declared.Faces.{Faces as FaceCount}
 use Rattle.format.specs.Rows.{ownBytes}
 use Rattle.walk.specs.Walk.{limited}

@@ -6,7 +6,7 @@ ghost use lib.ListN.{length, take};
 ghost use lib.Seq.{sets};
 ghost use Rattle.text.specs.Text.{behind, written, decimal};
 ghost use Rattle.table.specs.Table.{rowsAt};
-ghost use Rattle.rules.specs.Table.{letters};
+ghost use Rattle.base.specs.Letters.{letters};
 ghost use Rattle.reader.specs.declared.Reading.the-variants.{Accepted};
 ghost use Rattle.reader.specs.Contract.{Small};
 ghost use Rattle.listing.specs.declared.Line.the-variants.{Summary, Node, Total};
@@ -46,14 +46,11 @@ pub enum Line {
 
 // ---- lines
 
-// Document 01's "0xFFFFFFFF for none".
-const NO_PARENT: u32 = 0xFFFFFFFF;
-
 // How many letters a row's parent has.
 fn parent_size(parent: u32) -> usize
     ensures { λ r. ⌜ (r ≡ length (parentText parent)) × (r ≤ 20) ⌝ }
 {
-    if parent == NO_PARENT {
+    if parent == table::NO_PARENT {
         return 1;
     }
     text::decimal_size(parent as u64)
@@ -106,7 +103,7 @@ fn put_parent(out: &mut [u8], at: usize, parent: u32) -> usize
     requires { ⌜ at + length (letters " parent " ++ parentText parent) ≤ length (now out) ⌝ }
     ensures { λ r. ⌜ Puts (now (out .entry)) at (letters " parent " ++ parentText parent) r (now (out .exit)) ⌝ }
 {
-    if parent == NO_PARENT {
+    if parent == table::NO_PARENT {
         return text::put(out, at, b" parent -");
     }
     text::put_decimal(out, at, b" parent ", parent as u64)
@@ -283,7 +280,7 @@ pub fn list(input: &[u8], out: &mut [u8]) -> usize
     if 32768 < input.len() {
         return put(out, Line::TooLong);
     }
-    let mut table = [0u32; 8192];
+    let mut table = [0u32; base::TABLE_NUMBERS];
     let reading = reader::read(input, &mut table);
     match reading {
         reader::Reading::Accepted(a) => accepted(out, input.len() as u64, &table, a),

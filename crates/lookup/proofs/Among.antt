@@ -10,14 +10,15 @@ use lib.ListN.{length, getD, take, drop, length-append}
 use lib.Seq.{drop-append-add, take-append-seam}
 use borrow.Author.Tests.{eq-eqb, le-ltb}
 use Rattle.le.specs.Le.{numberAt}
-use Rattle.le.proofs.Tests.{by-test}
+use Rattle.base.proofs.Tests.{by-test}
 use Rattle.names.specs.Names.{same}
 use Rattle.names.proofs.Laws.{same-eq, same-refl}
 use Rattle.props.specs.Step.{sizeAt, startAt, nameAt, dataAt}
 use Rattle.body.specs.Body.{pass, properties, places, exactly, firstNamed}
 use Rattle.body.proofs.Laws.{few}
 use Rattle.body.proofs.Places.{pass-first}
-use Rattle.format.specs.Layout.{Each, Property, propertyBytes, GoodProperty, GoodBody}
+use Rattle.base.specs.Lists.{Each}
+use Rattle.format.specs.Layout.{Property, propertyBytes, GoodProperty, GoodBody}
 use Rattle.format.proofs.Properties.{length-property, size-read, name-read, content-read, step-good}
 use Rattle.format.proofs.Bodies.{body-good}
 use Rattle.lookup.specs.declared.Found.the-variants.{At, Refused}

@@ -11,7 +11,7 @@ use lib.Seq.{take-take, drop-drop, take-length}
 use borrow.Author.Tests.{eqb-true, le-leb, leb-true, leb-false, ltb-true, ltb-false}
 use Rattle.le.specs.Le.{AreBytes}
 use Rattle.le.proofs.Laws.{bytes-take, bytes-drop}
-use Rattle.le.proofs.Tests.{by-test}
+use Rattle.base.proofs.Tests.{by-test}
 use Rattle.table.specs.declared.Row.{Row}
 use Rattle.table.specs.Table.{rowFrom, hasRow, rowAt}
 use Rattle.body.specs.Body.{properties, exactly}

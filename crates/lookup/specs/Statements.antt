@@ -11,7 +11,8 @@ use Rattle.le.specs.Le.{AreBytes}
 use Rattle.table.specs.declared.Row.{Row}
 use Rattle.table.specs.Table.{rowFrom}
 use Rattle.format.specs.Rows.{bodyOf}
-use Rattle.format.specs.Layout.{Each, Property, propertyBytes, GoodBody}
+use Rattle.base.specs.Lists.{Each}
+use Rattle.format.specs.Layout.{Property, propertyBytes, GoodBody}
 use Rattle.lookup.specs.declared.Found.the-variants.{At}
 use Rattle.lookup.specs.Lookup.{lookupOf, numberOf, partOf}
 

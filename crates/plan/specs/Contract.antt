@@ -3,6 +3,7 @@ use Prim.Native.Nat.{ℕ, zero, suc, _<_}
 use mathlib.Core.Path.{_≡_}
 use mathlib.Core.List.{List, [], _∷_}
 use lib.ListN.{getD}
+use Rattle.base.specs.Limits.{mostRows}
 use Rattle.table.specs.declared.Row.{Row}
 use Rattle.table.specs.Table.{noParent, rowAt}
 use Rattle.plan.specs.Plan.{pathOf, naming}
@@ -20,4 +21,4 @@ Climbs t below from (q ∷ qs) = (from ≡ q) × (q < below) × Climbs t q (rowA
 
 -- at place p, how many rows name row p
 abbrev pub Counted : (counts : List ℕ) (rows : List Row) → Type 0
-Counted counts rows = (p : ℕ) → p < 1024 → getD counts p 0 ≡ naming rows p
+Counted counts rows = (p : ℕ) → p < mostRows → getD counts p 0 ≡ naming rows p

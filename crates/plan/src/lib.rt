@@ -2,15 +2,12 @@
 ghost use mathlib.Core.Path.{_≡_};
 ghost use Prim.Native.Nat.{ℕ, _≤_, _<_, min};
 ghost use lib.ListN.{length, getD};
+ghost use Rattle.base.specs.Limits.{mostRows};
 ghost use Rattle.kinds.specs.Kinds.{isKnown};
 ghost use Rattle.table.specs.Table.{noParent, rowsAt};
 ghost use Rattle.plan.specs.Plan.{rightParent, isOn, rowRefusal, judged};
 ghost use Rattle.plan.specs.Plan.{outside as Plan·outside};
 ghost use Rattle.plan.specs.Contract.{pathAt, Climbs, Counted};
-
-const ROOT: u32 = 0x746F6F72;
-
-const NONE: u32 = 0xFFFFFFFF;
 
 // Number 0, or a refusal's number and the row that it is found at.
 pub struct Judged {
@@ -20,14 +17,14 @@ pub struct Judged {
 
 // Counts the rows that name each row as their parent, in one pass.
 fn count_children(plan: &[u32], rows: usize, counts: &mut [u32])
-    requires { ⌜ (rows ≤ 1024) × (length (now counts) ≡ 1024) × ((p : ℕ) → getD (now counts) p 0 ≡ 0) ⌝ }
+    requires { ⌜ (rows ≤ mostRows) × (length (now counts) ≡ mostRows) × ((p : ℕ) → getD (now counts) p 0 ≡ 0) ⌝ }
     ensures { λ _. ⌜ Counted (now (counts .exit)) (rowsAt (now (plan .entry)) 0 rows) ⌝ }
 {
     let mut i: usize = 0;
     while i < rows {
         let row = table::row_at(plan, i);
         let parent = row.parent as usize;
-        if parent < 1024 {
+        if parent < base::MOST_ROWS {
             counts[parent] = counts[parent] + 1;
         }
         i += 1;
@@ -41,7 +38,7 @@ fn is_above(plan: &[u32], index: usize, from: u32, row: u32) -> bool
     ensures { λ r. ⌜ r ≡ isOn row (pathAt (now (plan .entry)) index) ⌝ }
 {
     let mut at = from;
-    while at != NONE {
+    while at != table::NO_PARENT {
         if at == row {
             return true;
         }
@@ -56,8 +53,8 @@ fn right_parent(plan: &[u32], index: usize, row: table::Row, from: u32) -> bool
     ensures { λ r. ⌜ r ≡ rightParent row (pathAt (now (plan .entry)) index) ⌝ }
 {
     let parent = row.parent;
-    if row.kind == ROOT {
-        return parent == NONE;
+    if row.kind == kinds::ROOT {
+        return parent == table::NO_PARENT;
     }
     is_above(plan, index, from, parent)
 }
@@ -104,11 +101,11 @@ fn refusal(
 
 // The rows in turn.
 fn judge_rows(plan: &[u32], rows: usize, source: &[u8], counts: &[u32]) -> Judged
-    requires { ⌜ (rows ≤ 1024) × (length (now counts) ≡ 1024) × Counted (now counts) (rowsAt (now plan) 0 rows) ⌝ }
+    requires { ⌜ (rows ≤ mostRows) × (length (now counts) ≡ mostRows) × Counted (now counts) (rowsAt (now plan) 0 rows) ⌝ }
     ensures { λ r. ⌜ r ≡ judged (now (source .entry)) (rowsAt (now (plan .entry)) 0 rows) ⌝ }
 {
     // The first row on the path of the previous row.
-    let mut from: u32 = NONE;
+    let mut from: u32 = table::NO_PARENT;
     let mut i: usize = 0;
     while i < rows {
         let row = table::row_at(plan, i);
@@ -130,10 +127,14 @@ fn judge_rows(plan: &[u32], rows: usize, source: &[u8], counts: &[u32]) -> Judge
 
 // Judges the first rows of a table, at most 1,024, as a plan over the source.
 pub fn judge(plan: &[u32], rows: usize, source: &[u8]) -> Judged
-    ensures { λ r. ⌜ r ≡ judged (now (source .entry)) (rowsAt (now (plan .entry)) 0 (min rows 1024)) ⌝ }
+    ensures { λ r. ⌜ r ≡ judged (now (source .entry)) (rowsAt (now (plan .entry)) 0 (min rows mostRows)) ⌝ }
 {
-    let n = if rows < 1024 { rows } else { 1024 };
-    let mut counts = [0u32; 1024];
+    let n = if rows < base::MOST_ROWS {
+        rows
+    } else {
+        base::MOST_ROWS
+    };
+    let mut counts = [0u32; base::MOST_ROWS];
     count_children(plan, n, &mut counts);
     judge_rows(plan, n, source, &counts)
 }

@@ -12,7 +12,7 @@ use mir.Val.{Fits}
 use borrow.Author.Tests.{lt-ltb, le-ltb, ltb-false}
 use Rattle.le.specs.Le.{numberAt}
 use Rattle.le.proofs.Laws.{rest, length-rest, drop-rest, numberAt-rest}
-use Rattle.le.proofs.Tests.{by-test}
+use Rattle.base.proofs.Tests.{by-test}
 use Rattle.names.specs.Names.{sizeOk, bytesOk}
 use Rattle.props.specs.declared.Size.{Size}
 use Rattle.props.specs.declared.Size.the-variants.{Bytes, Text, NoSuch}

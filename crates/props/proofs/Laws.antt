@@ -10,7 +10,7 @@ use lib.Dec.{leb, eqb, ltb, leb·zero, leb·suc-suc}
 use lib.ListN.{length, getD, take, drop, drop-of-length-le, length-drop}
 use lib.Seq.{drop-cons, drop-length, take-all, take-nil}
 use borrow.Author.Tests.{eq-eqb, ne-eqb, ltb-true, ltb-false, lt-ltb, le-ltb}
-use Rattle.le.proofs.Tests.{by-test}
+use Rattle.base.proofs.Tests.{by-test}
 use Rattle.props.specs.Step.{toZero, sizeAt, nameAt, startAt, dataAt}
 
 -- ---- up to a zero byte

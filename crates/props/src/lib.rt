@@ -6,6 +6,27 @@ ghost use lib.ListN.{length, drop};
 ghost use Rattle.props.specs.Types.{sizeOf, noSuch, sizeNumbers};
 ghost use Rattle.props.specs.Step.{headerRefusal, dataRefusal, toZero, dataOf, stepAt, codeAt, lengthAt, nameAt, startAt, dataAt, stepNumbers};
 
+// The type codes, by the letters that document 01 gives them.
+pub const BYTE: u16 = 0x62; // b
+
+pub const SHORT: u16 = 0x68; // h
+
+pub const INT: u16 = 0x69; // i
+
+pub const LONG: u16 = 0x6C; // l
+
+pub const FLOAT: u16 = 0x66; // f
+
+pub const DOUBLE: u16 = 0x64; // d
+
+pub const V2: u16 = 0x7632; // v2
+
+pub const V3: u16 = 0x7633; // v3
+
+pub const V4: u16 = 0x7634; // v4
+
+pub const STRING: u16 = 0x73; // s
+
 // The size of one element, by type code. A string's size is found in its data.
 pub enum Size {
     Bytes(u32),
@@ -18,16 +39,16 @@ pub fn size_of(code: u16) -> Size
     ensures numbers { λ r. ⌜ sizeNumbers r ≡ sizeNumbers (sizeOf code) ⌝ }
 {
     match code {
-        0x62 => Size::Bytes(1), // b
-        0x68 => Size::Bytes(2), // h
-        0x69 => Size::Bytes(4), // i
-        0x6C => Size::Bytes(8), // l
-        0x66 => Size::Bytes(4), // f
-        0x64 => Size::Bytes(8), // d
-        0x7632 => Size::Bytes(8), // v2
-        0x7633 => Size::Bytes(12), // v3
-        0x7634 => Size::Bytes(16), // v4
-        0x73 => Size::Text, // s
+        BYTE => Size::Bytes(1), // b
+        SHORT => Size::Bytes(2), // h
+        INT => Size::Bytes(4), // i
+        LONG => Size::Bytes(8), // l
+        FLOAT => Size::Bytes(4), // f
+        DOUBLE => Size::Bytes(8), // d
+        V2 => Size::Bytes(8), // v2
+        V3 => Size::Bytes(12), // v3
+        V4 => Size::Bytes(16), // v4
+        STRING => Size::Text, // s
         _ => Size::NoSuch,
     }
 }

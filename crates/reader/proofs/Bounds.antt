@@ -4,7 +4,7 @@ use native.Mathlib.Omega.{arith}
 use mathlib.Core.List.{List, [], _∷_}
 use lib.Dec.{eqb}
 use lib.ListN.{length, getD}
-use Rattle.le.proofs.Tests.{by-test}
+use Rattle.base.proofs.Tests.{by-test}
 use Rattle.kinds.specs.Kinds.{isKnown}
 use Rattle.table.specs.declared.Row.{Row}
 use Rattle.body.specs.Body.{properties}
@@ -14,8 +14,8 @@ use Rattle.rules.specs.Table.{linkTo}
 use Rattle.rules.specs.Rules.{linesOf}
 use Rattle.judge.specs.Properties.{ruleAt}
 use Rattle.format.specs.Rows.{bodyOf}
-use Rattle.format.specs.Layout.{Each}
-use Rattle.format.proofs.Each.{each-append}
+use Rattle.base.specs.Lists.{Each}
+use Rattle.base.proofs.Lists.{each-append}
 use Rattle.format.proofs.Rows.{body-length}
 use Rattle.links.specs.declared.Linked.{Linked}
 use Rattle.links.specs.Links.{Link, linksAt, linksFrom, refusalOf, unless, resolved}

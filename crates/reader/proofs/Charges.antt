@@ -4,14 +4,14 @@ use native.Mathlib.Omega.{arith}
 use mathlib.Core.Path.{_≡_, refl, sym, _∙_, ap}
 use mathlib.Core.List.{List, [], _∷_, flatMap}
 use lib.ListN.{length, length-append}
-use Rattle.le.proofs.Tests.{by-test}
+use Rattle.base.proofs.Tests.{by-test}
 use Rattle.kinds.specs.Kinds.{isKnown}
 use Rattle.table.specs.declared.Row.{Row}
 use Rattle.body.specs.Body.{properties}
 use Rattle.faces.specs.Faces.{degenerate}
 use Rattle.judge.proofs.Counted.{degenerate-append, judged-counts}
 use Rattle.format.specs.Rows.{bodyOf, allOwnBytes}
-use Rattle.format.specs.Layout.{Each}
+use Rattle.base.specs.Lists.{Each}
 use Rattle.links.specs.declared.Linked.{Linked}
 use Rattle.links.specs.Links.{Link, refusalOf, unless, resolved}
 use Rattle.reader.specs.Reading.{bonesUnder, judgedWith, judgedRow, ruled, ownKnown, ownUnknown}

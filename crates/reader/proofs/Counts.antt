@@ -8,7 +8,7 @@ use mathlib.Core.List.{List, [], _∷_, _++_}
 use lib.Dec.{eqb}
 use lib.ListN.{length}
 use borrow.Author.Tests.{eq-eqb, ne-eqb}
-use Rattle.le.proofs.Tests.{by-test}
+use Rattle.base.proofs.Tests.{by-test}
 use Rattle.kinds.specs.Kinds.{bone}
 use Rattle.table.specs.declared.Row.{Row}
 use Rattle.format.specs.Forest.{Forest, end, known, unknown, count, nodes, encode}

@@ -9,7 +9,7 @@ use lib.Dec.{ltb}
 use lib.ListN.{length, length-map}
 use borrow.Author.Tests.{ltb-true, ltb-false}
 use Rattle.le.specs.Le.{val, AreBytes}
-use Rattle.le.proofs.Tests.{by-test}
+use Rattle.base.proofs.Tests.{by-test}
 use Rattle.table.specs.declared.Row.{Row}
 use Rattle.table.specs.Table.{noParent, hasRoom}
 use Rattle.table.proofs.Clearing.{fits-hasRoom}
@@ -21,7 +21,7 @@ use Rattle.judge.specs.Judge.{judged}
 use Rattle.format.specs.Forest.{Forest, end, known, unknown, nodes, count, fileOf}
 use Rattle.format.specs.Rows.{rows, rowsOf, bodyOf}
 use Rattle.format.specs.Layout.{Property, WellFormed}
-use Rattle.format.proofs.Each.{each-both, each-map}
+use Rattle.base.proofs.Lists.{each-both, each-map}
 use Rattle.format.proofs.Rows.{ownBytesAddUp}
 use Rattle.format.proofs.Unique.{encodingUnique}
 use Rattle.links.specs.Links.{reached, linksAt, linksOf, resolved, linked}

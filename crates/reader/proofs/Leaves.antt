@@ -9,7 +9,7 @@ use lib.ListN.{length, drop, replicate, length-append, length-replicate, getD-re
 use lib.Seq.{drop-at, getD-append-add}
 use borrow.Author.Tests.{lt-leb}
 use Rattle.le.specs.Le.{AreBytes}
-use Rattle.le.proofs.Tests.{by-test}
+use Rattle.base.proofs.Tests.{by-test}
 use Rattle.table.specs.declared.Row.{Row}
 use Rattle.table.specs.Table.{hasRoom, zeroed, cleared, flat, filled}
 use Rattle.table.proofs.Rows.{length-flat}

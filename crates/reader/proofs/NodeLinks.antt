@@ -9,16 +9,16 @@ use lib.Dec.{eqb}
 use lib.ListN.{length, getD}
 use borrow.Author.Tests.{eq-eqb, eqb-true, eqb-false}
 use Rattle.le.specs.Le.{val}
-use Rattle.le.proofs.Tests.{by-test}
+use Rattle.base.proofs.Tests.{by-test}
 use Rattle.table.specs.declared.Row.{Row}
 use Rattle.body.specs.Body.{properties}
 use Rattle.rules.specs.Table.{linkTo}
 use Rattle.rules.specs.Rules.{linesOf, ruleOf}
 use Rattle.format.specs.Rows.{hashOf}
-use Rattle.format.specs.Layout.{Each, Property}
-use Rattle.format.proofs.Each.{each-append}
+use Rattle.base.specs.Lists.{Each, Picks, none, taken, left}
+use Rattle.format.specs.Layout.{Property}
+use Rattle.base.proofs.Lists.{each-append}
 use Rattle.links.specs.Links.{Link, reached, linksAt, rowLinks, linksFrom, linksOf}
-use Rattle.valid.specs.Among.{Picks, none, taken, left}
 use Rattle.valid.specs.Nodes.{Node, NodeProperty, propertiesFrom, IsLink, IsNode, IsOnly, NodeLink, ReachesOne, LinksAre}
 use Rattle.valid.proofs.Described.{Described, described}
 use Rattle.valid.proofs.Described as Found

@@ -11,8 +11,9 @@ use Rattle.kinds.specs.Kinds.{isKnown}
 use Rattle.table.specs.declared.Row.{Row}
 use Rattle.format.specs.Forest.{Forest, end, known, unknown, count, nodes, encode}
 use Rattle.format.specs.Rows.{nodeRow, rows, bodyOf}
-use Rattle.format.specs.Layout.{Each, GoodBody, WellFormed}
-use Rattle.format.proofs.Each.{each-append}
+use Rattle.base.specs.Lists.{Each}
+use Rattle.format.specs.Layout.{GoodBody, WellFormed}
+use Rattle.base.proofs.Lists.{each-append}
 use Rattle.valid.specs.Valid.{bones, EachKnown}
 use Rattle.reader.specs.Reading.{bonesUnder}
 use Rattle.reader.proofs.Parts.{Lie, known-parts, after-unknown}

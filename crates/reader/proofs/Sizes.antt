@@ -6,7 +6,7 @@ use mathlib.Core.Logic.{inr}
 use mathlib.Core.List.{List, [], _∷_, flatMap}
 use lib.ListN.{length, length-append}
 use Rattle.le.specs.Le.{AreBytes}
-use Rattle.le.proofs.Tests.{by-test}
+use Rattle.base.proofs.Tests.{by-test}
 use Rattle.table.specs.declared.Row.{Row}
 use Rattle.table.specs.Table.{noParent}
 use Rattle.faces.specs.declared.Face.{Face}
@@ -14,8 +14,8 @@ use Rattle.faces.specs.Faces.{isDegenerate, degenerate}
 use Rattle.judge.specs.Judge.{judged}
 use Rattle.format.specs.Forest.{Forest, fileOf}
 use Rattle.format.specs.Rows.{rowsOf, ownBytes, allOwnBytes}
-use Rattle.format.specs.Layout.{Each}
-use Rattle.format.proofs.Each.{each-map}
+use Rattle.base.specs.Lists.{Each}
+use Rattle.base.proofs.Lists.{each-map}
 use Rattle.format.proofs.Rows.{body-length, ownBytesAddUp}
 use Rattle.valid.specs.Valid.{bones, NodeRuled, Valid}
 use Rattle.valid.proofs.Rules.{obeyed, accepted}

@@ -7,7 +7,7 @@ use mathlib.Core.Bool.{true}
 use mathlib.Core.List.{List, [], _∷_, _++_}
 use lib.Dec.{eqb}
 use Rattle.le.specs.Le.{numberAt}
-use Rattle.le.proofs.Tests.{by-test}
+use Rattle.base.proofs.Tests.{by-test}
 use Rattle.kinds.specs.Kinds.{isKnown}
 use Rattle.table.specs.declared.Row.{Row}
 use Rattle.body.specs.Body.{properties}
@@ -17,7 +17,7 @@ use Rattle.rules.specs.Rules.{linesOf}
 use Rattle.judge.specs.declared.Judged.{Judged}
 use Rattle.judge.specs.Properties.{ruleAt, restAt}
 use Rattle.format.specs.Rows.{bodyOf}
-use Rattle.format.specs.Layout.{Each}
+use Rattle.base.specs.Lists.{Each}
 use Rattle.links.specs.declared.Linked.{Linked}
 use Rattle.links.specs.Links.{Link, reached, linksAt, rowLinks, linksFrom, refusalOf, unless, resolved}
 use Rattle.reader.specs.declared.Ruled.{Ruled}

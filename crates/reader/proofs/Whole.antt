@@ -14,8 +14,9 @@ use Rattle.table.proofs.Plans.{rows-filled}
 use Rattle.format.specs.declared.OwnBytes.{OwnBytes}
 use Rattle.format.specs.Forest.{Forest, nodes, encode, count, fileHeader, fileOf}
 use Rattle.format.specs.Rows.{rows, rowsOf}
-use Rattle.format.specs.Layout.{Each, Placed}
-use Rattle.format.proofs.Each.{each-both, each-map}
+use Rattle.base.specs.Lists.{Each}
+use Rattle.format.specs.Layout.{Placed}
+use Rattle.base.proofs.Lists.{each-both, each-map}
 use Rattle.format.proofs.Headers.{length-fileHeader}
 use Rattle.format.proofs.Rows.{length-rows}
 use Rattle.format.proofs.Within.{Lies, BoneUnder, rows-lie, bones-under}

@@ -6,6 +6,7 @@ use mathlib.Core.Logic.{_↔_}
 use mathlib.Core.Bool.{cond}
 use mathlib.Core.List.{List, [], _∷_, map, flatMap}
 use lib.ListN.{length}
+use Rattle.base.specs.Limits.{tableNumbers}
 use Rattle.le.specs.Le.{AreBytes}
 use Rattle.kinds.specs.Kinds.{isKnown}
 use Rattle.table.specs.declared.Row.{Row}
@@ -17,9 +18,9 @@ use Rattle.rules.specs.Rules.{linesOf}
 use Rattle.judge.specs.Judge.{nodeFaces}
 use Rattle.format.specs.Forest.{Forest, fileOf}
 use Rattle.format.specs.Rows.{hashOf, rowsOf, bodyOf}
-use Rattle.format.specs.Layout.{Each, WellFormed}
+use Rattle.base.specs.Lists.{Each, Picks}
+use Rattle.format.specs.Layout.{WellFormed}
 use Rattle.links.specs.Links.{Link, linksOf}
-use Rattle.valid.specs.Among.{Picks}
 use Rattle.valid.specs.Valid.{Valid}
 use Rattle.valid.specs.Nodes.{Node, nodesOf, knownBytes, unknownBytes, allFaces, TwoEqual, NodeLink, LinksAre}
 use Rattle.reader.specs.declared.Account.{Account}
@@ -41,7 +42,7 @@ pub record IsAccepted (s t : List ℕ) : Type 0 where
 -- "A file is accepted exactly when it meets the published Cast layout and document 01's rules", with any table that is not
 -- "shorter than 8,192 numbers"
 abbrev pub Exactly : Type 0
-Exactly = (s t : List ℕ) → AreBytes s → 8192 ≤ length t → (IsAccepted s t ↔ IsValid s)
+Exactly = (s t : List ℕ) → AreBytes s → tableNumbers ≤ length t → (IsAccepted s t ↔ IsValid s)
 
 -- ---- what is answered of an accepted file
 

@@ -5,6 +5,7 @@ use Prim.Native.Nat.{ℕ, _*_, _≤_, _<_}
 use mathlib.Core.Path.{_≡_}
 use mathlib.Core.List.{List}
 use lib.ListN.{length, getD, drop}
+use Rattle.base.specs.Limits.{tableNumbers}
 use Rattle.le.specs.Le.{AreBytes}
 use Rattle.reader.specs.declared.Account.{Account}
 use Rattle.reader.specs.declared.Reading.the-variants.{Accepted, Refused}
@@ -16,11 +17,11 @@ numberIn t i = getD t i 1
 
 pub record TableLeft (s t : List ℕ) : Type 0 where
   -- "table shorter than 8,192 numbers"
-  pub untouched : length t < 8192 → (readingOf s t ≡ Refused 1 0) × (tableAfter s t ≡ t)
-  pub refused : 8192 ≤ length t → (n place : ℕ) → readingOf s t ≡ Refused n place → (i : ℕ) → i < 8192 → numberIn (tableAfter s t) i ≡ 0
+  pub untouched : length t < tableNumbers → (readingOf s t ≡ Refused 1 0) × (tableAfter s t ≡ t)
+  pub refused : tableNumbers ≤ length t → (n place : ℕ) → readingOf s t ≡ Refused n place → (i : ℕ) → i < tableNumbers → numberIn (tableAfter s t) i ≡ 0
   -- a row is eight numbers
-  pub accepted : (a : Account) → readingOf s t ≡ Accepted a → (i : ℕ) → 8 * a .nodes ≤ i → i < 8192 → numberIn (tableAfter s t) i ≡ 0
-  pub past : drop 8192 (tableAfter s t) ≡ drop 8192 t
+  pub accepted : (a : Account) → readingOf s t ≡ Accepted a → (i : ℕ) → 8 * a .nodes ≤ i → i < tableNumbers → numberIn (tableAfter s t) i ≡ 0
+  pub past : drop tableNumbers (tableAfter s t) ≡ drop tableNumbers t
   pub long : length (tableAfter s t) ≡ length t
 
 -- of any file and any table

@@ -2,6 +2,7 @@
 ghost use mathlib.Core.Path.{_≡_};
 ghost use Prim.Native.Nat.{ℕ, _≤_, _<_};
 ghost use lib.ListN.{length, getD};
+ghost use Rattle.base.specs.Limits.{mostBytes, mostRows};
 ghost use Rattle.table.specs.Table.{cleared, rowsAt};
 ghost use Rattle.judge.specs.Contract.{Bounded};
 ghost use Rattle.format.specs.Rows.{bodyOf};
@@ -31,17 +32,15 @@ pub enum Reading {
 
 // ---- 13 to 15
 
-const BONE: u32 = 0x656E6F62;
-
 // Counts the Bones under each row.
 fn count_bones(table: &[u32], nodes: usize, bones: &mut [u32])
-    requires { ⌜ (nodes ≤ 1024) × (length (now bones) ≡ 1024) × ((p : ℕ) → getD (now bones) p 0 ≡ 0) × BoneParents (now table) nodes ⌝ }
+    requires { ⌜ (nodes ≤ mostRows) × (length (now bones) ≡ mostRows) × ((p : ℕ) → getD (now bones) p 0 ≡ 0) × BoneParents (now table) nodes ⌝ }
     ensures { λ _. ⌜ Counted (now (bones .exit)) (rowsAt (now (table .entry)) 0 nodes) ⌝ }
 {
     let mut i: usize = 0;
     while i < nodes {
         let row = table::row_at(table, i);
-        if row.kind == BONE {
+        if row.kind == kinds::BONE {
             let parent = row.parent as usize;
             bones[parent] = bones[parent] + 1;
         }
@@ -88,7 +87,7 @@ struct Ruled {
 
 // The rules, row by row.
 fn rules_of(file: &[u8], table: &[u32], nodes: usize, bones: &[u32]) -> Ruled
-    requires { ⌜ (nodes ≤ 1024) × RowsOk (length (now file)) (now table) nodes × Counted (now bones) (rowsAt (now table) 0 nodes) ⌝ }
+    requires { ⌜ (nodes ≤ mostRows) × RowsOk (length (now file)) (now table) nodes × Counted (now bones) (rowsAt (now table) 0 nodes) ⌝ }
     ensures result { λ r. ⌜ r ≡ ruled (now (file .entry)) (rowsAt (now (table .entry)) 0 nodes) (rowsAt (now (table .entry)) 0 nodes) ⌝ }
     ensures place { λ r. ⌜ r .place ≤ length (now (file .entry)) ⌝ }
 {
@@ -129,7 +128,7 @@ fn rules_of(file: &[u8], table: &[u32], nodes: usize, bones: &[u32]) -> Ruled
 
 // The links of a file, of which the rules have counted so many.
 fn links_of(file: &[u8], table: &[u32], nodes: usize, links: u32) -> links::Linked
-    requires { ⌜ (nodes ≤ 1024) × (links ≡ length (linksOf (now file) (rowsAt (now table) 0 nodes))) ⌝ }
+    requires { ⌜ (nodes ≤ mostRows) × (links ≡ length (linksOf (now file) (rowsAt (now table) 0 nodes))) ⌝ }
     ensures { λ r. ⌜ r ≡ linked (now (file .entry)) (rowsAt (now (table .entry)) 0 nodes) ⌝ }
 {
     if links == 0 {
@@ -151,7 +150,7 @@ struct Own {
 }
 
 fn own_of(table: &[u32], nodes: usize) -> Own
-    requires { ⌜ nodes ≤ 1024 ⌝ }
+    requires { ⌜ nodes ≤ mostRows ⌝ }
     ensures known { λ r. ⌜ r .known .0 ≡ ownKnown (rowsAt (now (table .entry)) 0 nodes) ⌝ }
     ensures unknown { λ r. ⌜ r .unknown .0 ≡ ownUnknown (rowsAt (now (table .entry)) 0 nodes) ⌝ }
 {
@@ -186,12 +185,12 @@ fn refused(number: u32, place: u32, rows: &mut [u32]) -> Reading
 
 // 13 to 17 of a file that was walked, its rows being the first of the table.
 fn checked(file: &[u8], table: &mut [u32], nodes: u32, flags: u32) -> Reading
-    requires { ⌜ (nodes ≤ 1024) × RowsOk (length (now file)) (now table) nodes × (length (now file) ≤ 16777216) × (flags ≡ flagsOf (now file)) ⌝ }
+    requires { ⌜ (nodes ≤ mostRows) × RowsOk (length (now file)) (now table) nodes × (length (now file) ≤ mostBytes) × (flags ≡ flagsOf (now file)) ⌝ }
     ensures result { λ r. ⌜ r ≡ checked (now (file .entry)) (rowsAt (now (table .entry)) 0 nodes) ⌝ }
     ensures table { λ r. ⌜ now (table .exit) ≡ leftIn r (now (table .entry)) ⌝ }
 {
     let n = nodes as usize;
-    let mut bones = [0u32; 1024];
+    let mut bones = [0u32; base::MOST_ROWS];
     count_bones(table, n, &mut bones);
     let rules = rules_of(file, table, n, &bones);
     if rules.number != 0 {

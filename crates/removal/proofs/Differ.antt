@@ -13,10 +13,10 @@ use lib.Seq.{length-take-le, take-all}
 use borrow.Author.Tests.{eqb-true, eqb-false}
 use Rattle.le.specs.Le.{numberAt, le, AreBytes}
 use Rattle.le.proofs.Laws.{bytes-take, bytes-drop, part-front, length-le, le-numberAt, le-front}
-use Rattle.le.proofs.Tests.{by-test}
+use Rattle.base.proofs.Tests.{by-test}
 use Rattle.table.specs.declared.Row.{Row}
 use Rattle.table.specs.Table.{blank}
-use Rattle.format.specs.Layout.{Each}
+use Rattle.base.specs.Lists.{Each}
 use Rattle.format.specs.Rows.{bodyOf, ownBytes}
 use Rattle.writer.specs.Forest.{laidOut}
 use Rattle.removal.specs.Tally.{sumOverMarked, isAround, headerIn, sizeIn, sizeFall, countFall, reducedHeader, nodesLeft, fileLeft}

@@ -12,8 +12,8 @@ use Rattle.table.proofs.Plans.{rows-filled}
 use Rattle.faces.specs.Faces.{degenerate as degenerateIn}
 use Rattle.format.specs.Forest.{Forest, fileOf}
 use Rattle.format.specs.Rows.{rowsOf, bodyOf, ownBytes}
-use Rattle.format.specs.Layout.{Each}
-use Rattle.format.proofs.Each.{each-map}
+use Rattle.base.specs.Lists.{Each}
+use Rattle.base.proofs.Lists.{each-map}
 use Rattle.format.proofs.Rows.{length-rows}
 use Rattle.format.proofs.Within.{rows-lie}
 use Rattle.links.specs.Links.{linksOf}

@@ -12,7 +12,7 @@ use lib.Seq.{drop-drop, drop-at, take-at, getD-drop}
 use borrow.Author.Tests.{eq-eqb, ne-eqb}
 use Rattle.le.specs.Le.{numberAt, le}
 use Rattle.le.proofs.Laws.{val-le}
-use Rattle.le.proofs.Tests.{by-test}
+use Rattle.base.proofs.Tests.{by-test}
 use Rattle.table.specs.declared.Row.{Row}
 use Rattle.table.specs.Table.{noParent, blank}
 use Rattle.format.specs.Forest.{Forest, known, unknown, count, nodes, header, encode, fileOf}

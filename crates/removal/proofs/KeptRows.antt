@@ -13,8 +13,9 @@ use Rattle.table.specs.declared.Row.{Row}
 use Rattle.table.specs.Table.{noParent}
 use Rattle.format.specs.Forest.{count, nodes, header, encode, fileHeader, fileOf}
 use Rattle.format.specs.Rows.{nodeRow, rows, rowsOf, ownBytes, allOwnBytes}
-use Rattle.format.specs.Layout.{Each, WellFormed, Few}
-use Rattle.format.proofs.Each.{each-append}
+use Rattle.base.specs.Lists.{Each}
+use Rattle.format.specs.Layout.{WellFormed, Few}
+use Rattle.base.proofs.Lists.{each-append}
 use Rattle.format.proofs.Headers.{length-header, length-fileHeader}
 use Rattle.format.proofs.Rows.{part, length-rows, own-rows}
 use Rattle.writer.specs.Forest.{movedTo, laidOut}

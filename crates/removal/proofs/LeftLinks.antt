@@ -8,13 +8,13 @@ use lib.Dec.{eqb}
 use lib.ListN.{getD, drop}
 use borrow.Author.Tests.{eqb-true}
 use Rattle.le.specs.Le.{numberAt}
-use Rattle.le.proofs.Tests.{by-test}
+use Rattle.base.proofs.Tests.{by-test}
 use Rattle.kinds.specs.Kinds.{isKnown}
 use Rattle.table.specs.declared.Row.{Row}
 use Rattle.table.specs.Table.{blank}
 use Rattle.format.specs.Rows.{bodyOf, ownBytes, hashOf}
-use Rattle.format.specs.Layout.{Each}
-use Rattle.format.proofs.Each.{each-append}
+use Rattle.base.specs.Lists.{Each}
+use Rattle.base.proofs.Lists.{each-append}
 use Rattle.rules.specs.Table.{linkTo}
 use Rattle.rules.specs.Rules.{linesOf}
 use Rattle.judge.specs.Properties.{ruleAt, restAt}

@@ -10,7 +10,7 @@ use lib.Arith.{lt-of-le-ne}
 use lib.Dec.{eqb}
 use lib.ListN.{length, getD}
 use borrow.Author.Tests.{ne-eqb, eqb-true, eqb-false}
-use Rattle.le.proofs.Tests.{by-test}
+use Rattle.base.proofs.Tests.{by-test}
 use Rattle.le.specs.Le.{AreBytes}
 use Rattle.kinds.specs.Kinds.{isKnown}
 use Rattle.table.proofs.Clearing.{hasRoom-fits}

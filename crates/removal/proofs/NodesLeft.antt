@@ -10,8 +10,9 @@ use Rattle.le.specs.Le.{val}
 use Rattle.kinds.specs.Kinds.{isKnown}
 use Rattle.rules.specs.declared.Line.{Line}
 use Rattle.rules.specs.Table.{lines, linkTo}
-use Rattle.format.specs.Layout.{Each, Property, WellFormed}
-use Rattle.format.proofs.Each.{each-append, each-both, each-map}
+use Rattle.base.specs.Lists.{Each}
+use Rattle.format.specs.Layout.{Property, WellFormed}
+use Rattle.base.proofs.Lists.{each-append, each-both, each-map}
 use Rattle.valid.specs.Nodes.{Node, nodesOf, meshFaces, allFaces, NodeProperty, propertiesFrom, IsLink, IsNode, IsOnly, NodeLink, ReachesOne, LinksAre}
 use Rattle.valid.proofs.Picks.{picks-map, picks-each, picks-holds, each-some}
 use Rattle.reader.proofs.InStep.{bare-faces}

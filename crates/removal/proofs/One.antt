@@ -8,13 +8,14 @@ use mathlib.Core.List.{List, [], _∷_}
 use lib.Dec.{eqb, ltb}
 use lib.ListN.{length, getD, set}
 use borrow.Author.Tests.{eq-eqb, ne-eqb, eqb-true, eqb-false, ltb-true, ltb-false}
-use Rattle.le.proofs.Tests.{by-test}
+use Rattle.base.proofs.Tests.{by-test}
 use Rattle.table.specs.declared.Row.{Row}
 use Rattle.table.specs.Table.{noParent, blank}
 use Rattle.format.specs.Forest.{Forest, nodes}
 use Rattle.format.specs.Rows.{rowsOf}
-use Rattle.format.specs.Layout.{Each, Few}
-use Rattle.format.proofs.Each.{each-map}
+use Rattle.base.specs.Lists.{Each}
+use Rattle.format.specs.Layout.{Few}
+use Rattle.base.proofs.Lists.{each-map}
 use Rattle.format.proofs.Rows.{length-rows}
 use Rattle.format.proofs.Within.{Under, rows-under}
 use Rattle.removal.specs.Trimmer.{lowered, mended, withoutFrom, without}

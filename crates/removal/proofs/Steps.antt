@@ -10,7 +10,7 @@ use lib.Dec.{leb, ltb}
 use lib.ListN.{length, getD, set, drop}
 use lib.Seq.{take-append-seam}
 use borrow.Author.Tests.{ltb-true, ltb-false, leb-false, lt-ltb, le-ltb, le-leb, lt-leb, ne-eqb}
-use Rattle.le.proofs.Tests.{by-test}
+use Rattle.base.proofs.Tests.{by-test}
 use Rattle.kinds.specs.Kinds.{isKnown}
 use Rattle.table.specs.declared.Row.{Row}
 use Rattle.table.specs.Table.{noParent, blank, hasRoom}
@@ -31,8 +31,7 @@ use Rattle.removal.specs.Trimmer.{removalOf, newFile, trimmedOf, trimmed
 use Rattle.removal.specs.Tally.{Tallied, refusal, byRow, fileLeft, tallyStep}
 use Rattle.removal.specs.RemovalSequence.{Trimming, answerTo, fileFrom, fedBy, IsRead, Removable, Goes, Leaves}
 use Rattle.removal.proofs.Marked.{Marked, bare, kept, marks}
-use Rattle.removal.proofs.Marking.{At, stands-at, Stands, numbered-at, numbered-none, unmarked-marks, at-left, kind-at, kind-left}
-use Rattle.removal.proofs.Marking.{mark, bare-mark, marks-mark, own-at, length-mark}
+use Rattle.removal.proofs.Marking.{At, stands-at, Stands, numbered-at, numbered-none, unmarked-marks, at-left, kind-at, kind-left, mark, bare-mark, marks-mark, own-at, length-mark}
 use Rattle.removal.proofs.StillValid.{valid-kept, length-file}
 use Rattle.removal.proofs.TallyFile.{tally-left}
 use Rattle.removal.proofs.Trimmed.{new-file, one-goes, none-goes}

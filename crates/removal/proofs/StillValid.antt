@@ -14,7 +14,7 @@ use Rattle.rules.specs.Table.{lines as rules}
 use Rattle.format.specs.Forest.{Forest, count, encode, fileHeader, fileOf}
 use Rattle.format.specs.Layout.{Property, WellFormed, Placed}
 use Rattle.format.proofs.Headers.{length-fileHeader}
-use Rattle.format.proofs.Each.{each-both, each-map}
+use Rattle.base.proofs.Lists.{each-both, each-map}
 use Rattle.valid.specs.Valid.{Valid, bones, EachKnown, reaches, Links}
 use Rattle.removal.proofs.Marked.{Marked, mend, mkn, mun, bare, kept, length-kept, count-kept, nodes-kept}
 use Rattle.removal.proofs.Targets.{targets-known, unlike}

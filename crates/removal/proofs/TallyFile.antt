@@ -22,8 +22,7 @@ use Rattle.format.proofs.Rows.{length-rows}
 use Rattle.valid.specs.Valid.{Valid}
 use Rattle.removal.specs.Tally.{reducedHeader, nodesLeft, fileLeft}
 use Rattle.removal.proofs.Marked.{Marked, mend, mkn, mun, bare, kept, marks, lost, goneTop, Falls, length-marks, length-kept, count-kept}
-use Rattle.removal.proofs.Falls.{falls, size-in, known-header, known-body, known-kids, known-next}
-use Rattle.removal.proofs.Falls.{unknown-header, unknown-body, unknown-next}
+use Rattle.removal.proofs.Falls.{falls, size-in, known-header, known-body, known-kids, known-next, unknown-header, unknown-body, unknown-next}
 
 -- ---- at the top stand known nodes, which stay
 

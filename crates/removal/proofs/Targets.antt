@@ -13,8 +13,8 @@ use Rattle.rules.specs.declared.Line.{Line}
 use Rattle.rules.specs.Table.{lines, linkTo}
 use Rattle.rules.specs.Rules.{linesOf, ruleOf}
 use Rattle.rules.proofs.Laws.{all, ruled}
-use Rattle.format.specs.Layout.{Each}
-use Rattle.format.proofs.Each.{each-map}
+use Rattle.base.specs.Lists.{Each}
+use Rattle.base.proofs.Lists.{each-map}
 use Rattle.valid.proofs.Listed.{all-each}
 use Rattle.props.specs.Step.{nameAt}
 use Rattle.judge.specs.Properties.{ruleAt}

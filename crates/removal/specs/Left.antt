@@ -8,7 +8,7 @@ use lib.Dec.{eqb, leb, ltb}
 use lib.ListN.{length, getD, take}
 use Rattle.table.specs.declared.Row.{Row}
 use Rattle.table.specs.Table.{noParent, blank}
-use Rattle.format.specs.Layout.{Each}
+use Rattle.base.specs.Lists.{Each}
 use Rattle.links.specs.Links.{Link}
 use Rattle.valid.specs.Nodes.{NodeProperty, NodeLink}
 use Rattle.writer.specs.Forest.{laidOut}

@@ -7,12 +7,13 @@ use mathlib.Core.Bool.{Bool, true, false, cond}
 use mathlib.Core.List.{List, [], _∷_, _++_, map}
 use lib.Dec.{eqb}
 use lib.ListN.{length, getD, set, take, drop}
+use Rattle.base.specs.Limits.{tableNumbers}
 use Rattle.le.specs.Le.{AreBytes}
 use Rattle.kinds.specs.Kinds.{isKnown}
 use Rattle.table.specs.declared.Row.{Row}
 use Rattle.table.specs.Table.{blank, rowsAt, cleared, filled}
 use Rattle.format.specs.Rows.{bodyOf, ownBytes}
-use Rattle.format.specs.Layout.{Each}
+use Rattle.base.specs.Lists.{Each}
 use Rattle.links.specs.Links.{linksOf}
 use Rattle.reader.specs.declared.Account.{Account}
 use Rattle.reader.specs.declared.Reading.the-variants.{Accepted}
@@ -74,9 +75,9 @@ marksBy s rows list = marksAfter s rows (noMarks rows) (map fedBy list)
 
 -- a file is accepted with this account, and its rows are these, whatever the table held
 pub record IsRead (s : List ℕ) (rows : List Row) (a : Account) : Type 0 where
-  pub accepts : (t : List ℕ) → 8192 ≤ length t → readingOf s t ≡ Accepted a
+  pub accepts : (t : List ℕ) → tableNumbers ≤ length t → readingOf s t ≡ Accepted a
   pub nodes : a .nodes ≡ length rows
-  pub table : (t : List ℕ) → 8192 ≤ length t → readTable s t ≡ filled rows t
+  pub table : (t : List ℕ) → tableNumbers ≤ length t → readTable s t ≡ filled rows t
 
 -- there is one such account, and one such list of rows
 abbrev pub OneReading : Type 0
@@ -88,7 +89,7 @@ OneReading = (s : List ℕ) (rows rows′ : List Row) (a a′ : Account) → IsR
 pub record Removable (s : List ℕ) (rows : List Row) (c : Trimming) : Type 0 where
   pub there : c .row < length rows
   pub unknown : isKnown (getD rows (c .row) blank .kind) ≡ false
-  pub table : 8192 ≤ length (c .table)
+  pub table : tableNumbers ≤ length (c .table)
   -- the output has room for the file less the node's own bytes
   pub output : length s ≤ ownBytes (getD rows (c .row) blank) + length (c .output)
 
@@ -145,7 +146,7 @@ pub record IsLeft (s : List ℕ) (rows : List Row) (a : Account) (marks : List B
   pub linksByRowStay : Each (LinkStays marks) (linksOf s rows)
   pub linksByRow : linksOf file (rowsLeft rows marks) ≡ map (movedLink rows marks) (linksOf s rows)
   -- "every other node is charged the same"
-  pub charges : (t : List ℕ) → 8192 ≤ length t
+  pub charges : (t : List ℕ) → tableNumbers ≤ length t
       → map ownBytes (rowsAt (readTable file t) 0 (account .nodes)) ≡ map ownBytes (unmarkedOf rows marks)
   pub known : account .known .0 ≡ a .known .0
   pub unknown : a .unknown .0 ≡ sumOverMarked (λ j r. ownBytes r) 0 rows marks + account .unknown .0

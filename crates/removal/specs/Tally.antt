@@ -7,6 +7,7 @@ use mathlib.Core.Option.{Option, none, some}
 use mathlib.Core.List.{List, [], _∷_, _++_, map}
 use lib.Dec.{eqb, ltb}
 use lib.ListN.{length, getD, take, drop, set}
+use Rattle.base.specs.Limits.{tableNumbers}
 use Rattle.le.specs.Le.{numberAt, le}
 use Rattle.kinds.specs.Kinds.{isKnown}
 use Rattle.table.specs.declared.Row.{Row}
@@ -110,7 +111,7 @@ byRow (some i) s rows marks room =
 -- else it marks that row and answers the new length."
 unfoldable pub tallyStep : (s : List ℕ) → List Row → List Bool → Fed → Tallied
 tallyStep s rows marks fed =
-    cond (ltb (fed .table) 8192) (refusal 1 marks) (byRow (rowNumbered 0 marks (fed .row)) s rows marks (fed .output))
+    cond (ltb (fed .table) tableNumbers) (refusal 1 marks) (byRow (rowNumbered 0 marks (fed .row)) s rows marks (fed .output))
 
 -- the answers to a list, and the marks after it
 unfoldable pub answers : (s : List ℕ) → List Row → List Bool → List Fed → List Written

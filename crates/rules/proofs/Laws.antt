@@ -10,7 +10,7 @@ use lib.Dec.{eqb}
 use lib.ListN.{length, take, drop, getD, length-map, drop-of-length-le, List·getD-eq-default, List·getD-map}
 use lib.Seq.{drop-cons, take-append-seam, sets, sets-eq, length-sets}
 use borrow.Author.Tests.{eq-eqb, ne-eqb, eqb-true, le-leb}
-use Rattle.le.proofs.Tests.{by-test}
+use Rattle.base.proofs.Tests.{by-test}
 use Rattle.names.specs.Names.{same}
 use Rattle.rules.specs.declared.Line.{Line}
 use Rattle.rules.specs.declared.Text.{Text}

@@ -11,7 +11,7 @@ use lib.Seq.{sets, take-all, take-take, take-at}
 use borrow.Author.Tests.{eq-eqb, ne-eqb, ltb-true, ltb-false}
 use Rattle.le.specs.Le.{val, le, numberAt}
 use Rattle.le.proofs.Laws.{le-remainder, le-split, length-le, val-le}
-use Rattle.le.proofs.Tests.{by-test}
+use Rattle.base.proofs.Tests.{by-test}
 use Rattle.names.specs.Names.{same}
 use Rattle.names.specs.Names.{numbered as numberIn}
 use Rattle.names.proofs.Laws.{same-eq}

@@ -8,7 +8,7 @@ use lib.Dec.{eqb}
 use lib.ListN.{length, take, drop, getD, length-drop, length-map, List·getD-map}
 use lib.Seq.{getD-drop, length-take-le, sets}
 use borrow.Author.Tests.{eqb-true, not-true, le-leb, lt-leb}
-use Rattle.le.proofs.Tests.{by-test}
+use Rattle.base.proofs.Tests.{by-test}
 use Rattle.rules.specs.declared.Line.{Line}
 use Rattle.rules.specs.declared.Span.{Span}
 use Rattle.rules.specs.Table.{lines, free, rowOf}

@@ -11,7 +11,9 @@ use Rattle.names.specs.Names.{same, decimal, number}
 use Rattle.names.specs.Names.{numbered as numberIn}
 use Rattle.kinds.specs.Kinds.{root, model, mesh, curve, material, file}
 use Rattle.rules.specs.declared.Line.{Line}
-use Rattle.rules.specs.Table.{letters, lines, unpacked, rule, free, plain, numbered, single, array, required, optional, v3, int, string, long, nothing, vertices, oneOf, linkTo, modes, nameOf, texts, stringOf}
+use Rattle.base.specs.Letters.{letters}
+use Rattle.props.specs.Types.{v3, int, string, long}
+use Rattle.rules.specs.Table.{lines, unpacked, rule, free, plain, numbered, single, array, required, optional, nothing, vertices, oneOf, linkTo, modes, nameOf, texts, stringOf}
 use Rattle.rules.specs.Rules.{lists, ruleIn, ofKind, linesOf, ruleOf, isText, inSet, isOneOf}
 
 count : length lines ≡ 81

@@ -10,7 +10,8 @@ use Rattle.names.specs.declared.Numeral.{Numeral}
 use Rattle.names.specs.declared.Numeral.the-variants.{Is, Not}
 use Rattle.rules.specs.declared.Line.{Line}
 use Rattle.rules.specs.declared.Text.{Text}
-use Rattle.rules.specs.Table.{byte, short, int, float, v4, N, keyType, anyType, numbered, single, lines, free, nameOf, texts, stringOf}
+use Rattle.props.specs.Types.{byte, short, int, float, v4}
+use Rattle.rules.specs.Table.{N, keyType, anyType, numbered, single, lines, free, nameOf, texts, stringOf}
 
 -- "`N` any of `b h i`"
 abbrev pub isN : ℕ → Bool

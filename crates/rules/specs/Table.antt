@@ -2,53 +2,20 @@
 -- required, `[]` array of any length (else length 1), `B` a `b` that is 0 or 1, `N` any of `b h i`, read unsigned; strings
 -- in brackets are the only ones taken". The table in plain letters.
 use Prim.Native.Nat.{ℕ, min}
-use Prim.Native.Char.{code}
 use Prim.Native.String.{String}
-use Prim.Native.String as Str
 use mathlib.Core.List.{List, [], _∷_, _++_, map}
 use lib.ListN.{length, take, getD}
+use Rattle.base.specs.Letters.{letters}
 use Rattle.le.specs.Le.{le, numberAt}
 use Rattle.kinds.specs.Kinds.{model, mesh, blendShape, bone, ikHandle, constraint, animation, curve, curveModeOverride, notificationTrack, material, file, instance, metadata}
+use Rattle.props.specs.Types.{byte, int, long, float, string, v2, v3, v4}
 use Rattle.rules.specs.declared.Line.{Line}
 use Rattle.rules.specs.declared.Letters.{Letters}
 use Rattle.rules.specs.declared.Text.{Text}
 
--- the bytes of a text
-unfoldable pub letters : String → List ℕ
-letters Str.[] = []
-letters (Str._∷_ c s) = code c ∷ letters s
-
 -- ---- the columns
 
--- types: one, by its code
-abbrev pub byte : ℕ
-byte = 0x62
-
-abbrev pub short : ℕ
-short = 0x68
-
-abbrev pub int : ℕ
-int = 0x69
-
-abbrev pub long : ℕ
-long = 0x6C
-
-abbrev pub float : ℕ
-float = 0x66
-
-abbrev pub string : ℕ
-string = 0x73
-
-abbrev pub v2 : ℕ
-v2 = 0x7632
-
-abbrev pub v3 : ℕ
-v3 = 0x7633
-
-abbrev pub v4 : ℕ
-v4 = 0x7634
-
--- or several: "`N` any of `b h i`"; kv's "one of b h i f v4"; any, of a name that is not listed
+-- types: one by its code (props), or several: "`N` any of `b h i`"; kv's "one of b h i f v4"; any, of a name that is not listed
 abbrev pub N : ℕ
 N = 1
 

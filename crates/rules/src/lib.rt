@@ -11,6 +11,7 @@ ghost use Rattle.rules.specs.Table.{lineFrom, linesFrom, rowOf, free, le
 ghost use Rattle.rules.specs.Rules.{takes, misfits, isNumber, lists, findIn, linesOf, fitting, isText, isOneOf};
 ghost use Rattle.rules.specs.Contract.{spanOf};
 
+pub mod held;
 mod lines;
 
 // A line as the table has it: the numbers of its columns.
@@ -84,13 +85,12 @@ pub fn name_of(l: Line) -> Letters
 pub fn takes(types: u32, code: u16) -> bool
     ensures { λ r. ⌜ r ≡ takes types code ⌝ }
 {
-    let code = code as u32;
-    let n = (code == 0x62) | (code == 0x68) | (code == 0x69); // b h i
+    let n = (code == props::BYTE) | (code == props::SHORT) | (code == props::INT);
     match types {
-        1 => n,
-        2 => n | (code == 0x66) | (code == 0x7634), // f v4
-        3 => true,
-        _ => types == code,
+        held::N => n,
+        held::KEY_TYPES => n | (code == props::FLOAT) | (code == props::V4),
+        held::ANY_TYPE => true,
+        _ => types == code as u32,
     }
 }
 
@@ -98,7 +98,7 @@ pub fn takes(types: u32, code: u16) -> bool
 pub fn misfits(l: Line, code: u16, elements: u32) -> bool
     ensures { λ r. ⌜ r ≡ misfits l code elements ⌝ }
 {
-    !takes(l.types, code) | ((l.array == 0) & (elements != 1))
+    !takes(l.types, code) | ((l.array == held::SINGLE) & (elements != 1))
 }
 
 // Whether a name is the line's as it stands.
@@ -144,7 +144,7 @@ fn has_name(l: Line, name: &[u8], four: u32) -> bool
     requires { ⌜ four ≡ numberAt 4 (now name) 0 ⌝ }
     ensures { λ r. ⌜ r ≡ lists l (now (name .entry)) ⌝ }
 {
-    if l.numbered == 1 {
+    if l.numbered == held::NUMBERED {
         return is_numbered(l, name);
     }
     if four_of(l) != four {

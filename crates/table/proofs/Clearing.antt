@@ -12,8 +12,8 @@ use borrow.Author.Fill.{fill-none, fill-more}
 use borrow.Author.Tests.{leb-true, ltb-true, ltb-false, le-leb}
 use Rattle.table.specs.declared.Row.{Row}
 use Rattle.table.specs.Table.{hasRow, rowAt, putRows, flat, blank, hasRoom, zeroed, cleared, filled}
-use Rattle.le.proofs.Tests.{by-test}
-use Rattle.le.proofs.Stores.{drop-sets}
+use Rattle.base.proofs.Tests.{by-test}
+use Rattle.base.proofs.Stores.{drop-sets}
 use Rattle.table.proofs.Rows.{hasRow-length, rowFrom-same, putRows-sets, length-putRows, length-flat, rowAt-putRows, rowAt-putRows-after, fits-hasRow}
 
 pub zeroed-none : (t : List ℕ) → t ≡ zeroed 0 t

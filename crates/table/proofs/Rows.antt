@@ -11,8 +11,8 @@ use lib.Seq.{sets, length-sets}
 use borrow.Author.Tests.{le-leb, lt-leb, leb-true, ltb-true, ltb-false}
 use Rattle.table.specs.declared.Row.{Row}
 use Rattle.table.specs.Table.{hasRow, rowAt, rowFrom, withRow, putRows, flat, fields, blank}
-use Rattle.le.proofs.Tests.{by-test}
-use Rattle.le.proofs.Stores.{getD-sets, getD-sets-other}
+use Rattle.base.proofs.Tests.{by-test}
+use Rattle.base.proofs.Stores.{getD-sets, getD-sets-other}
 
 -- the code's test: the row is among the whole rows of eight
 pub hasRow-rows : (t : List ℕ) (k : ℕ) → ltb k (length t / 8) ≡ hasRow t k

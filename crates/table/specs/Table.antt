@@ -6,6 +6,7 @@ use mathlib.Core.List.{List, [], _∷_, _++_}
 use lib.Dec.{eqb, leb}
 use lib.ListN.{length, getD, take, drop, replicate}
 use lib.Seq.{sets}
+use Rattle.base.specs.Limits.{mostRows, tableNumbers}
 use Rattle.table.specs.declared.Row.{Row}
 
 -- the row whose numbers start at a place
@@ -58,7 +59,7 @@ putRows t k (r ∷ rs) = putRows (withRow t k r) (suc k) rs
 
 -- the table is not "shorter than 8,192 numbers (1,024 rows)"
 unfoldable pub hasRoom : List ℕ → Bool
-hasRoom t = leb 8192 (length t)
+hasRoom t = leb tableNumbers (length t)
 
 -- n zeros, and the rest as it was
 unfoldable pub zeroed : ℕ → List ℕ → List ℕ
@@ -66,7 +67,7 @@ zeroed n t = replicate n 0 ++ drop n t
 
 -- "its first 8,192 numbers are 0", and the rest as it was; a table without room is left
 unfoldable pub cleared : List ℕ → List ℕ
-cleared t = cond (hasRoom t) (zeroed 8192 t) t
+cleared t = cond (hasRoom t) (zeroed tableNumbers t) t
 
 -- the numbers of rows, one row after the other
 unfoldable pub flat : List Row → List ℕ
@@ -76,7 +77,7 @@ flat (r ∷ rs) = fields r ++ flat rs
 -- of a table with room and at most 1,024 rows: the rows, and "the numbers after the rows, up to 8,192, are 0", and the
 -- rest as it was
 unfoldable pub filled : List Row → List ℕ → List ℕ
-filled rs t = flat rs ++ replicate (8192 - length rs * 8) 0 ++ drop 8192 t
+filled rs t = flat rs ++ replicate (tableNumbers - length rs * 8) 0 ++ drop tableNumbers t
 
 -- ---- a plan: document 01's "plan rows", lent as their numbers
 
@@ -86,7 +87,7 @@ rowCount t = length t / 8
 
 -- not 20: "plan length not a multiple of 8 or over 1,024 rows"
 abbrev pub isPlan : List ℕ → Bool
-isPlan t = eqb (length t % 8) 0 && leb (rowCount t) 1024
+isPlan t = eqb (length t % 8) 0 && leb (rowCount t) mostRows
 
 -- the numbers of a table's first n rows: a plan if n is at most 1,024 and all of them lie in the table
 abbrev pub firstRows : List ℕ → (n : ℕ) → List ℕ

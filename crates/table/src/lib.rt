@@ -3,6 +3,7 @@ ghost use mathlib.Core.Path.{_≡_};
 ghost use Prim.Native.Nat.{_+_, _*_, _≤_};
 ghost use lib.ListN.{length};
 ghost use lib.Seq.{sets};
+ghost use Rattle.base.specs.Limits.{tableNumbers};
 ghost use Rattle.table.specs.Table.{blank, hasRow, rowFrom, rowAt, fields, withRow, hasRoom, zeroed, cleared, rowCount, isPlan};
 
 // A node: its kind, the halves of its hash, its parent's row (0xFFFFFFFF for none), where its body starts and ends, its
@@ -17,6 +18,9 @@ pub struct Row {
     pub properties: u32,
     pub children: u32,
 }
+
+// The parent's row of a node that has no parent.
+pub const NO_PARENT: u32 = 0xFFFF_FFFF;
 
 // A row of zeros.
 pub fn blank() -> Row
@@ -105,15 +109,15 @@ pub fn put_row(table: &mut [u32], row: usize, r: Row)
 pub fn has_room(table: &[u32]) -> bool
     ensures { λ r. ⌜ r ≡ hasRoom (now (table .entry)) ⌝ }
 {
-    8192 <= table.len()
+    base::TABLE_NUMBERS <= table.len()
 }
 
 fn zero(table: &mut [u32])
-    requires { ⌜ 8192 ≤ length (now table) ⌝ }
-    ensures { λ _. ⌜ now (table .exit) ≡ zeroed 8192 (now (table .entry)) ⌝ }
+    requires { ⌜ tableNumbers ≤ length (now table) ⌝ }
+    ensures { λ _. ⌜ now (table .exit) ≡ zeroed tableNumbers (now (table .entry)) ⌝ }
 {
     let mut i: usize = 0;
-    while i < 8192 {
+    while i < base::TABLE_NUMBERS {
         table[i] = 0;
         i += 1;
     }
@@ -139,5 +143,5 @@ pub fn row_count(numbers: &[u32]) -> usize
 pub fn is_plan(numbers: &[u32]) -> bool
     ensures { λ r. ⌜ r ≡ isPlan (now (numbers .entry)) ⌝ }
 {
-    (numbers.len() % 8 == 0) & (numbers.len() / 8 <= 1024)
+    (numbers.len() % 8 == 0) & (numbers.len() / 8 <= base::MOST_ROWS)
 }

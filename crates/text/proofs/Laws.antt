@@ -8,8 +8,8 @@ use lib.Dec.{ltb, leb}
 use lib.ListN.{length, getD, take, drop, set, length-append, drop-of-length-le}
 use lib.Seq.{sets, length-sets, length-take-le, take-all, take-suc, drop-cons, take-at, getD-at}
 use borrow.Author.Tests.{lt-ltb, le-ltb, le-leb, lt-leb, leb-true, leb-false}
-use Rattle.le.proofs.Tests.{by-test}
-use Rattle.le.proofs.Stores.{sets-append, set-sets}
+use Rattle.base.proofs.Tests.{by-test}
+use Rattle.base.proofs.Stores.{sets-append, set-sets}
 use Rattle.text.specs.Text.{fitted, written, behind, glyph, digits, sizeIn, decimalSize}
 
 -- ---- room

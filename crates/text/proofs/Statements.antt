@@ -8,7 +8,7 @@ use mathlib.Core.List.{List, [], _∷_, _++_}
 use lib.Dec.{ltb}
 use lib.ListN.{length, getD, List·getD-append}
 use borrow.Author.Tests.{lt-ltb, le-leb, ltb-true, ltb-false}
-use Rattle.le.proofs.Tests.{by-test}
+use Rattle.base.proofs.Tests.{by-test}
 use Rattle.names.specs.declared.Numeral.the-variants.{Is, Not}
 use Rattle.names.specs.Names.{isDigit}
 use Rattle.names.specs.Names.{decimal as numeral}

@@ -3,6 +3,7 @@ ghost use mathlib.Core.Path.{_≡_};
 ghost use mathlib.Core.Bool.{true};
 ghost use Prim.Native.Nat.{_+_, _-_, _≤_, _<_};
 ghost use lib.ListN.{length};
+ghost use Rattle.base.specs.Limits.{mostBytes, mostRows};
 ghost use Rattle.table.specs.Table.{rowsAt, putRows, hasRoom, cleared, filled};
 ghost use Rattle.format.specs.Rows.{ownBytes, allOwnBytes};
 ghost use Rattle.walk.specs.Walk.{limited};
@@ -12,15 +13,13 @@ ghost use Rattle.writer.specs.Forest.{movedTo, laidOut};
 ghost use Rattle.removal.specs.Trimmer.{lowered, mended, withoutFrom, newFile, removalOf, trimmedOf, trimmedOutput, trimmedTable};
 ghost use Rattle.trimmer.specs.Contract.{Read, Removes, leftWithout};
 
-const NONE: u32 = 0xFFFFFFFF;
-
 // ---- a row taken out
 
 // A parent's row once row k is gone; none stays none.
 fn lowered(k: usize, parent: u32) -> u32
     ensures { λ r. ⌜ r ≡ lowered k parent ⌝ }
 {
-    if parent == NONE {
+    if parent == table::NO_PARENT {
         return parent;
     }
     if k < parent as usize {
@@ -63,7 +62,7 @@ fn mended(k: usize, above: u32, i: usize, row: table::Row) -> table::Row
 // Moves the rows after row k up by one, and mends each row that stays. Where row k is one of them, the last
 // place is left as it was.
 fn move_up(table: &mut [u32], nodes: usize, k: usize, above: u32)
-    requires { ⌜ nodes ≤ 1024 ⌝ }
+    requires { ⌜ nodes ≤ mostRows ⌝ }
     ensures { λ _. ⌜ now (table .exit) ≡ putRows (now (table .entry)) 0 (withoutFrom k above 0 (rowsAt (now (table .entry)) 0 nodes)) ⌝ }
 {
     let mut to: usize = 0;
@@ -80,7 +79,7 @@ fn move_up(table: &mut [u32], nodes: usize, k: usize, above: u32)
 
 // Takes row k, which is under row `above`, out of the first rows of a table. The last one's place is a row of zeros then.
 fn take_out(table: &mut [u32], nodes: usize, k: usize, above: u32)
-    requires { ⌜ (k < nodes) × (nodes ≤ 1024) × (hasRoom (now table) ≡ true) × (now table ≡ filled (rowsAt (now table) 0 nodes) (now table)) ⌝ }
+    requires { ⌜ (k < nodes) × (nodes ≤ mostRows) × (hasRoom (now table) ≡ true) × (now table ≡ filled (rowsAt (now table) 0 nodes) (now table)) ⌝ }
     ensures { λ _. ⌜ now (table .exit) ≡ filled (withoutFrom k above 0 (rowsAt (now (table .entry)) 0 nodes)) (now (table .entry)) ⌝ }
 {
     move_up(table, nodes, k, above);
@@ -91,7 +90,7 @@ fn take_out(table: &mut [u32], nodes: usize, k: usize, above: u32)
 
 // A row, its body as long as it was, after a header at a place.
 fn moved(at: u32, row: table::Row) -> table::Row
-    requires { ⌜ at + ownBytes row ≤ 16777216 ⌝ }
+    requires { ⌜ at + ownBytes row ≤ mostBytes ⌝ }
     ensures { λ r. ⌜ r ≡ movedTo at row ⌝ }
 {
     let own = format::own_bytes(row);
@@ -110,7 +109,7 @@ fn moved(at: u32, row: table::Row) -> table::Row
 
 // Places the bodies of a table's first rows anew: node after node after the file's header.
 fn lay_out(table: &mut [u32], rows: usize)
-    requires { ⌜ (rows ≤ 1024) × (16 + allOwnBytes (rowsAt (now table) 0 rows) ≤ 16777216) ⌝ }
+    requires { ⌜ (rows ≤ mostRows) × (16 + allOwnBytes (rowsAt (now table) 0 rows) ≤ mostBytes) ⌝ }
     ensures { λ _. ⌜ now (table .exit) ≡ putRows (now (table .entry)) 0 (laidOut 16 (rowsAt (now (table .entry)) 0 rows)) ⌝ }
 {
     let mut at: u32 = 16;
@@ -146,7 +145,7 @@ fn emit_and_place(
     flags: u32,
     out: &mut [u8],
 ) -> emit::Written
-    requires { ⌜ (rows ≤ 1024) × (16 + allOwnBytes (rowsAt (now table) 0 rows) ≤ 16777216) ⌝ }
+    requires { ⌜ (rows ≤ mostRows) × (16 + allOwnBytes (rowsAt (now table) 0 rows) ≤ mostBytes) ⌝ }
     ensures result { λ r. ⌜ r ≡ emission flags (now (source .entry)) (emittedRows (now (table .entry)) rows) (length (now (out .entry))) ⌝ }
     ensures output { λ r. ⌜ now (out .exit) ≡ outputOf flags (now (source .entry)) (emittedRows (now (table .entry)) rows) (now (out .entry)) ⌝ }
     ensures table { λ r. ⌜ now (table .exit) ≡ putRows (now (table .entry)) 0 (laidOut 16 (rowsAt (now (table .entry)) 0 rows)) ⌝ }

@@ -8,18 +8,20 @@ use mathlib.Core.List.{List, [], _∷_, _++_}
 use lib.Dec.{eqb, ltb}
 use lib.IntN.{ℤ, pos, negsuc}
 use borrow.Author.Tests.{eq-eqb, eqb-true, eqb-false, not-true, ltb-true, ltb-false}
-use Rattle.le.proofs.Tests.{by-test}
+use Rattle.base.proofs.Tests.{by-test}
 use Rattle.names.specs.Names.{same, bytesOk}
 use Rattle.names.proofs.Laws.{same-eq, same-refl}
 use Rattle.kinds.specs.Kinds.{curve}
 use Rattle.rules.specs.declared.Line.{Line}
-use Rattle.rules.specs.Table.{letters, lines, free, byte, short, int, float, v4, string, N, keyType, anyType}
+use Rattle.base.specs.Letters.{letters}
+use Rattle.props.specs.Types.{byte, short, int, float, v4, string}
+use Rattle.rules.specs.Table.{lines, free, N, keyType, anyType}
 use Rattle.rules.specs.Rules.{isN, takes, isText, ruleOf}
 use Rattle.rules.proofs.Laws.{all}
 use Rattle.judge.specs.Judge.{signed}
-use Rattle.format.specs.Layout.{Each, Property, EndsInZero, GoodProperty}
-use Rattle.format.proofs.Each.{each-both, each-map}
-use Rattle.valid.specs.Among.{Some}
+use Rattle.base.specs.Lists.{Each, Some}
+use Rattle.format.specs.Layout.{Property, EndsInZero, GoodProperty}
+use Rattle.base.proofs.Lists.{each-both, each-map}
 use Rattle.valid.specs.Lines.{ByLine, IsN, IsKeyType, Takes}
 use Rattle.valid.specs.Obeys.{Has, Distinct, FitsLine, ofNamed, KeyTyped, ReadSigned, BoneParent, Keeps, Obeys}
 use Rattle.valid.proofs.Ruled.{FitsRule, wanted, FitsRules, ObeysRules}

@@ -3,18 +3,20 @@ use Prim.Native.Nat.{ℕ, _*_}
 use mathlib.Core.Path.{_≡_}
 use mathlib.Core.List.{List}
 use lib.Dec.{eqb}
-use Rattle.le.proofs.Tests.{by-test}
+use Rattle.base.proofs.Tests.{by-test}
 use Rattle.kinds.specs.Kinds.{mesh, blendShape, curve}
 use Rattle.props.specs.Step.{lengthAt}
-use Rattle.rules.specs.Table.{letters, float}
+use Rattle.base.specs.Letters.{letters}
+use Rattle.props.specs.Types.{float}
 use Rattle.rules.specs.Rules.{ruleOf}
 use Rattle.judge.specs.declared.Beside.{Beside}
 use Rattle.judge.specs.Properties.{restAt, valueAt, lengthOf, valueOf, keyTypes, typesOf, besideOf}
-use Rattle.format.specs.Layout.{Each, Property}
+use Rattle.base.specs.Lists.{Each}
+use Rattle.format.specs.Layout.{Property}
 use Rattle.valid.specs.Obeys.{value, elementsOf, firstValueOf, vertexCount}
 use Rattle.valid.proofs.Ruled.{FitsRule, wanted}
 use Rattle.valid.proofs.Described.{Described}
-use Rattle.format.proofs.Each.{each-map}
+use Rattle.base.proofs.Lists.{each-map}
 use Rattle.valid.proofs.Names.{read-named}
 use Rattle.valid.proofs.Lines.{weights-each, key-text}
 use Rattle.valid.proofs.Values.{takes-number, takes-string, value-read, string-ends}

@@ -8,7 +8,7 @@ use lib.Dec.{eqb, leb, ltb}
 use lib.ListN.{length, take, drop, take-append-drop}
 use lib.Seq.{take-append-seam, drop-append-seam}
 use borrow.Author.Tests.{eqb-false, ne-eqb, leb-true, le-leb, lt-ltb, le-ltb, ltb-true, ltb-false}
-use Rattle.le.proofs.Tests.{by-test}
+use Rattle.base.proofs.Tests.{by-test}
 use Rattle.names.specs.Names.{same, isDigit, number}
 use Rattle.names.specs.Names.{decimal as numeral}
 use Rattle.names.specs.Names.{numbered as numberIn}

@@ -10,7 +10,8 @@ use Rattle.props.specs.Step.{codeAt, sizeAt, lengthAt, nameAt}
 use Rattle.body.specs.Body.{pass, properties}
 use Rattle.body.proofs.Laws.{few}
 use Rattle.judge.specs.Properties.{restAt}
-use Rattle.format.specs.Layout.{Each, Property, propertyBytes, GoodProperty, GoodBody}
+use Rattle.base.specs.Lists.{Each}
+use Rattle.format.specs.Layout.{Property, propertyBytes, GoodProperty, GoodBody}
 use Rattle.format.proofs.Properties.{code-read, size-read, elements-read, name-read, content-read, step-good}
 
 -- a property is found at a place: its parts are read there

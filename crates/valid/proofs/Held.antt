@@ -9,14 +9,16 @@ use lib.Dec.{eqb, leb}
 use borrow.Author.Tests.{eqb-true}
 use lib.IntN.{ℤ, pos, negsuc}
 use Rattle.le.specs.Le.{numberAt}
-use Rattle.le.proofs.Tests.{by-test}
+use Rattle.base.proofs.Tests.{by-test}
 use Rattle.kinds.specs.Kinds.{curve}
 use Rattle.props.specs.Step.{lengthAt, codeAt}
 use Rattle.faces.specs.declared.Values.{Values}
 use Rattle.faces.specs.declared.Values.the-variants.{Below, Past}
 use Rattle.faces.specs.Faces.{widthOf, facesIn, below}
 use Rattle.rules.specs.declared.Line.{Line}
-use Rattle.rules.specs.Table.{letters, texts, stringOf, byte, int, flag, oneOf, vertices, weights, faces, indices, keys, boneNumber}
+use Rattle.base.specs.Letters.{letters}
+use Rattle.props.specs.Types.{byte, int}
+use Rattle.rules.specs.Table.{texts, stringOf, flag, oneOf, vertices, weights, faces, indices, keys, boneNumber}
 use Rattle.rules.specs.Rules.{isN, takes, linesOf, ruleOf, isOneOf}
 use Rattle.judge.specs.declared.Verdict.{Verdict}
 use Rattle.judge.specs.declared.Beside.{Beside}
@@ -24,8 +26,8 @@ use Rattle.judge.specs.declared.Fault.{Fault}
 use Rattle.judge.specs.declared.Fault.the-variants.{Right, Whole, Element}
 use Rattle.judge.specs.Properties.{restAt, valueAt}
 use Rattle.judge.specs.Judge.{whole, sole, signed, parentOk, byValues, faceFault, faultOf, byFault, valued}
-use Rattle.format.specs.Layout.{Each, Property}
-use Rattle.valid.specs.Among.{Some}
+use Rattle.base.specs.Lists.{Each, Some}
+use Rattle.format.specs.Layout.{Property}
 use Rattle.valid.specs.Obeys.{Distinct, value, elementsOf, vertexCount, AreFaces, KeyTyped, ReadSigned, BoneParent, Keeps}
 use Rattle.valid.proofs.Ruled.{FitsRule, wanted}
 use Rattle.valid.proofs.Agree.{Ends, key-agree, signed-agree}

@@ -8,14 +8,15 @@ use lib.Dec.{eqb}
 use lib.ListN.{length}
 use borrow.Author.Tests.{eqb-true, eqb-false}
 use Rattle.le.specs.Le.{val}
-use Rattle.le.proofs.Tests.{by-test}
+use Rattle.base.proofs.Tests.{by-test}
 use Rattle.table.specs.declared.Row.{Row}
 use Rattle.body.specs.Body.{properties}
 use Rattle.rules.specs.declared.Line.{Line}
 use Rattle.rules.specs.Table.{linkTo}
 use Rattle.rules.specs.Rules.{linesOf, ruleOf}
-use Rattle.format.specs.Layout.{Each, Property, GoodBody}
-use Rattle.format.proofs.Each.{each-map}
+use Rattle.base.specs.Lists.{Each}
+use Rattle.format.specs.Layout.{Property, GoodBody}
+use Rattle.base.proofs.Lists.{each-map}
 use Rattle.links.specs.declared.Linked.{Linked}
 use Rattle.links.specs.Links.{reached, linksAt, refusalOf, unless, resolved}
 use Rattle.valid.specs.Lines.{ByLine}

@@ -7,19 +7,19 @@ use mathlib.Core.List.{List, [], _∷_, _++_}
 use lib.Dec.{eqb}
 use borrow.Author.Tests.{eq-eqb, eqb-true, eqb-false, not-true}
 use Rattle.le.specs.Le.{val, le, numberAt}
-use Rattle.le.proofs.Tests.{by-test}
+use Rattle.base.proofs.Tests.{by-test}
 use Rattle.names.specs.Names.{same, decimal, number}
 use Rattle.names.specs.Names.{numbered as numberIn}
 use Rattle.rules.specs.declared.Line.{Line}
-use Rattle.rules.specs.Table.{letters, numbered, unpacked, lines, free, nameOf}
+use Rattle.base.specs.Letters.{letters}
+use Rattle.rules.specs.Table.{numbered, unpacked, lines, free, nameOf}
 use Rattle.rules.specs.Rules.{isNumber, lists, ruleIn, ofKind, linesOf, ruleOf}
 use Rattle.rules.proofs.Laws.{all}
-use Rattle.format.specs.Layout.{Each}
-use Rattle.valid.specs.Among.{Some}
+use Rattle.base.specs.Lists.{Each, Some}
 use Rattle.valid.specs.Lines.{Numbered, Lists, ByLine}
 use Rattle.valid.proofs.Says.{Says, says-same}
 use Rattle.valid.proofs.Decimals.{says-numbered}
-use Rattle.format.proofs.Each.{each-map}
+use Rattle.base.proofs.Lists.{each-map}
 
 pub says-lists : (l : Line) (name : List ℕ) → Says (lists l name) (Lists l name)
 unfolding lists

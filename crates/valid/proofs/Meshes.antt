@@ -10,7 +10,7 @@ use lib.Dec.{eqb}
 use lib.ListN.{drop}
 use borrow.Author.Tests.{eq-eqb, ne-eqb, eqb-true, eqb-false}
 use Rattle.le.specs.Le.{val, le, numberAt}
-use Rattle.le.proofs.Tests.{by-test}
+use Rattle.base.proofs.Tests.{by-test}
 use Rattle.names.specs.Names.{same, decimal, number}
 use Rattle.names.specs.Names.{numbered as numberIn}
 use Rattle.names.proofs.Laws.{same-eq, same-refl}
@@ -19,13 +19,14 @@ use Rattle.body.specs.Body.{properties}
 use Rattle.faces.specs.declared.Face.{Face}
 use Rattle.faces.specs.Faces.{widthOf, facesIn}
 use Rattle.rules.specs.declared.Line.{Line}
-use Rattle.rules.specs.Table.{letters, unpacked, lines, nameOf, numbered, faces}
+use Rattle.base.specs.Letters.{letters}
+use Rattle.rules.specs.Table.{unpacked, lines, nameOf, numbered, faces}
 use Rattle.rules.specs.Rules.{lists, ruleIn, ofKind, linesOf, ruleOf, isN}
 use Rattle.rules.proofs.Laws.{all}
 use Rattle.judge.specs.Properties.{restAt}
 use Rattle.judge.specs.Judge.{nodeFaces}
 use Rattle.format.specs.Layout.{Property, GoodBody}
-use Rattle.format.proofs.Each.{each-map}
+use Rattle.base.proofs.Lists.{each-map}
 use Rattle.valid.specs.Lines.{Lists}
 use Rattle.valid.specs.Obeys.{Has, Distinct, value, ofNamed, elementsOf, Obeys}
 use Rattle.valid.specs.Nodes.{numbersFrom, meshFaces}

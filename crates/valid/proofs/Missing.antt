@@ -5,14 +5,16 @@ use mathlib.Core.Logic.{_⊎_, inl, inr, ⊎-elim}
 use mathlib.Core.Bool.{Bool, true, false, _&&_, _||_, false≢true}
 use mathlib.Core.List.{List, [], _∷_}
 use lib.Dec.{eqb}
-use Rattle.le.proofs.Tests.{by-test}
+use Rattle.base.proofs.Tests.{by-test}
 use Rattle.kinds.specs.Kinds.{mesh}
 use Rattle.rules.specs.declared.Line.{Line}
-use Rattle.rules.specs.Table.{letters, required, lines, nameOf}
+use Rattle.base.specs.Letters.{letters}
+use Rattle.rules.specs.Table.{required, lines, nameOf}
 use Rattle.rules.specs.Rules.{ofKind, linesOf}
 use Rattle.judge.specs.Properties.{has}
 use Rattle.judge.specs.Judge.{isMissing, misses, partnered, unpartnered, lacks}
-use Rattle.format.specs.Layout.{Each, Property}
+use Rattle.base.specs.Lists.{Each}
+use Rattle.format.specs.Layout.{Property}
 use Rattle.valid.specs.Obeys.{Has, HasRequired, Partnered}
 use Rattle.valid.proofs.Says.{Says, says-eqb, Fails, fails-not, fails-and, fails-or}
 use Rattle.valid.proofs.Described.{Described}

@@ -7,13 +7,14 @@ use mathlib.Core.List.{List, [], _∷_, _++_}
 use lib.Dec.{leb·suc-suc}
 use lib.ListN.{length}
 use borrow.Author.Tests.{lt-ltb}
-use Rattle.le.proofs.Tests.{by-test}
+use Rattle.base.proofs.Tests.{by-test}
 use Rattle.names.specs.Names.{same}
 use Rattle.names.proofs.Laws.{same-eq}
 use Rattle.props.specs.Step.{nameAt}
 use Rattle.body.specs.Body.{firstNamed}
 use Rattle.judge.specs.Properties.{has, placeOf}
-use Rattle.format.specs.Layout.{Each, Property}
+use Rattle.base.specs.Lists.{Each}
+use Rattle.format.specs.Layout.{Property}
 use Rattle.valid.specs.Obeys.{Has, ofNamed}
 use Rattle.valid.proofs.Says.{Says, says-same, says-or}
 use Rattle.valid.proofs.Described.{At, Described, none, one}

@@ -5,7 +5,7 @@ use mathlib.Core.Path.{_≡_, refl, sym, _∙_}
 use mathlib.Core.Logic.{_↔_, _⊎_, inl, inr, ⊎-elim, Iff·trans}
 use mathlib.Core.Bool.{Bool, true, false, cond, true≢false}
 use mathlib.Core.List.{List, [], _∷_, _++_}
-use Rattle.le.proofs.Tests.{by-test}
+use Rattle.base.proofs.Tests.{by-test}
 use Rattle.body.specs.Body.{properties}
 use Rattle.faces.specs.declared.Face.{Face}
 use Rattle.rules.specs.declared.Line.{Line}
@@ -16,7 +16,7 @@ use Rattle.judge.specs.declared.Fault.the-variants.{Right, Whole, Element}
 use Rattle.judge.specs.declared.Verdict.{Verdict}
 use Rattle.judge.specs.Properties.{ruleAt, besideOf}
 use Rattle.judge.specs.Judge.{refuse, isMistyped, typed, lacks, faultOf, byFault, valued, nodeFaces, nodeLinks, andThen, verdictAt, judgedBy, judgedAt, judged}
-use Rattle.format.proofs.Each.{each-map}
+use Rattle.base.proofs.Lists.{each-map}
 use Rattle.valid.specs.Statements.{WellTyped, AllKept, JudgedExactly}
 use Rattle.valid.proofs.Agree.{ends, fits-rules, keeps-rules}
 use Rattle.valid.proofs.Described.{described}

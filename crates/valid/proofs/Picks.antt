@@ -6,11 +6,10 @@ use mathlib.Core.Bool.{_||_}
 use mathlib.Core.List.{List, [], _∷_, _++_, map}
 use lib.Dec.{eqb}
 use lib.ListN.{length}
-use Rattle.le.proofs.Tests.{by-test}
-use Rattle.format.specs.Layout.{Each}
+use Rattle.base.proofs.Tests.{by-test}
+use Rattle.base.specs.Lists.{Each, Some, Picks, none, taken, left}
 use Rattle.faces.specs.declared.Face.{Face}
 use Rattle.faces.specs.Faces.{isDegenerate, degenerate}
-use Rattle.valid.specs.Among.{Some, Picks, none, taken, left}
 use Rattle.valid.specs.Nodes.{TwoEqual}
 use Rattle.valid.proofs.Says.{Says, says-eqb, says-or, fails}
 use Rattle.valid.proofs.Agree.{turned}

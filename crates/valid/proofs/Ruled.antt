@@ -5,10 +5,13 @@ use mathlib.Core.Bool.{true}
 use mathlib.Core.List.{List}
 use Rattle.kinds.specs.Kinds.{mesh}
 use Rattle.rules.specs.declared.Line.{Line}
-use Rattle.rules.specs.Table.{letters, single, float}
+use Rattle.base.specs.Letters.{letters}
+use Rattle.props.specs.Types.{float}
+use Rattle.rules.specs.Table.{single}
 use Rattle.rules.specs.Rules.{takes, ruleOf}
 use Rattle.judge.specs.Properties.{keyTypes}
-use Rattle.format.specs.Layout.{Each, Property}
+use Rattle.base.specs.Lists.{Each}
+use Rattle.format.specs.Layout.{Property}
 use Rattle.valid.specs.Obeys.{Keeps, Distinct, HasRequired, Partnered, ofNamed}
 
 abbrev pub FitsRule : Line → Property → Type 0

@@ -17,7 +17,7 @@ use Rattle.valid.proofs.Ruled.{ObeysRules}
 use Rattle.valid.proofs.Agree.{ends, obeys-agree}
 use Rattle.valid.proofs.Says.{Says}
 use Rattle.valid.proofs.Described.{Described, described, each-good}
-use Rattle.format.proofs.Each.{each-map}
+use Rattle.base.proofs.Lists.{each-map}
 use Rattle.valid.proofs.Types.{refused, typed-right}
 use Rattle.valid.proofs.Missing.{lacks-none}
 use Rattle.valid.proofs.Beside.{beheld}

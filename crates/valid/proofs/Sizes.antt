@@ -7,7 +7,7 @@ use mathlib.Core.List.{List, [], _∷_, flatMap}
 use lib.Dec.{eqb}
 use lib.ListN.{length, length-append}
 use borrow.Author.Tests.{eqb-true}
-use Rattle.le.proofs.Tests.{by-test}
+use Rattle.base.proofs.Tests.{by-test}
 use Rattle.body.specs.Body.{properties}
 use Rattle.faces.specs.Faces.{widthOf}
 use Rattle.faces.proofs.Laws.{length-facesIn}
@@ -16,7 +16,8 @@ use Rattle.rules.specs.Rules.{linesOf, ruleOf, isN}
 use Rattle.props.specs.Step.{codeAt, lengthAt}
 use Rattle.judge.specs.Properties.{ruleAt, restAt}
 use Rattle.judge.specs.Judge.{heldFaces, nodeFaces}
-use Rattle.format.specs.Layout.{Each, Property, propertyBytes, GoodBody}
+use Rattle.base.specs.Lists.{Each}
+use Rattle.format.specs.Layout.{Property, propertyBytes, GoodBody}
 use Rattle.format.proofs.Properties.{length-property}
 use Rattle.valid.specs.Obeys.{Obeys}
 use Rattle.valid.proofs.Ruled.{FitsRule}

@@ -9,14 +9,15 @@ use lib.ListN.{length, take, getD}
 use borrow.Author.Tests.{ne-eqb}
 use Rattle.names.specs.Names.{same, bytesOk}
 use Rattle.rules.specs.declared.Text.{Text}
-use Rattle.rules.specs.Table.{letters, texts, stringOf}
+use Rattle.base.specs.Letters.{letters}
+use Rattle.rules.specs.Table.{texts, stringOf}
 use Rattle.rules.specs.Rules.{isText, inSet, isOneOf}
 use Rattle.judge.specs.Properties.{keyTypes}
-use Rattle.format.specs.Layout.{Each, EndsInZero}
+use Rattle.base.specs.Lists.{Each, Some}
+use Rattle.format.specs.Layout.{EndsInZero}
 use Rattle.format.proofs.Stages.{bytes-sound}
-use Rattle.valid.specs.Among.{Some}
 use Rattle.valid.proofs.Says.{Says, says-eqb, says-and, says-or, says-equal}
-use Rattle.format.proofs.Each.{each-map}
+use Rattle.base.proofs.Lists.{each-map}
 use Rattle.valid.proofs.Lines.{all-letters, texts-letters, rotation-letters, visible-letters}
 
 abbrev Nonzero : ℕ → Type 0

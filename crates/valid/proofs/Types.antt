@@ -13,7 +13,8 @@ use Rattle.rules.specs.Rules.{takes, misfits, linesOf, ruleOf}
 use Rattle.judge.specs.Properties.{has}
 use Rattle.judge.specs.declared.Verdict.{Verdict}
 use Rattle.judge.specs.Judge.{refuse, isMistyped, typed}
-use Rattle.format.specs.Layout.{Each, Property}
+use Rattle.base.specs.Lists.{Each}
+use Rattle.format.specs.Layout.{Property}
 use Rattle.valid.specs.Obeys.{Has, Distinct}
 use Rattle.valid.proofs.Ruled.{FitsRule}
 use Rattle.valid.proofs.Says.{Says, says-eqb, says-same, says-or, Fails, fails, fails-not, fails-and, fails-or}

@@ -10,11 +10,11 @@ use lib.ListN.{length, drop, length-drop}
 use lib.Seq.{take-append-le, drop-append-le, take-at}
 use borrow.Author.Tests.{eqb-true}
 use Rattle.le.specs.Le.{val, numberAt}
-use Rattle.le.proofs.Tests.{by-test}
+use Rattle.base.proofs.Tests.{by-test}
 use Rattle.props.specs.declared.Size.the-variants.{Bytes}
-use Rattle.props.specs.Types.{sizeOf}
+use Rattle.props.specs.Types.{sizeOf, byte, int, long, string}
 use Rattle.faces.specs.Faces.{widthOf}
-use Rattle.rules.specs.Table.{byte, int, long, string, N}
+use Rattle.rules.specs.Table.{N}
 use Rattle.rules.specs.Rules.{isN, takes}
 use Rattle.judge.specs.Properties.{restAt, valueAt}
 use Rattle.format.specs.Layout.{Property, EndsInZero}

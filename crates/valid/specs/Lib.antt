@@ -1,4 +1,3 @@
-pub mod Among
 pub mod Lines
 pub mod Statements
 pub mod Obeys

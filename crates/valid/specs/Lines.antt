@@ -6,8 +6,9 @@ use mathlib.Core.Logic.{_⊎_}
 use mathlib.Core.List.{List, _++_}
 use Rattle.text.specs.Text.{decimal}
 use Rattle.rules.specs.declared.Line.{Line}
-use Rattle.rules.specs.Table.{numbered, lines, nameOf, byte, short, int, float, v4, N, keyType}
-use Rattle.format.specs.Layout.{Each}
+use Rattle.props.specs.Types.{byte, short, int, float, v4}
+use Rattle.rules.specs.Table.{numbered, lines, nameOf, N, keyType}
+use Rattle.base.specs.Lists.{Each}
 
 -- ---- names
 

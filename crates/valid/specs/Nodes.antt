@@ -9,10 +9,11 @@ use lib.ListN.{length, getD}
 use Rattle.le.specs.Le.{val}
 use Rattle.kinds.specs.Kinds.{mesh}
 use Rattle.faces.specs.declared.Face.{Face}
-use Rattle.rules.specs.Table.{letters, lines, linkTo}
+use Rattle.base.specs.Letters.{letters}
+use Rattle.rules.specs.Table.{lines, linkTo}
 use Rattle.format.specs.Forest.{Forest, end, known, unknown}
-use Rattle.format.specs.Layout.{Each, Property, propertyBytes, WellFormed}
-use Rattle.valid.specs.Among.{Some, Picks}
+use Rattle.base.specs.Lists.{Each, Some, Picks}
+use Rattle.format.specs.Layout.{Property, propertyBytes, WellFormed}
 use Rattle.valid.specs.Lines.{Lists, ByLine}
 use Rattle.valid.specs.Obeys.{value, ofNamed, elementsOf}
 

@@ -11,9 +11,11 @@ use Rattle.names.specs.Names.{same}
 use Rattle.kinds.specs.Kinds.{mesh}
 use Rattle.faces.specs.Faces.{widthOf}
 use Rattle.rules.specs.declared.Line.{Line}
-use Rattle.rules.specs.Table.{letters, single, required, lines, nameOf, texts, stringOf, flag, oneOf, vertices, weights, faces, indices, keys, boneNumber, float, v4}
-use Rattle.format.specs.Layout.{Each, Property}
-use Rattle.valid.specs.Among.{Some}
+use Rattle.base.specs.Letters.{letters}
+use Rattle.props.specs.Types.{float, v4}
+use Rattle.rules.specs.Table.{single, required, lines, nameOf, texts, stringOf, flag, oneOf, vertices, weights, faces, indices, keys, boneNumber}
+use Rattle.base.specs.Lists.{Each, Some}
+use Rattle.format.specs.Layout.{Property}
 use Rattle.valid.specs.Lines.{ByLine, IsN, Takes}
 
 -- ---- what is asked of a node's properties together

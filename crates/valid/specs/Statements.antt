@@ -7,7 +7,8 @@ use Rattle.props.specs.declared.Size.the-variants.{Bytes}
 use Rattle.props.specs.Types.{sizeOf}
 use Rattle.faces.specs.Faces.{widthOf}
 use Rattle.format.specs.Forest.{Forest}
-use Rattle.format.specs.Layout.{Each, Property, GoodBody, WellFormed}
+use Rattle.base.specs.Lists.{Each}
+use Rattle.format.specs.Layout.{Property, GoodBody, WellFormed}
 use Rattle.kinds.specs.Kinds.{mesh}
 use Rattle.judge.specs.Judge.{judged}
 use Rattle.valid.specs.Lines.{ByLine, IsN}

@@ -6,12 +6,14 @@ use mathlib.Core.Bool.{cond, _&&_}
 use mathlib.Core.List.{List}
 use lib.Dec.{eqb}
 use lib.ListN.{length}
+use Rattle.base.specs.Limits.{mostBytes}
 use Rattle.le.specs.Le.{val}
 use Rattle.kinds.specs.Kinds.{bone}
 use Rattle.kinds.specs.declared.Parent.the-variants.{None}
 use Rattle.rules.specs.Table.{linkTo}
 use Rattle.format.specs.Forest.{Forest, end, known, unknown, fileOf}
-use Rattle.format.specs.Layout.{Each, Property, GoodBody, WellFormedFile, Placed, Few}
+use Rattle.base.specs.Lists.{Each}
+use Rattle.format.specs.Layout.{Property, GoodBody, WellFormedFile, Placed, Few}
 use Rattle.valid.specs.Lines.{ByLine}
 use Rattle.valid.specs.Obeys.{Obeys}
 
@@ -59,6 +61,6 @@ pub record Valid (flags : ℕ) (f : Forest) : Type 0 where
   pub placed : Placed None f
   pub few : Few f
   -- not "file over 16,777,216 bytes"
-  pub short : length (fileOf flags f) ≤ 16777216
+  pub short : length (fileOf flags f) ≤ mostBytes
   pub ruled : EachKnown NodeRuled (bones f) f
   pub linked : EachKnown (NodeLinked f) (bones f) f

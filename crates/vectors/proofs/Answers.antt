@@ -8,8 +8,8 @@ use lib.Dec.{ltb}
 use lib.ListN.{length, length-append, set, replicate}
 use lib.Seq.{sets, length-sets, set-out}
 use borrow.Author.Tests.{ltb-true, ltb-false, lt-ltb, le-ltb}
-use Rattle.le.proofs.Tests.{by-test}
-use Rattle.le.proofs.Stores.{sets-append}
+use Rattle.base.proofs.Tests.{by-test}
+use Rattle.base.proofs.Stores.{sets-append}
 use Rattle.vectors.specs.declared.answer.Answer.{Answer}
 use Rattle.vectors.specs.Answers.{answered, pushed, extended}
 

@@ -11,7 +11,7 @@ use lib.Seq.{take-append-add}
 use borrow.Author.Tests.{eqb-true}
 use Rattle.le.specs.Le.{numberAt, AreBytes}
 use Rattle.le.proofs.Laws.{bytes-take, bytes-drop, numberAt-lt, numberAt-short, numberAt-high}
-use Rattle.le.proofs.Tests.{by-test}
+use Rattle.base.proofs.Tests.{by-test}
 use Rattle.kinds.specs.declared.Parent.{Parent}
 use Rattle.kinds.specs.declared.Parent.the-variants.{None, Kind}
 use Rattle.kinds.specs.Kinds.{isKnown}

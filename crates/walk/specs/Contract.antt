@@ -3,6 +3,7 @@ use mathlib.Core.Path.{_≡_}
 use Prim.Native.Nat.{ℕ, _+_, _≤_}
 use mathlib.Core.List.{List}
 use lib.ListN.{length}
+use Rattle.base.specs.Limits.{mostRows}
 use Rattle.table.specs.Table.{putRows}
 use Rattle.walk.specs.declared.Reached.{Reached}
 use Rattle.walk.specs.Walk.{Walked}
@@ -13,6 +14,6 @@ pub record Came (r : Reached) (w : Walked) (at row : ℕ) (bs t t′ : List ℕ)
   pub reached : r .at ≡ w .at
   pub rows : r .rows ≡ row + length (w .rows)
   pub table : t′ ≡ putRows t row (w .rows)
-  pub few : r .rows ≤ 1024
+  pub few : r .rows ≤ mostRows
   pub onward : at ≤ r .at
   pub within : r .at ≤ at + length bs

@@ -5,6 +5,7 @@ use mathlib.Core.Path.{_≡_}
 use mathlib.Core.Logic.{_⊎_}
 use mathlib.Core.List.{List}
 use lib.ListN.{length}
+use Rattle.base.specs.Limits.{mostBytes}
 use Rattle.le.specs.Le.{AreBytes}
 use Rattle.kinds.specs.declared.Parent.{Parent}
 use Rattle.kinds.specs.declared.Parent.the-variants.{None}
@@ -46,7 +47,7 @@ Unbounded = (parent : Parent) (above depth at row : ℕ) (bs : List ℕ) → nod
 
 -- What the code answers by, beside 3 to 12.
 abbrev pub Limited : Type 0
-Limited = (s : List ℕ) → (length s ≤ 16777216 → limited s ≡ walkOf s) × (16777216 < length s → limited s ≡ refuse 2 0)
+Limited = (s : List ℕ) → (length s ≤ mostBytes → limited s ≡ walkOf s) × (mostBytes < length s → limited s ≡ refuse 2 0)
 
 -- Document 01's 8, "depth over 8 (a root has depth 1)", is never given, whatever the bytes are. Each kind stands only under its
 -- parents: Root lies at depth 1, the kinds under Root at 2, those under Model and Animation at 3, and Bone, IKHandle, Constraint

@@ -6,6 +6,7 @@ use mathlib.Core.Bool.{Bool, true, false, cond, not, _&&_, _||_}
 use mathlib.Core.List.{List, [], _∷_, _++_}
 use lib.Dec.{eqb, leb, ltb}
 use lib.ListN.{length, take, drop}
+use Rattle.base.specs.Limits.{mostBytes, mostProperties, mostRows}
 use Rattle.le.specs.Le.{numberAt}
 use Rattle.kinds.specs.declared.Parent.{Parent}
 use Rattle.kinds.specs.declared.Parent.the-variants.{None, Kind}
@@ -36,7 +37,7 @@ illSized size room = (ltb room 24 || ltb size 24) || ltb room size
 
 -- 9: "known node with over 64 properties"
 abbrev pub tooMany : (kind count : ℕ) → Bool
-tooMany kind count = isKnown kind && ltb 64 count
+tooMany kind count = isKnown kind && ltb mostProperties count
 
 -- 5 to 9, in their order, from the header's numbers, the bytes left from its start to the end of what encloses it, the
 -- parent's kind, the node's row and its depth. 0 is no refusal.
@@ -44,7 +45,7 @@ unfoldable pub nodeRefusal : Header → (room : ℕ) → Parent → (row depth :
 nodeRefusal h room parent row depth =
     cond (illSized (h .size) room) 5
     (cond (not (mayStand parent (h .kind))) 6
-    (cond (leb 1024 row) 7
+    (cond (leb mostRows row) 7
     (cond (ltb 8 depth) 8
     (cond (tooMany (h .kind) (h .properties)) 9 0))))
 
@@ -168,7 +169,7 @@ flagsOf s = numberAt 4 s 12
 -- 2 to 12. 2: "file over 16,777,216 bytes". A row's places are below 2^32, so the code, which takes any bytes, cannot do
 -- without it.
 unfoldable pub limited : List ℕ → Walked
-limited s = cond (ltb 16777216 (length s)) (refuse 2 0) (walkOf s)
+limited s = cond (ltb mostBytes (length s)) (refuse 2 0) (walkOf s)
 
 -- what is answered: "all other numbers of it are 0"
 abbrev pub refusedWith : ℕ → ℕ → Answer

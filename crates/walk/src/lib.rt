@@ -2,6 +2,7 @@
 ghost use mathlib.Core.Path.{_≡_};
 ghost use Prim.Native.Nat.{_+_, _≤_};
 ghost use lib.ListN.{length};
+ghost use Rattle.base.specs.Limits.{mostBytes, mostRows};
 ghost use Rattle.walk.specs.Walk.{headerAt, illSized, tooMany, nodeRefusal, rowOf, nodeAt, childrenAt, isCast, limited, refusedWith, answer, tableAfter};
 ghost use Rattle.walk.specs.Contract.{Came};
 
@@ -45,7 +46,7 @@ fn ill_sized(size: u32, room: usize) -> bool
 fn too_many(kind: u32, properties: u32) -> bool
     ensures { λ r. ⌜ r ≡ tooMany kind properties ⌝ }
 {
-    kinds::known(kind) & (64 < properties)
+    kinds::known(kind) & (base::MOST_PROPERTIES < properties)
 }
 
 // What a node's header is refused with, 5 to 9, where `room` bytes are left from it on: 0 for nothing.
@@ -58,7 +59,7 @@ pub fn refusal(header: Header, room: usize, parent: kinds::Parent, row: usize, d
     if !kinds::may_stand(parent, header.kind) {
         return 6;
     }
-    if 1024 <= row {
+    if base::MOST_ROWS <= row {
         return 7;
     }
     if 8 < depth {
@@ -104,7 +105,7 @@ fn walk_node(
     row: usize,
     depth: u32,
 ) -> Reached
-    requires { ⌜ (at + length (now bytes) ≤ 16777216) × (row ≤ 1024) × (depth ≤ row + 1) ⌝ }
+    requires { ⌜ (at + length (now bytes) ≤ mostBytes) × (row ≤ mostRows) × (depth ≤ row + 1) ⌝ }
     ensures { λ r. ⌜ Came r
         (nodeAt parent above depth at row (now (bytes .entry)))
         at row (now (bytes .entry)) (now (table .entry)) (now (table .exit)) ⌝ }
@@ -167,7 +168,7 @@ fn walk_children(
     depth: u32,
     count: u32,
 ) -> Reached
-    requires { ⌜ (start + length (now bytes) ≤ 16777216) × (row ≤ 1024) × (depth ≤ row + 1) ⌝ }
+    requires { ⌜ (start + length (now bytes) ≤ mostBytes) × (row ≤ mostRows) × (depth ≤ row + 1) ⌝ }
     ensures { λ r. ⌜ Came r
         (childrenAt parent above depth count start row (now (bytes .entry)))
         start row (now (bytes .entry)) (now (table .entry)) (now (table .exit)) ⌝ }
@@ -222,7 +223,7 @@ fn refused(number: u32, place: u32) -> Answer
 fn is_cast(file: &[u8]) -> bool
     ensures { λ r. ⌜ r ≡ isCast (now (file .entry)) ⌝ }
 {
-    (16 <= file.len()) & (le::u32_at(file, 0) == 0x74736163)
+    (16 <= file.len()) & (le::u32_at(file, 0) == format::FIRST_FOUR)
 }
 
 // Walks over a file, and puts a row for each node into the table, as far as it lies in it. A refused file leaves the rows of
@@ -230,9 +231,9 @@ fn is_cast(file: &[u8]) -> bool
 pub fn walk(file: &[u8], table: &mut [u32]) -> Answer
     ensures result { λ r. ⌜ r ≡ answer (now (file .entry)) ⌝ }
     ensures table { λ r. ⌜ now (table .exit) ≡ tableAfter (now (file .entry)) (now (table .entry)) ⌝ }
-    ensures bound { λ r. ⌜ length (limited (now (file .entry)) .rows) ≤ 1024 ⌝ }
+    ensures bound { λ r. ⌜ length (limited (now (file .entry)) .rows) ≤ mostRows ⌝ }
 {
-    if 16777216 < file.len() {
+    if base::MOST_BYTES < file.len() {
         return refused(2, 0);
     }
     if !is_cast(file) {
@@ -248,7 +249,7 @@ pub fn walk(file: &[u8], table: &mut [u32]) -> Answer
         table,
         16,
         kinds::Parent::None,
-        0xFFFF_FFFF, // no parent
+        table::NO_PARENT,
         0,
         1,
         roots,

@@ -15,7 +15,8 @@ use Rattle.table.specs.Table.{noParent, hasRoom}
 use Rattle.props.specs.Step.{headerRefusal, dataRefusal, toZero, dataOf, nameAt, stepAt}
 use Rattle.body.specs.Body.{pass, properties, firstNamed}
 use Rattle.faces.specs.Faces.{widthOf, facesIn, below, degenerate}
-use Rattle.rules.specs.Table.{letters, lines, unpacked, texts}
+use Rattle.base.specs.Letters.{letters}
+use Rattle.rules.specs.Table.{lines, unpacked, texts}
 use Rattle.rules.specs.Rules.{lists, ruleIn, ofKind, linesOf, isText, inSet, isOneOf}
 use Rattle.judge.specs.Properties.{lengthOf, valueOf, typesOf, besideOf}
 use Rattle.judge.specs.Judge.{typed, misses, lacks, faultOf, valued, nodeFaces, nodeLinks, verdictAt, judgedAt, judged}

@@ -5,7 +5,7 @@ use mathlib.Core.List.{List, _++_}
 use lib.Dec.{ltb}
 use lib.ListN.{length, drop}
 use Rattle.le.specs.Le.{AreBytes}
-use Rattle.le.proofs.Tests.{by-test}
+use Rattle.base.proofs.Tests.{by-test}
 use Rattle.table.specs.Table.{isPlan}
 use Rattle.plan.specs.Plan.{judged}
 use Rattle.format.specs.Rows.{allOwnBytes}

@@ -9,14 +9,14 @@ use mathlib.Core.List.{List, [], _∷_, _++_, append-assoc}
 use lib.Dec.{eqb}
 use lib.ListN.{length}
 use borrow.Author.Tests.{eq-eqb, ne-eqb, eqb-true, eqb-false}
-use Rattle.le.proofs.Tests.{by-test}
+use Rattle.base.proofs.Tests.{by-test}
 use Rattle.kinds.specs.Kinds.{root, isKnown}
 use Rattle.table.specs.declared.Row.{Row}
 use Rattle.table.specs.Table.{noParent}
 use Rattle.body.specs.Body.{exactly}
 use Rattle.format.specs.Rows.{bodyOf}
-use Rattle.format.specs.Layout.{Each}
-use Rattle.format.proofs.Each.{each-append, each-map}
+use Rattle.base.specs.Lists.{Each}
+use Rattle.base.proofs.Lists.{each-append, each-map}
 use Rattle.plan.specs.declared.Judged.{Judged}
 use Rattle.plan.specs.Plan.{upFrom, pathOf, isOn, rightParent, outside, naming, rowRefusal, byNumber, judgedFrom, judged}
 use Rattle.emit.specs.Emission.{roots}

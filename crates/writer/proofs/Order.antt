@@ -6,13 +6,13 @@ use mathlib.Core.Path.{_≡_, refl, ap, sym, _∙_}
 use mathlib.Core.Bool.{true}
 use mathlib.Core.List.{List, [], _∷_, _++_, append-assoc}
 use lib.ListN.{length, length-append}
-use Rattle.le.proofs.Tests.{by-test}
+use Rattle.base.proofs.Tests.{by-test}
 use Rattle.kinds.specs.Kinds.{isKnown}
 use Rattle.table.specs.declared.Row.{Row}
 use Rattle.format.specs.Forest.{Forest, end, known, unknown, count, nodes, header, encode}
 use Rattle.format.specs.Rows.{nodeRow, rows, hashOf, bodyOf, ownBytes}
-use Rattle.format.specs.Layout.{Each}
-use Rattle.format.proofs.Each.{each-both, each-map}
+use Rattle.base.specs.Lists.{Each}
+use Rattle.base.proofs.Lists.{each-both, each-map}
 use Rattle.format.proofs.Headers.{length-header}
 use Rattle.plan.specs.Plan.{naming}
 use Rattle.emit.specs.Emission.{sizeOf, nodesBytes}

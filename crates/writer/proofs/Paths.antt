@@ -7,12 +7,12 @@ use mathlib.Core.List.{List, [], _∷_, _++_}
 use lib.Dec.{eqb}
 use lib.ListN.{length, length-append}
 use borrow.Author.Tests.{eqb-true, eqb-false}
-use Rattle.le.proofs.Tests.{by-test}
+use Rattle.base.proofs.Tests.{by-test}
 use Rattle.kinds.specs.Kinds.{isKnown}
 use Rattle.table.specs.declared.Row.{Row}
 use Rattle.format.specs.Forest.{encode}
-use Rattle.format.specs.Layout.{Each}
-use Rattle.format.proofs.Each.{each-append, each-map}
+use Rattle.base.specs.Lists.{Each}
+use Rattle.base.proofs.Lists.{each-append, each-map}
 use Rattle.format.proofs.Headers.{length-header}
 use Rattle.plan.specs.Plan.{naming}
 use Rattle.emit.specs.Emission.{under, sizes}

@@ -7,7 +7,7 @@ use mathlib.Core.List.{List, [], _∷_, _++_, append-assoc}
 use lib.Dec.{eqb}
 use lib.ListN.{length}
 use borrow.Author.Tests.{eq-eqb, ne-eqb}
-use Rattle.le.proofs.Tests.{by-test}
+use Rattle.base.proofs.Tests.{by-test}
 use Rattle.kinds.specs.declared.Parent.{Parent}
 use Rattle.kinds.specs.declared.Parent.the-variants.{None, Kind}
 use Rattle.kinds.specs.Kinds.{root, isKnown, mayStand}
@@ -16,8 +16,9 @@ use Rattle.table.specs.declared.Row.{Row}
 use Rattle.table.specs.Table.{noParent}
 use Rattle.format.specs.Forest.{Forest, end, known, unknown, count, nodes, encode}
 use Rattle.format.specs.Rows.{nodeRow, rows}
-use Rattle.format.specs.Layout.{Each, WellFormed, Placed}
-use Rattle.format.proofs.Each.{each-append, each-map}
+use Rattle.base.specs.Lists.{Each}
+use Rattle.format.specs.Layout.{WellFormed, Placed}
+use Rattle.base.proofs.Lists.{each-append, each-map}
 use Rattle.plan.specs.Plan.{upFrom, pathOf, isOn, rightParent}
 use Rattle.writer.proofs.Paths.{Older, Not}
 use Rattle.writer.proofs.Judged.{Parents}

@@ -11,15 +11,16 @@ use lib.Seq.{take-length, length-take-le}
 use borrow.Author.Tests.{eqb-true, eqb-false, le-ltb, ltb-false}
 use Rattle.le.specs.Le.{AreBytes}
 use Rattle.le.proofs.Laws.{bytes-take, bytes-drop}
-use Rattle.le.proofs.Tests.{by-test}
+use Rattle.base.proofs.Tests.{by-test}
 use Rattle.kinds.specs.Kinds.{root, isKnown}
 use Rattle.table.specs.declared.Row.{Row}
 use Rattle.table.specs.Table.{noParent}
 use Rattle.body.specs.Body.{properties, exactly}
 use Rattle.format.specs.Forest.{end, count, header, encode, fileHeader, fileOf}
 use Rattle.format.specs.Rows.{rowsOf, hashOf, bodyOf, ownBytes}
-use Rattle.format.specs.Layout.{Each, GoodBody, WellFormed, WellFormedFile, Few}
-use Rattle.format.proofs.Each.{each-both, each-map}
+use Rattle.base.specs.Lists.{Each}
+use Rattle.format.specs.Layout.{GoodBody, WellFormed, WellFormedFile, Few}
+use Rattle.base.proofs.Lists.{each-both, each-map}
 use Rattle.format.proofs.Headers.{length-header, length-fileHeader}
 use Rattle.format.proofs.Rows.{part, length-rows}
 use Rattle.format.proofs.Bodies.{body-sound}

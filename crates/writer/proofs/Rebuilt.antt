@@ -8,14 +8,15 @@ use mathlib.Core.List.{List, [], _∷_, _++_, append-assoc, append-nil}
 use lib.Dec.{eqb}
 use lib.ListN.{length, length-append}
 use borrow.Author.Tests.{eq-eqb, eqb-true, eqb-false, ne-eqb, le-ltb}
-use Rattle.le.proofs.Tests.{by-test}
+use Rattle.base.proofs.Tests.{by-test}
 use Rattle.kinds.specs.Kinds.{isKnown}
 use Rattle.table.specs.declared.Row.{Row}
 use Rattle.body.specs.Body.{properties, exactly}
 use Rattle.format.specs.Forest.{Forest, end, known, unknown, count, nodes, header, encode}
 use Rattle.format.specs.Rows.{nodeRow, rows, bodyOf}
-use Rattle.format.specs.Layout.{Each, GoodBody, WellFormed}
-use Rattle.format.proofs.Each.{each-append, each-map}
+use Rattle.base.specs.Lists.{Each}
+use Rattle.format.specs.Layout.{GoodBody, WellFormed}
+use Rattle.base.proofs.Lists.{each-append, each-map}
 use Rattle.format.proofs.Headers.{length-header}
 use Rattle.format.proofs.Rows.{hash-back, part, length-rows}
 use Rattle.format.proofs.Bodies.{body-good}

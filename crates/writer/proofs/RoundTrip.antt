@@ -6,15 +6,16 @@ use mathlib.Core.Logic.{_⊎_, inl, inr}
 use mathlib.Core.List.{List, [], _∷_, _++_, map, append-nil}
 use lib.ListN.{length, take, drop}
 use lib.Seq.{take-at}
-use Rattle.le.proofs.Tests.{by-test}
+use Rattle.base.proofs.Tests.{by-test}
 use Rattle.kinds.specs.declared.Parent.the-variants.{None}
 use Rattle.table.specs.declared.Row.{Row}
 use Rattle.table.specs.Table.{noParent, hasRoom, rowsAt, rowCount, firstRows, flat, filled}
 use Rattle.table.proofs.Plans.{rows-filled, first-filled, count-flat, plan-flat, rows-flat}
 use Rattle.format.specs.Forest.{Forest, count, nodes, encode, fileHeader, fileOf}
 use Rattle.format.specs.Rows.{rowsOf, bodyOf}
-use Rattle.format.specs.Layout.{Each, Few}
-use Rattle.format.proofs.Each.{each-map}
+use Rattle.base.specs.Lists.{Each}
+use Rattle.format.specs.Layout.{Few}
+use Rattle.base.proofs.Lists.{each-map}
 use Rattle.format.proofs.Headers.{length-fileHeader, fileHeader-flags}
 use Rattle.format.proofs.Rows.{length-rows}
 use Rattle.walk.specs.Walk.{walkOf, limited, flagsOf}

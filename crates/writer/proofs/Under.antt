@@ -6,12 +6,11 @@ use mathlib.Core.List.{List, [], _∷_, _++_}
 use lib.Dec.{eqb}
 use lib.ListN.{length}
 use borrow.Author.Tests.{eq-eqb, ne-eqb}
-use Rattle.le.proofs.Tests.{by-test}
+use Rattle.base.proofs.Tests.{by-test}
 use Rattle.kinds.specs.Kinds.{isKnown}
 use Rattle.table.specs.declared.Row.{Row}
-use Rattle.format.specs.Forest.{Forest, end, known, unknown, count, encode}
+use Rattle.format.specs.Forest.{Forest, end, known, unknown, count, encode, header}
 use Rattle.plan.specs.Plan.{naming}
-use Rattle.format.specs.Forest.{header}
 use Rattle.format.specs.Rows.{hashOf, bodyOf}
 use Rattle.emit.specs.Emission.{under, sizes, sizeOf, nodesBytes}
 use Rattle.writer.specs.Forest.{nodeOf, nodesUnder}

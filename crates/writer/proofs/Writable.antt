@@ -15,8 +15,8 @@ use Rattle.table.specs.Table.{rowCount, isPlan}
 use Rattle.table.proofs.Rests.{length-rowsAt}
 use Rattle.body.specs.Body.{exactly}
 use Rattle.format.specs.Rows.{bodyOf, allOwnBytes}
-use Rattle.format.specs.Layout.{Each}
-use Rattle.format.proofs.Each.{each-map}
+use Rattle.base.specs.Lists.{Each}
+use Rattle.base.proofs.Lists.{each-map}
 use Rattle.plan.specs.declared.Judged.{Judged}
 use Rattle.plan.specs.Plan.{naming, judged}
 use Rattle.emit.specs.Emission.{fileBytes}

@@ -7,9 +7,9 @@ use mathlib.Core.List.{List}
 use lib.Dec.{ltb}
 use lib.ListN.{length}
 use borrow.Author.Tests.{ltb-false}
-use Rattle.le.proofs.Tests.{by-test}
+use Rattle.base.proofs.Tests.{by-test}
 use Rattle.table.specs.Table.{hasRow, rowAt, rowsAt, rowCount, isPlan}
-use Rattle.format.specs.Layout.{Each}
+use Rattle.base.specs.Lists.{Each}
 use Rattle.plan.specs.Plan.{judged}
 use Rattle.emit.specs.declared.Written.{Written}
 use Rattle.emit.specs.Emission.{done, byLength, fileBytes, emission}

@@ -6,6 +6,7 @@ use mathlib.Core.Path.{_≡_}
 use mathlib.Core.Logic.{_⊎_, _↔_}
 use mathlib.Core.List.{List, _++_}
 use lib.ListN.{length, drop}
+use Rattle.base.specs.Limits.{mostBytes, mostRows}
 use Rattle.le.specs.Le.{AreBytes}
 use Rattle.table.specs.declared.Row.{Row}
 use Rattle.format.specs.Forest.{fileOf}
@@ -36,7 +37,7 @@ Refuses = (plan s : List ℕ) (flags : ℕ) (out : List ℕ) → AreBytes s → 
 pub record IsPlan (plan : List ℕ) : Type 0 where
   pub count : ℕ
   pub whole : length plan ≡ 8 * count
-  pub few : count ≤ 1024
+  pub few : count ≤ mostRows
 
 -- not 22, not 23 and not 24, each as a field of `RightRow` has it; not 21 is `RightParent`
 abbrev pub InSource : (s : List ℕ) → Row → Type 0
@@ -74,8 +75,8 @@ pub record WriterAnswers (plan s : List ℕ) (flags room : ℕ) (rows : List Row
       → (writtenOf plan s flags room ≡ refused 24 k)
       ↔ (Reaches plan s k × RightParent rows k × InSource s (rowOf rows k) × RightBody s (rowOf rows k) × (RightChildren rows k → ⊥))
   -- "then 25 length over 16,777,216, 26 output too short"
-  pub tooLong : (writtenOf plan s flags room ≡ refused 25 0) ↔ (AllRight plan s × (16777216 < size))
-  pub noRoom : (writtenOf plan s flags room ≡ refused 26 0) ↔ (AllRight plan s × (size ≤ 16777216) × (room < size))
+  pub tooLong : (writtenOf plan s flags room ≡ refused 25 0) ↔ (AllRight plan s × (mostBytes < size))
+  pub noRoom : (writtenOf plan s flags room ≡ refused 26 0) ↔ (AllRight plan s × (size ≤ mostBytes) × (room < size))
   -- and none of them
   pub written : (writtenOf plan s flags room ≡ done size) ↔ Writable plan s room
   -- there is no other answer

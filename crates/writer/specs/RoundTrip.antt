@@ -7,6 +7,7 @@ use mathlib.Core.Path.{_≡_}
 use mathlib.Core.Logic.{_⊎_}
 use mathlib.Core.List.{List, _++_, map}
 use lib.ListN.{length, getD, take, drop}
+use Rattle.base.specs.Limits.{mostBytes}
 use Rattle.le.specs.Le.{AreBytes}
 use Rattle.table.specs.Table.{rowsAt, rowCount, firstRows}
 use Rattle.format.specs.Forest.{fileOf}
@@ -49,7 +50,7 @@ pub record Encodes (plan s : List ℕ) (flags : ℕ) (file : List ℕ) : Type 0 
   pub encoding : file ≡ fileOf flags (forestOf s (planRows plan))
   pub wellFormed : WellFormedFile flags (forestOf s (planRows plan))
   pub few : Few (forestOf s (planRows plan))
-  pub short : length file ≤ 16777216
+  pub short : length file ≤ mostBytes
   pub rows : rowsOf (forestOf s (planRows plan)) ≡ laidOut 16 (planRows plan)
   pub bodies : map (bodyOf file) (laidOut 16 (planRows plan)) ≡ map (bodyOf s) (planRows plan)
 

@@ -11,6 +11,7 @@ use mathlib.Core.Logic.{_⊎_, _↔_}
 use mathlib.Core.Bool.{true}
 use mathlib.Core.List.{List, filter}
 use lib.ListN.{length, getD}
+use Rattle.base.specs.Limits.{mostBytes, mostRows}
 use Rattle.le.specs.Le.{AreBytes}
 use Rattle.kinds.specs.Kinds.{root, isKnown}
 use Rattle.table.specs.declared.Row.{Row}
@@ -73,11 +74,11 @@ pub record Writable (plan s : List ℕ) (room : ℕ) : Type 0 where
   -- not 20: "plan length not a multiple of 8 or over 1,024 rows"
   pub count : ℕ
   pub whole : length plan ≡ 8 * count
-  pub few : count ≤ 1024
+  pub few : count ≤ mostRows
   -- not 21 to 24
   pub right : (k : ℕ) → k < count → RightRow s (planRows plan) k
   -- not 25, "length over 16,777,216", and not 26, "output too short": the file header and the rows' own bytes
-  pub short : 16 + allOwnBytes (planRows plan) ≤ 16777216
+  pub short : 16 + allOwnBytes (planRows plan) ≤ mostBytes
   pub fits : 16 + allOwnBytes (planRows plan) ≤ room
 
 -- a plan is written exactly when none of 20 to 26 speaks, whatever its numbers and the flags are

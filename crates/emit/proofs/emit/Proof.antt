@@ -13,7 +13,7 @@ use Rattle.format.specs.Forest.{fileHeader}
 use Rattle.emit.specs.declared.Written.{Written}
 use Rattle.emit.specs.Emission.{nodesBytes, roots, emission, outputOf}
 use Rattle.emit.specs.Contract.{MeasuredBy}
-use Rattle.le.proofs.Stores.{zeros}
+use Rattle.base.proofs.Stores.{zeros}
 use Rattle.emit.proofs.Whole.{too-long, no-room, file-put}
 use borrow.Author.Needs.{needs}
 use Rattle.emit.proofs.emit.Statement.{statement}

@@ -11,9 +11,8 @@ use Rattle.faces.specs.declared.Face.{Face}
 use Rattle.faces.specs.declared.Values.{Values}
 use Rattle.faces.specs.declared.Values.the-variants.{Past}
 use Rattle.faces.specs.Faces.{widthOf, facesIn, below, degenerate as degenerates, countedBy, scanOf, scanNumbers}
-use Rattle.le.proofs.Answers.{told}
-use Rattle.faces.proofs.Laws.{first, ended, length-facesIn, past-first, past-second, past-third, passed, below-none}
-use Rattle.faces.proofs.Laws.{counted, not-counted, count-none, scan-past, scan-below}
+use Rattle.base.proofs.Answers.{told}
+use Rattle.faces.proofs.Laws.{first, ended, length-facesIn, past-first, past-second, past-third, passed, below-none, counted, not-counted, count-none, scan-past, scan-below}
 use Rattle.faces.proofs.scan.Statement.{statement}
 use Rattle.faces.proofs.scan.Tie as tie
 

@@ -1,7 +1,7 @@
 -- `judge::beside_of`: each kind by its letters; a product of two numbers of 32 bits does not wrap.
 use borrow.Author.Tests.{ne-eqb}
 use Rattle.props.proofs.Cases.{product-fits}
-use Rattle.rules.specs.Table.{letters}
+use Rattle.base.specs.Letters.{letters}
 use Rattle.judge.specs.Properties.{besideOf}
 use borrow.Author.Needs.{needs}
 use Rattle.judge.proofs.beside_of.Statement.{statement}

@@ -1,7 +1,7 @@
 -- `judge::types_of`: the string at the place that the search gives, or none.
 use mathlib.Core.Path.{_≡_, sym, ap}
 use borrow.Author.Tests.{lt-ltb, le-ltb}
-use Rattle.rules.specs.Table.{letters}
+use Rattle.base.specs.Letters.{letters}
 use Rattle.judge.specs.Properties.{keyTypes, typesOf}
 use borrow.Author.Needs.{needs}
 use Rattle.judge.proofs.types_of.Statement.{statement}

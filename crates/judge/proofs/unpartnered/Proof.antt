@@ -1,7 +1,7 @@
 -- `judge::unpartnered`: only a mesh has partners.
 use borrow.Author.Needs.{needs}
 use borrow.Author.Tests.{eq-eqb, ne-eqb}
-use Rattle.rules.specs.Table.{letters}
+use Rattle.base.specs.Letters.{letters}
 use Rattle.judge.proofs.unpartnered.Statement.{statement}
 use Rattle.judge.proofs.unpartnered.Tie as tie
 

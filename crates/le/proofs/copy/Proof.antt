@@ -6,7 +6,7 @@ use mathlib.Core.Path.{_≡_, refl, ap, sym, _∙_}
 use lib.ListN.{length, take, getD, set}
 use lib.Seq.{sets, length-sets}
 use borrow.Author.Needs.{needs}
-use Rattle.le.proofs.Stores.{copy-next}
+use Rattle.base.proofs.Stores.{copy-next}
 use Rattle.le.proofs.copy.Statement.{statement}
 use Rattle.le.proofs.copy.Tie as tie
 

@@ -1,6 +1,6 @@
 -- `le::put_byte`: one byte stored where its place is there.
 use Rattle.le.proofs.Laws.{le-byte}
-use Rattle.le.proofs.Stores.{put-past}
+use Rattle.le.proofs.Puts.{put-past}
 use borrow.Author.Needs.{needs}
 use Rattle.le.proofs.put_byte.Statement.{statement}
 use Rattle.le.proofs.put_byte.Tie as tie

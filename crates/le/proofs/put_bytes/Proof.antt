@@ -3,7 +3,8 @@ use native.Mathlib.Omega.{arith}
 use mathlib.Core.Path.{sym}
 use mathlib.Core.Logic.{⊎-elim, inl, inr}
 use borrow.Author.Needs.{needs}
-use Rattle.le.proofs.Stores.{sets-past, put-part}
+use Rattle.le.proofs.Puts.{put-part}
+use Rattle.base.proofs.Stores.{sets-past}
 use Rattle.le.proofs.put_bytes.Statement.{statement}
 use Rattle.le.proofs.put_bytes.Tie as tie
 

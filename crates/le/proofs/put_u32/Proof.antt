@@ -1,5 +1,5 @@
 -- `le::put_u32`: nothing past the end, else the two halves into the part that starts at the place.
-use Rattle.le.proofs.Stores.{put-past, put-halves}
+use Rattle.le.proofs.Puts.{put-past, put-halves}
 use borrow.Author.Needs.{needs}
 use Rattle.le.proofs.put_u32.Statement.{statement}
 use Rattle.le.proofs.put_u32.Tie as tie

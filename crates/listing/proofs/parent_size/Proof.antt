@@ -4,7 +4,7 @@ use lib.ListN.{length}
 use native.Mathlib.Omega.{arith}
 use Rattle.text.specs.Text.{decimalSize}
 use Rattle.text.proofs.Laws.{length-digits}
-use Rattle.rules.specs.Table.{letters}
+use Rattle.base.specs.Letters.{letters}
 use Rattle.listing.proofs.Laws.{parent-none, parent-some}
 use borrow.Author.Needs.{needs}
 use Rattle.listing.proofs.parent_size.Statement.{statement}

@@ -2,7 +2,7 @@
 use mathlib.Core.Path.{_≡_}
 use mathlib.Core.List.{List, _++_}
 use Prim.Native.Nat.{ℕ}
-use Rattle.rules.specs.Table.{letters}
+use Rattle.base.specs.Letters.{letters}
 use Rattle.listing.specs.declared.Line.{Line}
 use Rattle.listing.specs.Listing.{textOf, newline, wordsOf}
 use Rattle.listing.specs.Contract.{Puts}

@@ -3,7 +3,7 @@ use mathlib.Core.List.{List, _++_}
 use Prim.Native.Nat.{ℕ, _+_, _≤_}
 use lib.ListN.{length}
 use Rattle.text.specs.Text.{hexadecimal}
-use Rattle.rules.specs.Table.{letters}
+use Rattle.base.specs.Letters.{letters}
 use Rattle.format.specs.Rows.{ownBytes}
 use Rattle.listing.specs.Listing.{parentText, labelled, textOf, newline, wordsOf}
 use Rattle.listing.specs.Contract.{Puts}

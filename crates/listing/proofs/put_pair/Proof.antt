@@ -1,7 +1,7 @@
 -- `listing::put_pair`.
 use mathlib.Core.List.{_++_}
 use Rattle.text.specs.Text.{decimal}
-use Rattle.rules.specs.Table.{letters}
+use Rattle.base.specs.Letters.{letters}
 use Rattle.listing.specs.Listing.{newline}
 use Rattle.listing.proofs.Laws.{front, puts-first, puts-then}
 use borrow.Author.Needs.{needs}

@@ -2,7 +2,7 @@
 use mathlib.Core.List.{_++_}
 use Prim.Native.Nat.{_+_}
 use Rattle.text.specs.Text.{decimal}
-use Rattle.rules.specs.Table.{letters}
+use Rattle.base.specs.Letters.{letters}
 use Rattle.listing.proofs.Laws.{puts-first, parent-none, parent-some}
 use borrow.Author.Needs.{needs}
 use Rattle.listing.proofs.put_parent.Statement.{statement}

@@ -1,6 +1,6 @@
 -- `listing::put_summary`.
 use mathlib.Core.List.{_++_}
-use Rattle.rules.specs.Table.{letters}
+use Rattle.base.specs.Letters.{letters}
 use Rattle.listing.specs.Listing.{labelled, textOf, newline, wordsOf}
 use Rattle.listing.proofs.Laws.{front, puts-first, puts-then}
 use borrow.Author.Needs.{needs}

@@ -1,5 +1,5 @@
 -- `listing::put_total`.
-use Rattle.rules.specs.Table.{letters}
+use Rattle.base.specs.Letters.{letters}
 use Rattle.listing.specs.Listing.{labelled, textOf, newline, wordsOf}
 use Rattle.listing.proofs.Laws.{front, puts-first, puts-then}
 use borrow.Author.Needs.{needs}

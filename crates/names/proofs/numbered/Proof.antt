@@ -3,7 +3,7 @@ use mathlib.Core.Path.{sym, _∙_}
 use lib.Seq.{length-take-le}
 use borrow.Author.Needs.{needs}
 use borrow.Author.Tests.{not-true, not-false}
-use Rattle.le.proofs.Answers.{told}
+use Rattle.base.proofs.Answers.{told}
 use Rattle.names.specs.Names.{numeralNumbers}
 use Rattle.names.proofs.Laws.{numbered-short, numbered-other, numbered-by}
 use Rattle.names.proofs.numbered.Statement.{statement}

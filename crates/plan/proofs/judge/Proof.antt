@@ -8,7 +8,7 @@ use lib.ListN.{length-replicate}
 use borrow.Author.Needs.{needs}
 use Rattle.table.specs.Table.{rowsAt}
 use Rattle.plan.specs.Plan.{judged}
-use Rattle.le.proofs.Stores.{zeros}
+use Rattle.base.proofs.Stores.{zeros}
 use Rattle.plan.proofs.judge.Statement.{statement}
 use Rattle.plan.proofs.judge.Tie as tie
 

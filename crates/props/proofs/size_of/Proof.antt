@@ -2,7 +2,7 @@
 use Prim.Native.Nat.{ℕ}
 use mathlib.Core.Path.{_≡_, refl, ap, sym}
 use borrow.Author.Tests.{ne-eqb}
-use Rattle.le.proofs.Answers.{told}
+use Rattle.base.proofs.Answers.{told}
 use Rattle.props.specs.Types.{sizeOf, sizeNumbers}
 use Rattle.props.proofs.size_of.Statement.{statement}
 use Rattle.props.proofs.size_of.Tie as tie

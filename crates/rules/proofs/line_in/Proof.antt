@@ -2,7 +2,7 @@
 use mathlib.Core.Path.{sym, _∙_}
 use borrow.Author.Needs.{needs}
 use Rattle.le.specs.Le.{val, numberAt}
-use Rattle.rules.specs.Table.{letters}
+use Rattle.base.specs.Letters.{letters}
 use Rattle.rules.proofs.Laws.{row-inside, row-past}
 use Rattle.rules.proofs.line_in.Statement.{statement}
 use Rattle.rules.proofs.line_in.Tie as tie

@@ -9,7 +9,8 @@ use lib.ListN.{drop, getD, List·getD-map}
 use borrow.Author.Needs.{needs}
 use Rattle.le.specs.Le.{val, numberAt}
 use Rattle.rules.specs.declared.Text.{Text}
-use Rattle.rules.specs.Table.{letters, texts, textFrom}
+use Rattle.base.specs.Letters.{letters}
+use Rattle.rules.specs.Table.{texts, textFrom}
 use Rattle.rules.specs.Rules.{inSet, isOneOf}
 use Rattle.rules.proofs.Laws.{set-passed, text-passed, text-hit, text-ended}
 use Rattle.rules.proofs.one_of.Statement.{statement}

@@ -7,9 +7,10 @@ use lib.ListN.{length, take, drop, length-drop}
 use lib.Seq.{sets, length-sets}
 use borrow.Author.Needs.{needs}
 use Rattle.le.specs.Le.{val, numberAt}
-use Rattle.le.proofs.Answers.{clauses}
-use Rattle.le.proofs.Stores.{sets-more}
-use Rattle.rules.specs.Table.{letters, lines, free, rowOf}
+use Rattle.base.proofs.Answers.{clauses}
+use Rattle.base.proofs.Stores.{sets-more}
+use Rattle.base.specs.Letters.{letters}
+use Rattle.rules.specs.Table.{lines, free, rowOf}
 use Rattle.rules.proofs.Together.{many, put-none, put-short, put-all, row-at}
 use Rattle.rules.proofs.put_lines.Statement.{statement}
 use Rattle.rules.proofs.put_lines.Tie as tie

@@ -1,7 +1,7 @@
 -- `walk::walk`: the file's header, and then its nodes.
 use mathlib.Core.Path.{sym, _∙_}
 use borrow.Author.Tests.{not-true, not-false}
-use Rattle.le.proofs.Answers.{clauses}
+use Rattle.base.proofs.Answers.{clauses}
 use Rattle.walk.proofs.Whole.{header-there, too-long, no-cast, no-version, nodes-refused, nodes-done}
 use borrow.Author.Needs.{needs}
 use Rattle.walk.proofs.walk.Statement.{statement}

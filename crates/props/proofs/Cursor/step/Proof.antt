@@ -9,7 +9,7 @@ use Rattle.le.proofs.Laws.{rest, rest-drop}
 use Rattle.names.specs.Names.{bytesOk}
 use Rattle.props.specs.Types.{sizeOf}
 use Rattle.props.specs.Step.{headerRefusal, dataOf, past, stepAt, stepNumbers}
-use Rattle.le.proofs.Answers.{told}
+use Rattle.base.proofs.Answers.{told}
 use Rattle.props.proofs.Cases.{Within, name-fits, data-within, past-end, header-refused, name-refused, by-data}
 use borrow.Author.Needs.{needs}
 use Rattle.props.proofs.Cursor.step.Statement.{statement}

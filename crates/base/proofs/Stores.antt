@@ -10,10 +10,7 @@ use lib.Dec.{ltb}
 use lib.ListN.{length, getD, take, drop, set, take-append-drop, length-drop, length-map, length-set, drop-of-length-le, replicate, length-replicate, getD-replicate, List·getD-eq-default}
 use lib.Seq.{sets, set-out, take-nil, take-length, take-suc, length-take-le, take-set-le, drop-set-add, drop-set-lt, getD-set-same, getD-set-other, set-comm}
 use borrow.Author.Tests.{ltb-true, ltb-false}
-use borrow.Rule.Slice.PartMut.{putMid}
-use Rattle.le.specs.Le.{le}
-use Rattle.le.proofs.Tests.{by-test}
-use Rattle.le.proofs.Laws.{rest, rest-drop, length-rest, le-halves, length-le}
+use Rattle.base.proofs.Tests.{by-test}
 
 module _ {A : Type 0} where
   pub sets-past : (l : List A) (i : ℕ) (vs : List A) → length l ≤ i → sets l i vs ≡ l
@@ -87,31 +84,6 @@ sets-more f l i d h {v} e old {new} n =
     let first : i ≡ 0 + i = omega arith in
     let all : map f (take (i + 1) l) ≡ so ++ (v ∷ []) = rw (add-one i, take-suc l i d h, e) (map-append f (take i l) (getD l i d ∷ [])) in
     ap (λ k. set new k v) first ∙ sets-next old 0 so v here n ∙ ap (sets old 0) (sym all)
-
--- nothing is stored past the end
-pub put-past : (w : ℕ) (l : List ℕ) (at x : ℕ) → length l ≤ at → l ≡ sets l at (le w x)
-put-past w l at x h = sym (sets-past l at (le w x) h)
-
--- two halves stored into the part from a place on are the number stored at the place
-pub put-halves : (w : ℕ) (l : List ℕ) (at x : ℕ) {first both : List ℕ} → first ≡ sets (rest l at) 0 (le w (x % 256 ^ w)) → both ≡ sets first w (le w (x / 256 ^ w))
-    → putMid at (length l - at) l both ≡ sets l at (le (w + w) x)
-put-halves w l at x {first} {both} e f =
-    let stored : both ≡ sets (drop at l) 0 (le (w + w) x)
-    = rw (f, e, rest-drop l at, le-halves w x, sets-append (drop at l) 0 (le w (x % 256 ^ w)) (le w (x / 256 ^ w)), length-le w (x % 256 ^ w), zero-add w) in
-    let none : drop (length l - at) (drop at l) ≡ [] = drop-of-length-le (drop at l) {i = length l - at} (simp length-drop (omega arith)) in
-    rw (stored, none, append-nil) (sets-rest at (le (w + w) x) l 0 ∙ ap (λ k. sets l k (le (w + w) x)) (add-zero at))
-
--- so many bytes stored into the part from a place on, all of them or as many as have room
-pub put-part : (l : List ℕ) (at : ℕ) (bytes : List ℕ) (n : ℕ) → (n ≡ length bytes) ⊎ (n ≡ length (rest l at)) → {both : List ℕ} → both ≡ sets (rest l at) 0 (take n bytes)
-    → putMid at (length l - at) l both ≡ sets l at bytes
-put-part l at bytes n h {both} e =
-    let stored : both ≡ sets (drop at l) 0 bytes = e ∙ ap (λ d. sets d 0 (take n bytes)) (rest-drop l at) ∙ all h in
-    let none : drop (length l - at) (drop at l) ≡ [] = drop-of-length-le (drop at l) {i = length l - at} (simp length-drop (omega arith)) in
-    rw (stored, none, append-nil) (sets-rest at bytes l 0 ∙ ap (λ k. sets l k bytes) (add-zero at))
-  where
-    all : (n ≡ length bytes) ⊎ (n ≡ length (rest l at)) → sets (drop at l) 0 (take n bytes) ≡ sets (drop at l) 0 bytes
-    all (inl f) = ap (λ k. sets (drop at l) 0 (take k bytes)) f ∙ ap (sets (drop at l) 0) (take-length bytes)
-    all (inr f) = sets-cut (drop at l) 0 n bytes (omega (arith, f, length-rest l at, length-drop at l))
 
 -- what is read of a list of zeros
 pub zeros : (n p : ℕ) → getD {A = ℕ} (replicate n 0) p 0 ≡ 0

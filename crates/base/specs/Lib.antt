@@ -1,0 +1,4 @@
+pub mod Letters
+pub mod Limits
+pub mod Lists
+pub mod Refusals
