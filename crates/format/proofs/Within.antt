@@ -7,7 +7,7 @@ use mathlib.Core.Bool.{Bool, true, false, cond}
 use mathlib.Core.List.{[]}
 use lib.ListN.{length, length-append}
 use Rattle.kinds.specs.declared.Parent.the-variants.{None}
-use Rattle.kinds.specs.Kinds.{bone, lines, lineIn, lineOf, standsAtTop, mayStand}
+use Rattle.kinds.specs.Kinds.{bone, parentsTable, parentsIn, parentsOf, standsAtTop, mayStand}
 use Rattle.table.specs.declared.Row.{Row}
 use Rattle.table.specs.Table.{noParent}
 use Rattle.format.specs.Forest.{Forest, end, known, unknown, nodes, encode}
@@ -72,7 +72,7 @@ rows-under (unknown k h p c rest next) parent row at =
 
 -- no Bone stands at the top, so that each has a parent among the rows
 not-top : (k : ℕ) → mayStand None k ≡ true → k ≡ bone → ⊥
-unfolding mayStand standsAtTop lineOf lineIn lines
+unfolding mayStand standsAtTop parentsOf parentsIn parentsTable
 not-top k h e = not-false (rw e at h)
   where
     not-false : false ≡ true → ⊥

@@ -39,16 +39,16 @@ pub fn size_of(code: u16) -> Size
     ensures numbers { λ r. ⌜ sizeNumbers r ≡ sizeNumbers (sizeOf code) ⌝ }
 {
     match code {
-        BYTE => Size::Bytes(1), // b
-        SHORT => Size::Bytes(2), // h
-        INT => Size::Bytes(4), // i
-        LONG => Size::Bytes(8), // l
-        FLOAT => Size::Bytes(4), // f
-        DOUBLE => Size::Bytes(8), // d
-        V2 => Size::Bytes(8), // v2
-        V3 => Size::Bytes(12), // v3
-        V4 => Size::Bytes(16), // v4
-        STRING => Size::Text, // s
+        BYTE => Size::Bytes(1),
+        SHORT => Size::Bytes(2),
+        INT => Size::Bytes(4),
+        LONG => Size::Bytes(8),
+        FLOAT => Size::Bytes(4),
+        DOUBLE => Size::Bytes(8),
+        V2 => Size::Bytes(8),
+        V3 => Size::Bytes(12),
+        V4 => Size::Bytes(16),
+        STRING => Size::Text,
         _ => Size::NoSuch,
     }
 }

@@ -7,8 +7,8 @@ use mathlib.Core.Bool.{Bool, true, false, cond}
 use mathlib.Core.List.{List}
 use lib.Dec.{eqb}
 use borrow.Author.Tests.{ne-eqb}
-use Rattle.kinds.specs.Kinds.{isKnown, lineOf, lineIn}
-use Rattle.kinds.specs.Kinds.{lines as kindLines}
+use Rattle.kinds.specs.Kinds.{isKnown, parentsOf, parentsIn}
+use Rattle.kinds.specs.Kinds.{parentsTable}
 use Rattle.rules.specs.declared.Line.{Line}
 use Rattle.rules.specs.Table.{lines, linkTo}
 use Rattle.rules.specs.Rules.{linesOf, ruleOf}
@@ -27,7 +27,7 @@ abbrev tells : Line → Bool
 tells l = told (l .held) (l .target)
 
 lines-tell : all tells lines ≡ true
-unfolding all lines isKnown lineOf lineIn kindLines
+unfolding all lines isKnown parentsOf parentsIn parentsTable
 lines-tell = refl
 
 pub targets-known : Each (λ l. l .held ≡ linkTo 0 .held → isKnown (l .target) ≡ true) lines

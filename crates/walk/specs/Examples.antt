@@ -7,7 +7,7 @@ use Rattle.le.specs.Le.{val, numberAt, le}
 use Rattle.names.specs.Names.{bytesOk}
 use Rattle.kinds.specs.declared.Parent.{Parent}
 use Rattle.kinds.specs.declared.Parent.the-variants.{None, Kind}
-use Rattle.kinds.specs.Kinds.{root, model, mesh, lines, lineIn, lineOf, isKnown, standsAtTop, standsUnder, mayStand}
+use Rattle.kinds.specs.Kinds.{root, model, mesh, parentsTable, parentsIn, parentsOf, isKnown, standsAtTop, standsUnder, mayStand}
 use Rattle.props.specs.Step.{headerRefusal, dataRefusal, toZero, dataOf, nameAt, stepAt}
 use Rattle.body.specs.Body.{pass, properties}
 use Rattle.table.specs.declared.Row.{Row}
@@ -17,7 +17,7 @@ use Rattle.walk.specs.declared.Answer.{Answer}
 use Rattle.walk.specs.Walk.{Walked, refuse, headerAt, nodeRefusal, andThen, children, knownNode, nodeBy, node, nodeAt, childrenAt, walkOf, limited, answer}
 
 unfoldable walk : List ℕ → Walked
-unfolding val numberAt bytesOk lines lineIn lineOf isKnown standsAtTop standsUnder mayStand headerRefusal dataRefusal toZero dataOf nameAt stepAt pass properties headerAt nodeRefusal andThen children knownNode nodeBy node nodeAt childrenAt walkOf limited
+unfolding val numberAt bytesOk parentsTable parentsIn parentsOf isKnown standsAtTop standsUnder mayStand headerRefusal dataRefusal toZero dataOf nameAt stepAt pass properties headerAt nodeRefusal andThen children knownNode nodeBy node nodeAt childrenAt walkOf limited
 walk s = limited s
 
 unfoldable answered : List ℕ → Answer
@@ -95,7 +95,7 @@ bodies = refl
 
 -- the order 5, 6, 7, 8, 9, each refused also for the next: of kind, size, property count, room, parent, row and depth
 unfoldable verdict : ℕ → ℕ → ℕ → ℕ → Parent → ℕ → ℕ → ℕ
-unfolding lines lineIn lineOf isKnown standsAtTop standsUnder mayStand nodeRefusal
+unfolding parentsTable parentsIn parentsOf isKnown standsAtTop standsUnder mayStand nodeRefusal
 verdict kind size count room parent row depth =
     nodeRefusal (record { kind = kind; size = size; low = 0; high = 0; properties = count; children = 0 }) room parent row depth
 

@@ -9,7 +9,7 @@ use mathlib.Core.List.{List, [], _∷_, _++_}
 use lib.ListN.{length, replicate}
 use Rattle.le.specs.Le.{val, numberAt, le}
 use Rattle.names.specs.Names.{bytesOk}
-use Rattle.kinds.specs.Kinds.{root, model, mesh, lines, lineIn, lineOf, isKnown}
+use Rattle.kinds.specs.Kinds.{root, model, mesh, parentsTable, parentsIn, parentsOf, isKnown}
 use Rattle.props.specs.Step.{headerRefusal, dataRefusal, toZero, dataOf, nameAt, stepAt}
 use Rattle.body.specs.Body.{pass, properties, exactly}
 use Rattle.table.specs.declared.Row.{Row}
@@ -23,7 +23,7 @@ use Rattle.writer.specs.Forest.{nodesUnder, forestOf, laidOut}
 use Rattle.writer.specs.Writable.{rowOf, Ancestor, nearest, higher, Near, MayHold, rowsNaming}
 
 unfoldable write : (plan s : List ℕ) (room : ℕ) → Written
-unfolding val numberAt le bytesOk lines lineIn lineOf isKnown headerRefusal dataRefusal toZero dataOf nameAt stepAt pass properties exactly hasRow rowAt rowsAt header fileHeader upFrom pathOf isOn rightParent naming rowRefusal judgedFrom judged under sizes nodesBytes roots fileBytes emission writtenOf
+unfolding val numberAt le bytesOk parentsTable parentsIn parentsOf isKnown headerRefusal dataRefusal toZero dataOf nameAt stepAt pass properties exactly hasRow rowAt rowsAt header fileHeader upFrom pathOf isOn rightParent naming rowRefusal judgedFrom judged under sizes nodesBytes roots fileBytes emission writtenOf
 write plan s room = writtenOf plan s 0 room
 
 -- E10's rows, and its private node's body anywhere
@@ -47,12 +47,12 @@ answers = (refl, refl, refl, refl, refl, refl, refl)
 output : (outputAfter (rootRow 0) [] 0 (replicate 42 8) ≡ 0x63 ∷ 0x61 ∷ 0x73 ∷ 0x74 ∷ 1 ∷ 0 ∷ 0 ∷ 0 ∷ 1 ∷ 0 ∷ 0 ∷ 0 ∷ 0 ∷ 0 ∷ 0 ∷ 0 ∷
     0x72 ∷ 0x6F ∷ 0x6F ∷ 0x74 ∷ 24 ∷ 0 ∷ 0 ∷ 0 ∷ 0 ∷ 0 ∷ 0 ∷ 0 ∷ 0 ∷ 0 ∷ 0 ∷ 0 ∷ 0 ∷ 0 ∷ 0 ∷ 0 ∷ 0 ∷ 0 ∷ 0 ∷ 0 ∷ 8 ∷ 8 ∷ [])
     × (outputAfter (rootRow 0) [] 0 (replicate 39 8) ≡ replicate 39 8)
-unfolding write leftBy outputAfter val numberAt le bytesOk lines lineIn lineOf isKnown headerRefusal dataRefusal toZero dataOf nameAt stepAt pass properties exactly hasRow rowAt rowsAt header fileHeader upFrom pathOf isOn rightParent naming rowRefusal judgedFrom judged under sizes nodesBytes roots fileBytes emission writtenOf
+unfolding write leftBy outputAfter val numberAt le bytesOk parentsTable parentsIn parentsOf isKnown headerRefusal dataRefusal toZero dataOf nameAt stepAt pass properties exactly hasRow rowAt rowsAt header fileHeader upFrom pathOf isOn rightParent naming rowRefusal judgedFrom judged under sizes nodesBytes roots fileBytes emission writtenOf
 output = (refl, refl)
 
 -- the forest of E10's rows; and where its bodies lie in the file
 forest : forestOf source (planRows (rootRow 1 ++ noteRow 1 4)) ≡ known root 0 0 [] (unknown 0x6E676177 0 0 0 (97 ∷ 98 ∷ 99 ∷ []) end) end
-unfolding hasRow rowAt rowsAt lines lineIn lineOf isKnown nodesUnder
+unfolding hasRow rowAt rowsAt parentsTable parentsIn parentsOf isKnown nodesUnder
 forest = refl
 
 places : laidOut 16 (planRows (rootRow 1 ++ noteRow 1 4)) ≡
@@ -70,13 +70,13 @@ five = planRows (rootRow 3 ++ (noteRow 0 0 ++ (model-row 0 ++ (model-row 1 ++ (m
 
 -- the Root may hold the Model: it is an ancestor of the previous row, which is unknown and may not
 held : MayHold five 2 0 × (MayHold five 2 1 → ⊥)
-unfolding hasRow rowAt rowsAt lines lineIn lineOf isKnown
+unfolding hasRow rowAt rowsAt parentsTable parentsIn parentsOf isKnown
 held = (record { earlier = omega arith; known = refl; near = inr (nearest {j = 1} (omega arith) refl) }, λ m. true≢false (sym (m .known)))
 
 -- the second Model, the previous row, may hold the Mesh, and so may the Root; the first one, which is not around the previous
 -- row, may not
 last : MayHold five 4 3 × MayHold five 4 0 × (MayHold five 4 2 → ⊥)
-unfolding hasRow rowAt rowsAt lines lineIn lineOf isKnown
+unfolding hasRow rowAt rowsAt parentsTable parentsIn parentsOf isKnown
 last = (
   record { earlier = omega arith; known = refl; near = inl refl },
   record { earlier = omega arith; known = refl; near = inr (nearest {j = 3} (omega arith) refl) },
