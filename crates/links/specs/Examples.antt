@@ -3,7 +3,7 @@ use Prim.Native.Nat.{ℕ}
 use mathlib.Core.Path.{_≡_, refl}
 use mathlib.Core.List.{List, [], _∷_}
 use Rattle.le.specs.Le.{val, numberAt, le}
-use Rattle.names.specs.Names.{bytesOk, same, decimal, number, numbered}
+use Rattle.names.specs.Names.{bytesOk, same, readDigits, number, numbered}
 use Rattle.kinds.specs.Kinds.{mesh, material, bone, parentsIn, parentsOf, isKnown}
 use Rattle.kinds.specs.Kinds.{parentsTable}
 use Rattle.table.specs.declared.Row.{Row}
@@ -16,7 +16,7 @@ use Rattle.links.specs.declared.Linked.{Linked}
 use Rattle.links.specs.Links.{refuse, reached, linksAt, linksFrom, resolved, linked}
 
 unfoldable resolve : List ℕ → List Row → Linked
-unfolding val numberAt le bytesOk same decimal number numbered parentsTable parentsIn parentsOf isKnown headerRefusal dataRefusal toZero dataOf nameAt stepAt pass properties letters lines unpacked lists ruleIn ofKind linesOf reached linksAt linksFrom resolved linked
+unfolding val numberAt le bytesOk same readDigits number numbered parentsTable parentsIn parentsOf isKnown headerRefusal dataRefusal toZero dataOf nameAt stepAt pass properties letters lines unpacked lists ruleIn ofKind linesOf reached linksAt linksFrom resolved linked
 resolve s rows = linked s rows
 
 abbrev row : (kind low high end properties : ℕ) → Row

@@ -1,4 +1,4 @@
--- Laws of texts that are put one behind the other, and of a row's parent.
+-- Laws of texts that are put one after the other, and of a row's parent.
 use Prim.Native.Nat.{ℕ, _+_, _≤_}
 use native.Mathlib.Omega.{arith}
 use mathlib.Core.Path.{_≡_, refl, ap, sym, _∙_, subst}
@@ -7,7 +7,7 @@ use lib.ListN.{length, length-append}
 use lib.Seq.{sets, length-sets}
 use borrow.Author.Tests.{eq-eqb, ne-eqb}
 use Rattle.base.proofs.Stores.{sets-append}
-use Rattle.text.specs.Text.{behind, written, decimal}
+use Rattle.text.specs.Text.{placeAfter, written, decimal}
 use Rattle.text.proofs.Laws.{behind-put, written-put}
 use Rattle.table.specs.Table.{noParent}
 use Rattle.base.specs.Letters.{letters}
@@ -18,10 +18,10 @@ module _ (out : List ℕ) (at : ℕ) where
   pub front : (t u : List ℕ) → at + length (t ++ u) ≤ length out → at + length t ≤ length out
   front t u h = omega (arith, length-append t u)
 
-  pub puts-first : (t : List ℕ) {r : ℕ} {last : List ℕ} → at + length t ≤ length out → (r ≡ behind out at t) × (last ≡ written out at t) → Puts out at t r last
+  pub puts-first : (t : List ℕ) {r : ℕ} {last : List ℕ} → at + length t ≤ length out → (r ≡ placeAfter out at t) × (last ≡ written out at t) → Puts out at t r last
   puts-first t h p = record { place = p .0 ∙ behind-put out at t h; stored = p .1 ∙ written-put out at t h }
 
-  -- what has room behind a text that was put
+  -- what has room after a text that was put
   pub room-behind : (t u : List ℕ) {r : ℕ} {l : List ℕ} → at + length (t ++ u) ≤ length out → Puts out at t r l → r + length u ≤ length l
   room-behind t u {r} {l} h p = omega (arith, length-append t u, ap length (p .stored) ∙ length-sets out at t, p .place)
 
@@ -33,13 +33,13 @@ module _ (out : List ℕ) (at : ℕ) where
         stored = same ∙ sym (sets-append out at t u);
       }
 
--- a text put behind another
+-- a text put after another
 pub puts-then : (out : List ℕ) (at : ℕ) (t u : List ℕ) {r r' : ℕ} {l l' : List ℕ} → at + length (t ++ u) ≤ length out → Puts out at t r l
-    → (r' ≡ behind l r u) × (l' ≡ written l r u) → Puts out at (t ++ u) r' l'
+    → (r' ≡ placeAfter l r u) × (l' ≡ written l r u) → Puts out at (t ++ u) r' l'
 puts-then out at t u {r} {r'} {l} {l'} h p q = puts-both out at t u p (puts-first l r u (room-behind out at t u h p) q)
 
 -- a text that has room and was put is what the buffer holds
-pub puts-written : (out : List ℕ) (at : ℕ) (t : List ℕ) {r : ℕ} {last : List ℕ} → at + length t ≤ length out → Puts out at t r last → (r ≡ behind out at t) × (last ≡ written out at t)
+pub puts-written : (out : List ℕ) (at : ℕ) (t : List ℕ) {r : ℕ} {last : List ℕ} → at + length t ≤ length out → Puts out at t r last → (r ≡ placeAfter out at t) × (last ≡ written out at t)
 puts-written out at t h p = (p .place ∙ sym (behind-put out at t h), p .stored ∙ sym (written-put out at t h))
 
 -- of a whole text what comes before the later part was put

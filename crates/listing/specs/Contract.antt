@@ -4,13 +4,13 @@ use mathlib.Core.Path.{_≡_}
 use mathlib.Core.List.{List}
 use lib.ListN.{length}
 use lib.Seq.{sets}
-use Rattle.text.specs.Text.{behind, written}
+use Rattle.text.specs.Text.{placeAfter, written}
 
--- a text that has room was put into a buffer at a place: the place behind it, and what the buffer holds then
+-- a text that has room was put into a buffer at a place: the place after it, and what the buffer holds then
 pub record Puts (out : List ℕ) (at : ℕ) (text : List ℕ) (next : ℕ) (last : List ℕ) : Type 0 where
   pub place : next ≡ at + length text
   pub stored : last ≡ sets out at text
 
 -- a text was put at the start of a buffer where it has room
 abbrev pub PutsWhole : (out text : List ℕ) (next : ℕ) (last : List ℕ) → Type 0
-PutsWhole out text next last = (next ≡ behind out 0 text) × (last ≡ written out 0 text)
+PutsWhole out text next last = (next ≡ placeAfter out 0 text) × (last ≡ written out 0 text)

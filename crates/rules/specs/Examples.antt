@@ -7,7 +7,7 @@ use mathlib.Core.List.{List, [], _∷_, _++_, map}
 use lib.Dec.{eqb}
 use lib.ListN.{length}
 use Rattle.le.specs.Le.{val, le, numberAt}
-use Rattle.names.specs.Names.{same, decimal, number}
+use Rattle.names.specs.Names.{same, readDigits, number}
 use Rattle.names.specs.Names.{numbered as numberIn}
 use Rattle.kinds.specs.Kinds.{root, model, mesh, curve, material, file}
 use Rattle.rules.specs.declared.Line.{Line}
@@ -43,7 +43,7 @@ unfolding lines
 linking = refl
 
 unfoldable found : ℕ → String → Line
-unfolding val numberAt le letters unpacked lines lists same numberIn decimal number ruleIn ofKind linesOf
+unfolding val numberAt le letters unpacked lines lists same numberIn readDigits number ruleIn ofKind linesOf
 found kind name = ruleOf kind (letters name)
 
 abbrev colours : Line

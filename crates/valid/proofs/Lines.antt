@@ -7,7 +7,7 @@ use mathlib.Core.List.{List, [], _∷_}
 use lib.Dec.{eqb}
 use borrow.Author.Tests.{eqb-true}
 use Rattle.le.specs.Le.{val, le, numberAt}
-use Rattle.names.specs.Names.{same, decimal, number, bytesOk}
+use Rattle.names.specs.Names.{same, readDigits, number, bytesOk}
 use Rattle.names.specs.Names.{numbered as numberIn}
 use Rattle.kinds.specs.Kinds.{mesh, blendShape, curve}
 use Rattle.rules.specs.declared.Line.{Line}
@@ -81,11 +81,11 @@ module _ (kind : ℕ) (name : List ℕ) where
 
 -- ---- two lines that others are held against
 pub weights-each : (ruleOf mesh (letters "mi") .types ≡ N) × (ruleOf mesh (letters "mi") .array ≡ single)
-unfolding val numberAt le letters unpacked lines lists same numberIn decimal number ruleIn ofKind linesOf
+unfolding val numberAt le letters unpacked lines lists same numberIn readDigits number ruleIn ofKind linesOf
 weights-each = (refl, refl)
 
 pub key-text : ruleOf curve (letters "kp") .types ≡ string
-unfolding val numberAt le letters unpacked lines lists same numberIn decimal number ruleIn ofKind linesOf
+unfolding val numberAt le letters unpacked lines lists same numberIn readDigits number ruleIn ofKind linesOf
 key-text = refl
 
 -- ---- no string of the sets has a zero

@@ -8,7 +8,7 @@ use lib.Dec.{eqb}
 use borrow.Author.Tests.{eq-eqb, eqb-true, eqb-false, not-true}
 use Rattle.le.specs.Le.{val, le, numberAt}
 use Rattle.base.proofs.Tests.{by-test}
-use Rattle.names.specs.Names.{same, decimal, number}
+use Rattle.names.specs.Names.{same, readDigits, number}
 use Rattle.names.specs.Names.{numbered as numberIn}
 use Rattle.rules.specs.declared.Line.{Line}
 use Rattle.base.specs.Letters.{letters}
@@ -81,7 +81,7 @@ allClear [] = true
 allClear (l ∷ ls) = all (clear l) ls && allClear ls
 
 table-clear : allClear lines ≡ true
-unfolding allClear all meet startAlike numberIn number decimal same letters lines unpacked le val numberAt
+unfolding allClear all meet startAlike numberIn number readDigits same letters lines unpacked le val numberAt
 table-clear = refl
 
 pub all-each : {A : Type 0} (test : A → Bool) (xs : List A) → all test xs ≡ true → Each (λ x. test x ≡ true) xs

@@ -11,7 +11,7 @@ use lib.ListN.{drop}
 use borrow.Author.Tests.{eq-eqb, ne-eqb, eqb-true, eqb-false}
 use Rattle.le.specs.Le.{val, le, numberAt}
 use Rattle.base.proofs.Tests.{by-test}
-use Rattle.names.specs.Names.{same, decimal, number}
+use Rattle.names.specs.Names.{same, readDigits, number}
 use Rattle.names.specs.Names.{numbered as numberIn}
 use Rattle.names.proofs.Laws.{same-eq, same-refl}
 use Rattle.kinds.specs.Kinds.{mesh}
@@ -74,7 +74,7 @@ held-f kind name =
     (each-map (λ l t k h e. one-f l name t h e) lines (all-each isF lines lines-f))
 
 f-held : ruleOf mesh f .held ≡ faces .held
-unfolding val numberAt le letters unpacked lines lists same numberIn decimal number ruleIn ofKind linesOf
+unfolding val numberAt le letters unpacked lines lists same numberIn readDigits number ruleIn ofKind linesOf
 f-held = refl
 
 -- ---- a node's faces

@@ -6,8 +6,8 @@ use Prim.Native.String.{String}
 use mathlib.Core.List.{List, [], _∷_, _++_, map, flatMap}
 use lib.ListN.{length, take, drop, replicate}
 use Rattle.le.specs.Le.{val, numberAt, le}
-use Rattle.names.specs.Names.{bytesOk, same, decimal, number, numbered}
-use Rattle.text.specs.Text.{glyph, digits, sizeIn}
+use Rattle.names.specs.Names.{bytesOk, same, readDigits, number, numbered}
+use Rattle.text.specs.Text.{glyph, digits, digitCount}
 use Rattle.kinds.specs.Kinds.{root, model, mesh, parentsIn, parentsOf, isKnown, standsAtTop, standsUnder, mayStand}
 use Rattle.kinds.specs.Kinds.{parentsTable}
 use Rattle.table.specs.declared.Row.{Row}
@@ -53,7 +53,7 @@ rowsBy (Accepted a) rows = rows
 rowsBy (Refused n place) rows = []
 
 unfoldable pub computed : List ℕ → Answer
-unfolding val numberAt bytesOk same decimal number numbered parentsTable parentsIn parentsOf isKnown standsAtTop standsUnder mayStand headerRefusal dataRefusal toZero dataOf nameAt stepAt pass properties firstNamed widthOf facesIn below degenerate letters lines unpacked texts lists ruleIn ofKind linesOf isText inSet isOneOf le lengthOf valueOf typesOf besideOf typed misses lacks faultOf valued nodeFaces nodeLinks verdictAt judgedAt judged reached linksAt linksFrom resolved linked headerAt nodeRefusal andThen children knownNode nodeBy node nodeAt childrenAt walkOf limited bonesUnder judgedWith ruled ownKnown ownUnknown checked verdict glyph digits sizeIn parentText wordsOf textOf nodeLines fileLines flatMap printed listingOf header fileHeader hasRoom readingOf under sizes nodesBytes roots fileBytes emitLeft withoutFrom newFile trimmedOf trimmedOutput
+unfolding val numberAt bytesOk same readDigits number numbered parentsTable parentsIn parentsOf isKnown standsAtTop standsUnder mayStand headerRefusal dataRefusal toZero dataOf nameAt stepAt pass properties firstNamed widthOf facesIn below degenerate letters lines unpacked texts lists ruleIn ofKind linesOf isText inSet isOneOf le lengthOf valueOf typesOf besideOf typed misses lacks faultOf valued nodeFaces nodeLinks verdictAt judgedAt judged reached linksAt linksFrom resolved linked headerAt nodeRefusal andThen children knownNode nodeBy node nodeAt childrenAt walkOf limited bonesUnder judgedWith ruled ownKnown ownUnknown checked verdict glyph digits digitCount parentText wordsOf textOf nodeLines fileLines flatMap printed listingOf header fileHeader hasRoom readingOf under sizes nodesBytes roots fileBytes emitLeft withoutFrom newFile trimmedOf trimmedOutput
 computed s = record {
   numbers = numbersOf (verdict s);
   rows = rowsBy (verdict s) (limited s .rows);

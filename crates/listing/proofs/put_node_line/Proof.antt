@@ -9,8 +9,8 @@ use Rattle.listing.specs.Listing.{parentText, labelled, textOf, newline,
 use Rattle.listing.specs.Contract.{Puts}
 use Rattle.listing.proofs.Laws.{front, puts-first, puts-then, puts-both, room-behind}
 use borrow.Author.Needs.{needs}
-use Rattle.listing.proofs.put_node.Statement.{statement}
-use Rattle.listing.proofs.put_node.Tie as tie
+use Rattle.listing.proofs.put_node_line.Statement.{statement}
+use Rattle.listing.proofs.put_node_line.Tie as tie
 
 module _ (c : tie.After-put-hexadecimal) where
   abbrev start : tie.Start
@@ -91,8 +91,8 @@ returns c =
     let four = puts-then (out h) (at h) (t1 h ++ t2 h ++ t3 h) (t4 h) (room4 h) three (rw own at (own-put .put-decimal2 .ensures)) in
     puts-then (out h) (at h) (t1 h ++ t2 h ++ t3 h ++ t4 h) newline (start h .pre) four (c .before .before .put .ensures)
 
-pub put-node-spec : {M : Type 1} → statement M
-put-node-spec =
+pub put-node-line-spec : {M : Type 1} → statement M
+put-node-line-spec =
     tie.close
     (tie.spec
     own-bytes-requires

@@ -1,16 +1,16 @@
--- `names::decimal`: the value so far and the digits from i on give what all give, and the value is below 10 ^ i.
+-- `names::read_digits`: the value so far and the digits from i on give what all give, and the value is below 10 ^ i.
 use Prim.Native.Nat.{_≤_, _<_, _-_, _^_}
 use native.Mathlib.Omega.{arith}
 use mathlib.Core.Path.{_≡_, refl, sym, _∙_}
 use lib.ListN.{length, drop}
 use borrow.Author.Needs.{needs}
-use Rattle.names.specs.Names.{decimal}
+use Rattle.names.specs.Names.{readDigits}
 use Rattle.names.proofs.Laws.{worth, worth-three, decimal-low, decimal-high, decimal-passed, decimal-ended}
-use Rattle.names.proofs.decimal.Statement.{statement}
-use Rattle.names.proofs.decimal.Tie as tie
+use Rattle.names.proofs.read_digits.Statement.{statement}
+use Rattle.names.proofs.read_digits.Tie as tie
 
 abbrev Inv-loop : tie.InvT-loop
-Inv-loop digits value₀ i₀ value i = (i ≤ length digits) × (value < 10 ^ i) × (decimal value (drop i digits) ≡ decimal 0 digits)
+Inv-loop digits value₀ i₀ value i = (i ≤ length digits) × (value < 10 ^ i) × (readDigits value (drop i digits) ≡ readDigits 0 digits)
 
 abbrev μ-loop : tie.MeasureT-loop
 μ-loop digits value₀ i₀ value i = length digits - i
@@ -60,8 +60,8 @@ returns-3 c =
     let l = c .before in
     sym (decimal-ended (l .before .before .args .digits .now) (l .loop .i) (l .loop .value) (omega arith)) ∙ l .loop .inv .2
 
-pub decimal-spec : {M : Type 1} → statement M
-decimal-spec =
+pub read-digits-spec : {M : Type 1} → statement M
+read-digits-spec =
     tie.close
     (tie.spec
     Inv-loop

@@ -5,13 +5,13 @@ use mathlib.Core.Path.{_≡_, refl, ap, _∙_}
 use mathlib.Core.List.{List, _++_}
 use lib.ListN.{length}
 use lib.Seq.{length-sets}
-use Rattle.listing.specs.declared.Line.the-variants.{Node}
+use Rattle.listing.specs.declared.TextLine.the-variants.{Node}
 use Rattle.listing.specs.Listing.{textOf}
 use Rattle.listing.proofs.Laws.{Passed, passed-none, passed-room, passed-more, passed-all}
 use Rattle.listing.proofs.Whole.{nodesFrom, nodes-all, nodes-more, nodes-none}
 use borrow.Author.Needs.{needs}
-use Rattle.listing.proofs.put_nodes.Statement.{statement}
-use Rattle.listing.proofs.put_nodes.Tie as tie
+use Rattle.listing.proofs.put_node_lines.Statement.{statement}
+use Rattle.listing.proofs.put_node_lines.Tie as tie
 
 abbrev Inv-loop : tie.InvT-loop
 Inv-loop out₀ at table nodes next₀ i₀ out next i = (i ≤ nodes) × (length out ≡ length out₀) × Passed out₀ at (nodesFrom table nodes 0) (nodesFrom table nodes i) next out
@@ -78,8 +78,8 @@ returns c =
     let none = nodes-none (a .table .now) (a .nodes) (l .loop .i) (c .loop-test .left) in
     rw (← nodes-all (a .table .now) (a .nodes)) (passed-all (a .out .now) (a .at) (nodesFrom (a .table .now) (a .nodes) 0) (l .loop .inv .2) none)
 
-pub put-nodes-spec : {M : Type 1} → statement M
-put-nodes-spec =
+pub put-node-lines-spec : {M : Type 1} → statement M
+put-node-lines-spec =
     tie.close
     (tie.spec
     Inv-loop
