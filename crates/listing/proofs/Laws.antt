@@ -12,7 +12,7 @@ use Rattle.text.proofs.Laws.{behind-put, written-put}
 use Rattle.table.specs.Table.{noParent}
 use Rattle.base.specs.Letters.{letters}
 use Rattle.listing.specs.Listing.{parentText}
-use Rattle.listing.specs.Contract.{Puts}
+use Rattle.listing.specs.Private.{Puts}
 
 module _ (out : List ℕ) (at : ℕ) where
   pub front : (t u : List ℕ) → at + length (t ++ u) ≤ length out → at + length t ≤ length out

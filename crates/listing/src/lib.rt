@@ -10,7 +10,7 @@ ghost use Rattle.base.specs.Letters.{letters};
 ghost use Rattle.reader.specs.declared.Reading.the-variants.{Accepted};
 ghost use Rattle.reader.specs.Contract.{Small};
 ghost use Rattle.listing.specs.declared.TextLine.the-variants.{Summary, Node, Total};
-ghost use Rattle.listing.specs.Contract.{Puts, PutsWhole};
+ghost use Rattle.listing.specs.Private.{Puts, PutsWhole};
 ghost use Rattle.listing.specs.Listing.{parentText, newline, textOf, nodeLines, footLines, fileLines, printed, listingOf};
 
 // A line of the listing.

@@ -28,7 +28,7 @@ use Rattle.reader.proofs.Whole.{short-table}
 use Rattle.emit.specs.declared.Written.{Written}
 use Rattle.emit.specs.Emission.{refused, done, leftBy}
 use Rattle.removal.specs.Trimmer.{removalOf, newFile, trimmedOf, trimmedOutput, trimmedTable}
-use Rattle.removal.specs.Tally.{Tallied, refusal, byRow, fileLeft, tallyStep}
+use Rattle.removal.specs.Tally.{Tallied, refusedTally, byRow, fileLeft, tallyStep}
 use Rattle.removal.specs.RemovalSequence.{Trimming, answerTo, fileFrom, fedBy, IsRead, Removable, Goes, Leaves}
 use Rattle.removal.proofs.Marked.{Marked, bare, kept, marks}
 use Rattle.removal.proofs.Marking.{At, stands-at, Stands, numbered-at, numbered-none, unmarked-marks, at-left, kind-at, kind-left, mark, bare-mark, marks-mark, own-at, length-mark}
@@ -116,7 +116,7 @@ module _ (flags : ℕ) (m : Marked) (v : Valid flags (bare m)) (c : Trimming) wh
   length-left = length-rows (kept m) noParent 0 16
 
   -- a refusal of both
-  refuse : (n : ℕ) → answerTo s c ≡ refused (suc n) 0 → told ≡ refusal (suc n) (marks m) → (Removable s rows c → ⊥) → Step flags m c
+  refuse : (n : ℕ) → answerTo s c ≡ refused (suc n) 0 → told ≡ refusedTally (suc n) (marks m) → (Removable s rows c → ⊥) → Step flags m c
   refuse n a t stays = record {
     after = m;
     same = refl;

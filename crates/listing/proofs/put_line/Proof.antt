@@ -5,7 +5,7 @@ use Prim.Native.Nat.{ℕ}
 use Rattle.base.specs.Letters.{letters}
 use Rattle.listing.specs.declared.TextLine.{TextLine}
 use Rattle.listing.specs.Listing.{textOf, newline, wordsOf}
-use Rattle.listing.specs.Contract.{Puts}
+use Rattle.listing.specs.Private.{Puts}
 use Rattle.listing.proofs.Laws.{puts-first}
 use borrow.Author.Needs.{needs}
 use Rattle.listing.proofs.put_line.Statement.{statement}

@@ -6,7 +6,7 @@ use Rattle.text.specs.Text.{hexadecimal}
 use Rattle.base.specs.Letters.{letters}
 use Rattle.format.specs.Rows.{ownBytes}
 use Rattle.listing.specs.Listing.{parentText, labelled, textOf, newline, wordsOf}
-use Rattle.listing.specs.Contract.{Puts}
+use Rattle.listing.specs.Private.{Puts}
 use Rattle.listing.proofs.Laws.{front, puts-first, puts-then, puts-both, room-behind}
 use borrow.Author.Needs.{needs}
 use Rattle.listing.proofs.put_node_line.Statement.{statement}
