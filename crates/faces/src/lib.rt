@@ -89,7 +89,7 @@ fn past(k: u64) -> Scanned
     }
 }
 
-// Passes over so many faces once.
+// Passes over `count` faces once.
 pub fn scan(bytes: &[u8], code: u16, count: u32, vertices: u32) -> Scanned
     ensures result { λ r. ⌜ r ≡ scanOf vertices (facesIn (widthOf code) count (now (bytes .entry))) ⌝ }
     ensures numbers { λ r. ⌜ scanNumbers r ≡ scanNumbers (scanOf vertices (facesIn (widthOf code) count (now (bytes .entry)))) ⌝ }

@@ -24,7 +24,7 @@ use Rattle.text.specs.Text.{decimal, hexadecimal}
 unfoldable pub parentText : ℕ → List ℕ
 parentText p = cond (eqb p noParent) (letters "-") (decimal p)
 
--- a label, and behind it a number in decimal
+-- a label, and after it a number in decimal
 abbrev pub labelled : String → ℕ → List ℕ
 labelled label n = letters label ++ decimal n
 
@@ -54,7 +54,7 @@ unfoldable pub nodeLines : ℕ → List Row → List TextLine
 nodeLines i [] = []
 nodeLines i (r ∷ rs) = Node i r ∷ nodeLines (suc i) rs
 
--- the lines behind them
+-- the lines after them
 abbrev pub footLines : FaceCount → (degenerate total : ℕ) → List TextLine
 footLines faces degenerate total = FileHeader ∷ Faces faces degenerate ∷ Total total ∷ []
 
@@ -62,7 +62,7 @@ footLines faces degenerate total = FileHeader ∷ Faces faces degenerate ∷ Tot
 abbrev pub totalOf : Account → ℕ
 totalOf a = 16 + (a .known .0 + a .unknown .0)
 
--- the lines of a file of so many bytes, by its reading and its rows
+-- the lines of a file of this length, by its reading and its rows
 unfoldable pub fileLines : (bytes : ℕ) → Reading → List Row → List TextLine
 fileLines bytes (Accepted a) rows =
     (Summary (a .flags) (a .nodes) bytes ∷ nodeLines 0 rows) ++ footLines (a .faces) (a .degenerate) (totalOf a)

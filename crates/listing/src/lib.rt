@@ -187,7 +187,7 @@ pub fn put(out: &mut [u8], line: TextLine) -> usize
 
 // ---- the whole
 
-// How many bytes the lines of so many rows have.
+// How many bytes the lines of the first `nodes` rows have.
 fn nodes_size(table: &[u32], nodes: u32) -> usize
     ensures { λ r. ⌜ (r ≡ length (printed (nodeLines 0 (rowsAt (now (table .entry)) 0 nodes)))) × (r ≤ 92 * nodes) ⌝ }
 {
@@ -201,7 +201,7 @@ fn nodes_size(table: &[u32], nodes: u32) -> usize
     sum
 }
 
-// Puts the lines of so many rows, which have room, and answers the place after them.
+// Puts the lines of the first `nodes` rows, which have room, and answers the place after them.
 fn put_node_lines(out: &mut [u8], at: usize, table: &[u32], nodes: u32) -> usize
     requires { ⌜ at + length (printed (nodeLines 0 (rowsAt (now table) 0 nodes))) ≤ length (now out) ⌝ }
     ensures { λ r. ⌜ Puts (now (out .entry)) at (printed (nodeLines 0 (rowsAt (now (table .entry)) 0 nodes))) r (now (out .exit)) ⌝ }
@@ -247,7 +247,7 @@ fn put_foot(
     put_line(out, last, TextLine::Total(total))
 }
 
-// Puts the listing of an accepted file of so many bytes, where there is room for all of it.
+// Puts the listing of an accepted file of this length, where there is room for all of it.
 fn accepted(out: &mut [u8], bytes: u64, table: &[u32], a: reader::Account) -> usize
     requires { ⌜ Small (Accepted a) ⌝ }
     ensures { λ r. ⌜ PutsWhole (now (out .entry))

@@ -4,7 +4,7 @@ ghost use Prim.Native.Nat.{_≤_};
 ghost use Rattle.names.specs.Names.{sizeOk, byteOk, bytesOk, same, readDigits, number, numbered, numeralNumbers};
 ghost use lib.ListN.{length};
 
-// Whether a name may have so many bytes: 1 to 32.
+// Whether a name may have this size: 1 to 32 bytes.
 pub fn size_ok(size: u16) -> bool
     ensures { λ r. ⌜ r ≡ sizeOk size ⌝ }
 {

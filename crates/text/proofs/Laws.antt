@@ -41,9 +41,9 @@ module _ (out : List ℕ) (at : ℕ) (t : List ℕ) where
       (λ e. put-outside (leb-false at (length out) e))
 
   -- the place after lies in the buffer
-  pub behind-within : at ≤ length out → {r : ℕ} {last : List ℕ} → (r ≡ placeAfter out at t) × (last ≡ written out at t) → r ≤ length last
+  pub after-within : at ≤ length out → {r : ℕ} {last : List ℕ} → (r ≡ placeAfter out at t) × (last ≡ written out at t) → r ≤ length last
   unfolding placeAfter written
-  behind-within h p =
+  after-within h p =
       let room = length out - at in
       let same = ap length (p .1) ∙ length-sets out at (fitted t room) in
       by-test (leb (length t) room)
@@ -55,9 +55,9 @@ module _ (out : List ℕ) (at : ℕ) (t : List ℕ) where
     room : fitted t (length out - at) ≡ t
     room = fits t (length out - at) (omega arith)
 
-    pub behind-put : placeAfter out at t ≡ at + length t
+    pub after-put : placeAfter out at t ≡ at + length t
     unfolding placeAfter
-    behind-put = rw room
+    after-put = rw room
 
     pub written-put : written out at t ≡ sets out at t
     unfolding written
@@ -155,6 +155,6 @@ pub label-digits : (out : List ℕ) (at : ℕ) (label number : List ℕ) (k : �
 label-digits out at label number k {first} {both} e h p q =
     let long : length (label ++ number) ≡ length label + k = length-append label number ∙ ap (λ n. length label + n) e in
     let room : at + length (label ++ number) ≤ length out = omega arith in (
-      omega (arith, behind-put out at (label ++ number) room),
+      omega (arith, after-put out at (label ++ number) room),
       rw (q, p) (sym (written-put out at (label ++ number) room ∙ sets-append out at label number)),
     )

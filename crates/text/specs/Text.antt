@@ -27,7 +27,7 @@ unfoldable pub digits : (base k n : ℕ) → List ℕ
 digits base zero n = []
 digits base (suc k) n = digits base k (n / base) ++ (glyph (n % base) ∷ [])
 
--- how many digits a number has in decimal, of at most so many
+-- how many digits a number has in decimal, of at most `most`
 unfoldable pub digitCount : (most n : ℕ) → ℕ
 digitCount zero n = 0
 digitCount (suc m) n = cond (ltb n 10) 1 (suc (digitCount m (n / 10)))

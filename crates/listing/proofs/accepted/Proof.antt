@@ -1,4 +1,4 @@
--- `listing::accepted`: the head, the lines of the rows, and the foot, one behind the other.
+-- `listing::accepted`: the head, the lines of the rows, and the foot, one after the other.
 use native.Mathlib.Omega.{arith}
 use mathlib.Core.Path.{_≡_, refl, sym}
 use mathlib.Core.List.{List, [], _++_, append-nil}

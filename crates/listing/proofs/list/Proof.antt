@@ -41,7 +41,7 @@ enum-known-reading c = search needs
 slice-aggregate-accepted : tie.Need-slice-aggregate-accepted
 slice-aggregate-accepted c = search needs
 
--- behind the reading: the input's bytes, and the table's room
+-- after the reading: the input's bytes, and the table's room
 module _ (c : tie.After-read) where
   abbrev start : tie.Start
   start = c .before .before .before .before .before

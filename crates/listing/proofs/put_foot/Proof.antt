@@ -1,4 +1,4 @@
--- `listing::put_foot`: three lines, one behind the other.
+-- `listing::put_foot`: three lines, one after the other.
 use mathlib.Core.Path.{_≡_, refl}
 use mathlib.Core.List.{List, [], _++_}
 use Prim.Native.Nat.{ℕ}

@@ -1,4 +1,4 @@
--- `listing::put_node`: the parts of the line, one behind the other.
+-- `listing::put_node_line`: the parts of the line, one after the other.
 use mathlib.Core.List.{List, _++_}
 use Prim.Native.Nat.{ℕ, _+_, _≤_}
 use lib.ListN.{length}
@@ -7,7 +7,7 @@ use Rattle.base.specs.Letters.{letters}
 use Rattle.format.specs.Rows.{ownBytes}
 use Rattle.listing.specs.Listing.{parentText, labelled, textOf, newline, wordsOf}
 use Rattle.listing.specs.Private.{Puts}
-use Rattle.listing.proofs.Laws.{front, puts-first, puts-then, puts-both, room-behind}
+use Rattle.listing.proofs.Laws.{front, puts-first, puts-then, puts-both, room-after}
 use borrow.Author.Needs.{needs}
 use Rattle.listing.proofs.put_node_line.Statement.{statement}
 use Rattle.listing.proofs.put_node_line.Tie as tie
@@ -63,7 +63,7 @@ put-hexadecimal-requires : tie.Need-put-hexadecimal-requires
 put-hexadecimal-requires c κs = search needs
 
 put-parent-requires : tie.Need-put-parent-requires
-put-parent-requires c κs = let h = c .before .before .before in room-behind (out h) (at h) (t1 h ++ t2 h) (t3 h) (room3 h) (first-two h)
+put-parent-requires c κs = let h = c .before .before .before in room-after (out h) (at h) (t1 h ++ t2 h) (t3 h) (room3 h) (first-two h)
 
 slice-aggregate-put-decimal-2 : tie.Need-slice-aggregate-put-decimal-2
 slice-aggregate-put-decimal-2 c = search needs

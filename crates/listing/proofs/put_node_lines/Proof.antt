@@ -1,4 +1,4 @@
--- `listing::put_nodes`: the lines of the earlier rows were put.
+-- `listing::put_node_lines`: the lines of the earlier rows were put.
 use Prim.Native.Nat.{ℕ, _+_, _-_, _≤_}
 use native.Mathlib.Omega.{arith}
 use mathlib.Core.Path.{_≡_, refl, ap, _∙_}
