@@ -7,7 +7,7 @@ use lib.ListN.{length, length-append}
 use lib.Seq.{sets, length-sets}
 use borrow.Author.Tests.{eq-eqb, ne-eqb}
 use Rattle.base.proofs.Stores.{sets-append}
-use Rattle.text.specs.Text.{placeAfter, written, decimal}
+use Rattle.text.specs.Text.{placeAfter, withText, decimal}
 use Rattle.text.proofs.Laws.{after-put, written-put}
 use Rattle.table.specs.Table.{noParent}
 use Rattle.base.specs.Letters.{letters}
@@ -18,7 +18,7 @@ module _ (out : List ℕ) (at : ℕ) where
   pub front : (t u : List ℕ) → at + length (t ++ u) ≤ length out → at + length t ≤ length out
   front t u h = omega (arith, length-append t u)
 
-  pub puts-first : (t : List ℕ) {r : ℕ} {last : List ℕ} → at + length t ≤ length out → (r ≡ placeAfter out at t) × (last ≡ written out at t) → Puts out at t r last
+  pub puts-first : (t : List ℕ) {r : ℕ} {last : List ℕ} → at + length t ≤ length out → (r ≡ placeAfter out at t) × (last ≡ withText out at t) → Puts out at t r last
   puts-first t h p = record { place = p .0 ∙ after-put out at t h; stored = p .1 ∙ written-put out at t h }
 
   -- what has room after a text that was put
@@ -35,11 +35,11 @@ module _ (out : List ℕ) (at : ℕ) where
 
 -- a text put after another
 pub puts-then : (out : List ℕ) (at : ℕ) (t u : List ℕ) {r r' : ℕ} {l l' : List ℕ} → at + length (t ++ u) ≤ length out → Puts out at t r l
-    → (r' ≡ placeAfter l r u) × (l' ≡ written l r u) → Puts out at (t ++ u) r' l'
+    → (r' ≡ placeAfter l r u) × (l' ≡ withText l r u) → Puts out at (t ++ u) r' l'
 puts-then out at t u {r} {r'} {l} {l'} h p q = puts-both out at t u p (puts-first l r u (room-after out at t u h p) q)
 
 -- a text that has room and was put is what the buffer holds
-pub puts-written : (out : List ℕ) (at : ℕ) (t : List ℕ) {r : ℕ} {last : List ℕ} → at + length t ≤ length out → Puts out at t r last → (r ≡ placeAfter out at t) × (last ≡ written out at t)
+pub puts-written : (out : List ℕ) (at : ℕ) (t : List ℕ) {r : ℕ} {last : List ℕ} → at + length t ≤ length out → Puts out at t r last → (r ≡ placeAfter out at t) × (last ≡ withText out at t)
 puts-written out at t h p = (p .place ∙ sym (after-put out at t h), p .stored ∙ sym (written-put out at t h))
 
 -- of a whole text what comes before the later part was put

@@ -4,7 +4,7 @@ use mathlib.Core.Path.{_≡_}
 use mathlib.Core.List.{List}
 use lib.ListN.{length}
 use lib.Seq.{sets}
-use Rattle.text.specs.Text.{placeAfter, written}
+use Rattle.text.specs.Text.{placeAfter, withText}
 
 -- a text that has room was put into a buffer at a place: the place after it, and what the buffer holds then
 pub record Puts (out : List ℕ) (at : ℕ) (text : List ℕ) (next : ℕ) (last : List ℕ) : Type 0 where
@@ -13,4 +13,4 @@ pub record Puts (out : List ℕ) (at : ℕ) (text : List ℕ) (next : ℕ) (last
 
 -- a text was put at the start of a buffer where it has room
 abbrev pub PutsWhole : (out text : List ℕ) (next : ℕ) (last : List ℕ) → Type 0
-PutsWhole out text next last = (next ≡ placeAfter out 0 text) × (last ≡ written out 0 text)
+PutsWhole out text next last = (next ≡ placeAfter out 0 text) × (last ≡ withText out 0 text)

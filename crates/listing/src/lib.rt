@@ -4,7 +4,7 @@ ghost use mathlib.Core.List.{_++_};
 ghost use Prim.Native.Nat.{_+_, _*_, _≤_, _<_};
 ghost use lib.ListN.{length, take};
 ghost use lib.Seq.{sets};
-ghost use Rattle.text.specs.Text.{placeAfter, written, decimal};
+ghost use Rattle.text.specs.Text.{placeAfter, withText, decimal};
 ghost use Rattle.table.specs.Table.{rowsAt};
 ghost use Rattle.base.specs.Letters.{letters};
 ghost use Rattle.reader.specs.declared.Reading.the-variants.{Accepted};
@@ -177,7 +177,7 @@ fn put_line(out: &mut [u8], at: usize, line: TextLine) -> usize
 // leaves the buffer.
 pub fn put(out: &mut [u8], line: TextLine) -> usize
     ensures length { λ r. ⌜ r ≡ placeAfter (now (out .entry)) 0 (textOf line) ⌝ }
-    ensures output { λ r. ⌜ now (out .exit) ≡ written (now (out .entry)) 0 (textOf line) ⌝ }
+    ensures output { λ r. ⌜ now (out .exit) ≡ withText (now (out .entry)) 0 (textOf line) ⌝ }
 {
     if out.len() < size(line) {
         return 0;
@@ -275,7 +275,7 @@ fn accepted(out: &mut [u8], bytes: u64, table: &[u32], a: reader::Account) -> us
 // answers 0 and leaves the buffer.
 pub fn list(input: &[u8], out: &mut [u8]) -> usize
     ensures length { λ r. ⌜ r ≡ placeAfter (now (out .entry)) 0 (listingOf (now (input .entry))) ⌝ }
-    ensures output { λ r. ⌜ now (out .exit) ≡ written (now (out .entry)) 0 (listingOf (now (input .entry))) ⌝ }
+    ensures output { λ r. ⌜ now (out .exit) ≡ withText (now (out .entry)) 0 (listingOf (now (input .entry))) ⌝ }
 {
     if 32768 < input.len() {
         return put(out, TextLine::TooLong);

@@ -10,7 +10,7 @@ use lib.Seq.{sets, length-sets, length-take-le, take-all, take-suc, drop-cons, t
 use borrow.Author.Tests.{lt-ltb, le-ltb, le-leb, lt-leb, leb-true, leb-false}
 use Rattle.base.proofs.Tests.{by-test}
 use Rattle.base.proofs.Stores.{sets-append, set-sets}
-use Rattle.text.specs.Text.{fitted, written, placeAfter, glyph, digits, digitCount, decimalSize}
+use Rattle.text.specs.Text.{fitted, withText, placeAfter, glyph, digits, digitCount, decimalSize}
 
 -- ---- room
 fits : (t : List ℕ) (room : ℕ) → length t ≤ room → fitted t room ≡ t
@@ -28,21 +28,21 @@ no-room (b ∷ t) = unfit (b ∷ t) 0 (omega arith)
 
 module _ (out : List ℕ) (at : ℕ) (t : List ℕ) where
   -- nothing is put, and the place stays
-  nothing : fitted t (length out - at) ≡ [] → (at ≡ placeAfter out at t) × (out ≡ written out at t)
-  unfolding placeAfter written
+  nothing : fitted t (length out - at) ≡ [] → (at ≡ placeAfter out at t) × (out ≡ withText out at t)
+  unfolding placeAfter withText
   nothing e = (rw e (sym (add-zero at)), rw e)
 
-  pub put-outside : length out < at → (at ≡ placeAfter out at t) × (out ≡ written out at t)
+  pub put-outside : length out < at → (at ≡ placeAfter out at t) × (out ≡ withText out at t)
   put-outside h = let e : length out - at ≡ 0 = omega arith in nothing (rw e (no-room t))
 
-  pub put-short : length out < at + length t → (at ≡ placeAfter out at t) × (out ≡ written out at t)
+  pub put-short : length out < at + length t → (at ≡ placeAfter out at t) × (out ≡ withText out at t)
   put-short h = by-test (leb at (length out))
       (λ e. nothing (unfit t (length out - at) (omega (arith, leb-true at (length out) e))))
       (λ e. put-outside (leb-false at (length out) e))
 
   -- the place after lies in the buffer
-  pub after-within : at ≤ length out → {r : ℕ} {last : List ℕ} → (r ≡ placeAfter out at t) × (last ≡ written out at t) → r ≤ length last
-  unfolding placeAfter written
+  pub after-within : at ≤ length out → {r : ℕ} {last : List ℕ} → (r ≡ placeAfter out at t) × (last ≡ withText out at t) → r ≤ length last
+  unfolding placeAfter withText
   after-within h p =
       let room = length out - at in
       let same = ap length (p .1) ∙ length-sets out at (fitted t room) in
@@ -59,8 +59,8 @@ module _ (out : List ℕ) (at : ℕ) (t : List ℕ) where
     unfolding placeAfter
     after-put = rw room
 
-    pub written-put : written out at t ≡ sets out at t
-    unfolding written
+    pub written-put : withText out at t ≡ sets out at t
+    unfolding withText
     written-put = rw room
 
 -- ---- how many digits a number has
@@ -151,7 +151,7 @@ stored-all d at base all out (suc l) rest h s = absurd (omega arith)
 -- ---- a label, and then digits
 pub label-digits : (out : List ℕ) (at : ℕ) (label number : List ℕ) (k : ℕ) {first both : List ℕ} → length number ≡ k → (at + length label) + k ≤ length out
     → first ≡ sets out at label → both ≡ sets first (at + length label) number
-    → ((at + length label) + k ≡ placeAfter out at (label ++ number)) × (both ≡ written out at (label ++ number))
+    → ((at + length label) + k ≡ placeAfter out at (label ++ number)) × (both ≡ withText out at (label ++ number))
 label-digits out at label number k {first} {both} e h p q =
     let long : length (label ++ number) ≡ length label + k = length-append label number ∙ ap (λ n. length label + n) e in
     let room : at + length (label ++ number) ≤ length out = omega arith in (

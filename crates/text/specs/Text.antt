@@ -12,8 +12,8 @@ fitted text room = cond (leb (length text) room) text []
 
 -- a buffer with a text put at a place, where there is room for all of it, and all else as it was; and the place after the
 -- text, or where there is no room the place itself. At place 0 that is how many bytes were put.
-unfoldable pub written : (out : List ℕ) (at : ℕ) (text : List ℕ) → List ℕ
-written out at text = sets out at (fitted text (length out - at))
+unfoldable pub withText : (out : List ℕ) (at : ℕ) (text : List ℕ) → List ℕ
+withText out at text = sets out at (fitted text (length out - at))
 
 unfoldable pub placeAfter : (out : List ℕ) (at : ℕ) (text : List ℕ) → ℕ
 placeAfter out at text = at + length (fitted text (length out - at))

@@ -33,7 +33,7 @@ use Rattle.vectors.specs.Leaves.{writtenLine, leafLine}
 use Rattle.vectors.specs.Listings.{listNumbers}
 use Rattle.vectors.specs.Outputs.{putNumbers, intoOutput, outputLine}
 use Rattle.vectors.specs.Parts.{sizeLine, nameLine, numeralLine, stepLine, indexNumbers, partLine}
-use Rattle.vectors.specs.Rows.{placesOf, foundNumbers, seenNumbers, tableNumbers, tableLine, lookupNumbers, queryLine, rowLine}
+use Rattle.vectors.specs.Rows.{placesOf, foundNumbers, seenNumbers, rowTable, tableLine, lookupNumbers, queryLine, rowLine}
 use Rattle.vectors.specs.Statements.{HasAll}
 use Rattle.vectors.specs.Trims.{trimNumbers, trimLine}
 use Rattle.vectors.specs.Writes.{firstOf, partsNumbers, planNumbers, writeNumbers}
@@ -97,7 +97,7 @@ found (At start end) = short (omega arith)
 found (Refused′ n) = short (omega arith)
 
 row : (f : Frame) (first second : List ℕ) → AtMost 12 (rowLine f first second)
-unfolding rowLine tableLine tableNumbers seenNumbers queryLine lookupNumbers
+unfolding rowLine tableLine rowTable seenNumbers queryLine lookupNumbers
 row f first second =
     let w = lookupOf first (numbersIn second (f .y)) (f .x) (drop (f .y * 4) second) in
     either (eqb (f .function) 19) (either (ltb 8300 (length first / 4)) (short (omega arith)) (short (omega arith)))

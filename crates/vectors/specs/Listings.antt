@@ -4,7 +4,7 @@ use mathlib.Core.Bool.{cond}
 use mathlib.Core.List.{List, [], _∷_}
 use lib.Dec.{eqb}
 use Rattle.le.specs.Le.{numberAt}
-use Rattle.text.specs.Text.{placeAfter, written}
+use Rattle.text.specs.Text.{placeAfter, withText}
 use Rattle.listing.specs.declared.TextLine.{TextLine}
 use Rattle.listing.specs.declared.TextLine.the-variants.{Summary, Node, FileHeader, Faces, Total, Refusal, TooLong}
 use Rattle.listing.specs.Listing.{textOf, listingOf}
@@ -31,4 +31,4 @@ unfoldable pub listNumbers : Frame → (first second out : List ℕ) → List �
 listNumbers f first second out = placeAfter out 0 (listed f first second) ∷ []
 
 unfoldable pub listOutput : Frame → (first second out : List ℕ) → List ℕ
-listOutput f first second out = written out 0 (listed f first second)
+listOutput f first second out = withText out 0 (listed f first second)

@@ -87,38 +87,38 @@ module _ (m : tie.After-face-at Inv-loop μ-loop) where
 face-at-requires : tie.Need-face-at-requires Inv-loop μ-loop
 face-at-requires c κs = search needs
 
-past-requires : tie.Need-past-requires Inv-loop μ-loop
-past-requires c κs = search needs
+refused-value-requires : tie.Need-refused-value-requires Inv-loop μ-loop
+refused-value-requires c κs = search needs
 
 returns : tie.Need-returns Inv-loop μ-loop
 returns c =
     let m = c .before .before .before in
     let l = m .before .before in
-    told scanNumbers (c .past .ensures ∙ stopped m (past-first (limit l) (l .loop .done) (m .face-at .result) (later l) (omega arith)))
+    told scanNumbers (c .refused-value .ensures ∙ stopped m (past-first (limit l) (l .loop .done) (m .face-at .result) (later l) (omega arith)))
 
-add-past : tie.Need-add-past Inv-loop μ-loop
-add-past c = omega arith
+add-refused-value : tie.Need-add-refused-value Inv-loop μ-loop
+add-refused-value c = omega arith
 
-past-requires-2 : tie.Need-past-requires-2 Inv-loop μ-loop
-past-requires-2 c κs = search needs
+refused-value-requires-2 : tie.Need-refused-value-requires-2 Inv-loop μ-loop
+refused-value-requires-2 c κs = search needs
 
 returns-2 : tie.Need-returns-2 Inv-loop μ-loop
 returns-2 c =
     let m = c .before .before .before .before .before in
     let l = m .before .before in
-    told scanNumbers (c .past2 .ensures ∙ stopped m (past-second (limit l) (l .loop .done) (m .face-at .result) (later l) (omega arith) (omega arith)))
+    told scanNumbers (c .refused-value2 .ensures ∙ stopped m (past-second (limit l) (l .loop .done) (m .face-at .result) (later l) (omega arith) (omega arith)))
 
-add-past-2 : tie.Need-add-past-2 Inv-loop μ-loop
-add-past-2 c = omega arith
+add-refused-value-2 : tie.Need-add-refused-value-2 Inv-loop μ-loop
+add-refused-value-2 c = omega arith
 
-past-requires-3 : tie.Need-past-requires-3 Inv-loop μ-loop
-past-requires-3 c κs = search needs
+refused-value-requires-3 : tie.Need-refused-value-requires-3 Inv-loop μ-loop
+refused-value-requires-3 c κs = search needs
 
 returns-3 : tie.Need-returns-3 Inv-loop μ-loop
 returns-3 c =
     let m = c .before .before .before .before .before .before .before in
     let l = m .before .before in
-    told scanNumbers (c .past3 .ensures ∙ stopped m (past-third (limit l) (l .loop .done) (m .face-at .result) (later l) (omega arith) (omega arith) (omega arith)))
+    told scanNumbers (c .refused-value3 .ensures ∙ stopped m (past-third (limit l) (l .loop .done) (m .face-at .result) (later l) (omega arith) (omega arith) (omega arith)))
 
 is-degenerate-requires : tie.Need-is-degenerate-requires Inv-loop μ-loop
 is-degenerate-requires c κs = search needs
@@ -185,13 +185,13 @@ scan-spec =
     mul-step
     loop-holds
     face-at-requires
-    past-requires
+    refused-value-requires
     returns
-    add-past
-    past-requires-2
+    add-refused-value
+    refused-value-requires-2
     returns-2
-    add-past-2
-    past-requires-3
+    add-refused-value-2
+    refused-value-requires-3
     returns-3
     is-degenerate-requires
     add-degenerate

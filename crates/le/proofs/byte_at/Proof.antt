@@ -1,9 +1,9 @@
--- `le::byte`: the byte at a place, or 0 past the end.
+-- `le::byte_at`: the byte at a place, or 0 past the end.
 use mathlib.Core.Path.{sym}
 use Rattle.le.proofs.Laws.{numberAt-byte, numberAt-past}
 use borrow.Author.Needs.{needs}
-use Rattle.le.proofs.byte.Statement.{statement}
-use Rattle.le.proofs.byte.Tie as tie
+use Rattle.le.proofs.byte_at.Statement.{statement}
+use Rattle.le.proofs.byte_at.Tie as tie
 
 shared-slice-read-result : tie.Need-shared-slice-read-result
 shared-slice-read-result c = search needs
@@ -14,5 +14,5 @@ returns c = sym (numberAt-byte _ _)
 returns-2 : tie.Need-returns-2
 returns-2 c = sym (numberAt-past 1 _ _ (search needs))
 
-pub byte-spec : {M : Type 1} → statement M
-byte-spec = tie.close (tie.spec shared-slice-read-result returns returns-2)
+pub byte-at-spec : {M : Type 1} → statement M
+byte-at-spec = tie.close (tie.spec shared-slice-read-result returns returns-2)
