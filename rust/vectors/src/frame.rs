@@ -54,7 +54,7 @@ impl Cases {
         self.sweeps.start(name, most);
     }
 
-    /// What is added now is long, and tells little more than what is kept.
+    /// What is added now is not kept: it tells little more than what is, or is long for what it tells.
     pub fn leave_out(&mut self) {
         self.sweeps.start("left out", 0);
     }

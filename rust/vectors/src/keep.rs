@@ -46,6 +46,7 @@ impl Sweeps {
         if self.current == next {
             self.most.push(most);
         }
+        assert_eq!(self.most[self.current], most, "two sweeps named {name}");
     }
 
     pub fn class(&self, function: u32, answer: &[u64]) -> Class {
