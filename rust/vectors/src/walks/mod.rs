@@ -26,10 +26,8 @@ const FIRST: usize = 16;
 const SECOND: usize = 40;
 
 pub fn add(cases: &mut Cases) {
-    let mut walks = Walks {
-        cases,
-        rng: Rng::new(30),
-    };
+    let rng = cases.rng(30);
+    let mut walks = Walks { cases, rng };
     worked::add(&mut walks);
     sizes::add(&mut walks);
     kinds::add(&mut walks);

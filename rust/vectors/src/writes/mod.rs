@@ -27,10 +27,8 @@ const LONGEST: usize = 8_300;
 const LONGEST_OUTPUT: usize = 98_304;
 
 pub fn add(cases: &mut Cases) {
-    let mut writes = Writes {
-        cases,
-        rng: Rng::new(34),
-    };
+    let rng = cases.rng(34);
+    let mut writes = Writes { cases, rng };
     rooms::add(&mut writes);
     parents::add(&mut writes);
     kinds::add(&mut writes);
