@@ -17,7 +17,7 @@ fn in_model(parts: Vec<Node>) -> File {
     file(vec![Node::with(ROOT, Vec::new(), vec![model])])
 }
 
-/// Skeletons of so many Bones.
+/// Skeletons of these numbers of Bones.
 fn plain(counts: &[usize]) -> File {
     let skeleton = |&count: &usize| Node::with(SKELETON, Vec::new(), vec![minimal(BONE); count]);
     in_model(counts.iter().map(skeleton).collect())

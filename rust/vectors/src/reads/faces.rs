@@ -13,7 +13,7 @@ pub fn add(reads: &mut Reads) {
     add_many(reads);
 }
 
-/// A mesh of so many vertices with these faces, in either order. Answers the index of f, too.
+/// A mesh of this number of vertices with these faces, in either order. Answers the index of f, too.
 fn mesh(reads: &mut Reads, vertices: usize, code: u16, indices: &[u32]) -> (Placed, usize) {
     let mut node = minimal(MESH);
     put(&mut node, elements(V3, "vp", vertices));

@@ -15,7 +15,7 @@ pub fn add(reads: &mut Reads) {
     add_own(reads);
 }
 
-/// A mesh of so many vertices, and no faces.
+/// A mesh of this number of vertices, and no faces.
 fn mesh(vertices: usize) -> Node {
     let mut node = minimal(MESH);
     put(&mut node, elements(V3, "vp", vertices));

@@ -82,7 +82,7 @@ impl Walks<'_> {
         assert_eq!(answer, (number, place as u32, 0), "{file:02X?}");
     }
 
-    /// A file of so many nodes that is accepted.
+    /// A file of exactly this number of nodes that is accepted.
     fn accepted(&mut self, file: &[u8], nodes: usize) {
         let answer = self.add(file);
         assert_eq!(answer, (0, 0, nodes as u32), "{file:02X?}");

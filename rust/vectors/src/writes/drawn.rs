@@ -43,8 +43,8 @@ fn add_kind(writes: &mut Writes, kind: Plan, count: usize) {
             false => {
                 let rows = case.plan.len() / 8;
                 let mut table = case.plan.clone();
-                let behind = writes.rng.below(20);
-                writes.follow(&mut table, rows, behind);
+                let later = writes.rng.below(20);
+                writes.follow(&mut table, rows, later);
                 writes.add_parts(&table, rows, &case.source, room)
             }
         };

@@ -52,7 +52,7 @@ fn add_chains(writes: &mut Writes) {
     let plan = numbers(&changed);
     let answer = writes.add_whole(&plan, b"", BARE + 1);
     assert_eq!(answer, written(BARE));
-    // The last row is behind the plan, and names row 0 no more.
+    // The last row is after the plan, and names row 0 no more.
     let answer = writes.add_parts(&plan, LAST, b"", BARE);
     assert_eq!(answer, refusal(24, 0));
 }
