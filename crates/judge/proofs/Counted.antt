@@ -9,8 +9,9 @@ use Rattle.body.specs.Body.{properties}
 use Rattle.faces.specs.declared.Face.{Face}
 use Rattle.faces.specs.Faces.{isDegenerate, degenerate}
 use Rattle.rules.specs.Rules.{linesOf}
-use Rattle.judge.specs.declared.Verdict.{Verdict}
-use Rattle.judge.specs.Judge.{nodeFaces, nodeLinks, verdictAt, judgedBy, judgedAt, judged}
+use Rattle.base.specs.declared.Refusal.{Refusal}
+use Rattle.judge.specs.Valued.{nodeFaces, nodeLinks}
+use Rattle.judge.specs.Judge.{verdictAt, judgedBy, judgedAt, judged}
 
 pub degenerate-append : (xs ys : List Face) → degenerate (xs ++ ys) ≡ degenerate xs + degenerate ys
 unfolding degenerate
@@ -18,7 +19,7 @@ degenerate-append [] ys = omega arith
 degenerate-append (x ∷ xs) ys =
     by-test (isDegenerate x) (λ t. rw (t, degenerate-append xs ys) (omega arith)) (λ t. rw (t, degenerate-append xs ys))
 
-counted-by : (n : ℕ) (v : Verdict) (fs : List Face) (links : ℕ) → judgedBy n v fs links .number ≡ 0
+counted-by : (n : ℕ) (v : Refusal) (fs : List Face) (links : ℕ) → judgedBy n v fs links .number ≡ 0
     → (judgedBy n v fs links .faces .0 ≡ length fs) × (judgedBy n v fs links .degenerate ≡ degenerate fs)
 counted-by zero v fs links e = (refl, refl)
 counted-by (suc n) v fs links e = absurd (omega (arith, e))
@@ -32,7 +33,7 @@ judged-counts kind count s bones e =
     let v = verdictAt kind (linesOf kind) s starts bones in
     counted-by (v .number) v (nodeFaces (linesOf kind) s starts) (nodeLinks (linesOf kind) s starts) e
 
-linked-by : (n : ℕ) (v : Verdict) (fs : List Face) (links : ℕ) → judgedBy n v fs links .number ≡ 0 → judgedBy n v fs links .links ≡ links
+linked-by : (n : ℕ) (v : Refusal) (fs : List Face) (links : ℕ) → judgedBy n v fs links .number ≡ 0 → judgedBy n v fs links .links ≡ links
 linked-by zero v fs links e = refl
 linked-by (suc n) v fs links e = absurd (omega (arith, e))
 

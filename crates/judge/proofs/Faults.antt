@@ -18,14 +18,13 @@ use Rattle.faces.specs.declared.Values.the-variants.{Below, Past}
 use Rattle.faces.specs.declared.Scanned.{Scanned}
 use Rattle.faces.specs.Faces.{widthOf, facesIn, below, isDegenerate, degenerate, countedBy, scanOf}
 use Rattle.faces.proofs.Laws.{length-facesIn}
-use Rattle.rules.specs.declared.Line.{Line}
-use Rattle.judge.specs.declared.Beside.{Beside}
-use Rattle.judge.specs.declared.Fault.{Fault}
-use Rattle.judge.specs.declared.Fault.the-variants.{Right, Whole, Element}
-use Rattle.judge.specs.declared.Kept.{Kept}
-use Rattle.judge.specs.Properties.{restAt}
-use Rattle.judge.specs.Judge.{signed, parentOk, byValues, facesAt, faceFault, faultOf}
-use Rattle.judge.specs.Contract.{keptBy, keptAt}
+use Rattle.rules.specs.Table.{Line}
+use Rattle.judge.specs.Properties.{Beside, restAt}
+use Rattle.judge.specs.declared.valued.Fault.{Fault}
+use Rattle.judge.specs.declared.valued.Fault.the-variants.{Right, Whole, Element}
+use Rattle.judge.specs.declared.valued.Kept.{Kept}
+use Rattle.judge.specs.Valued.{signed, parentOk, byValues, facesAt, faceFault, faultOf}
+use Rattle.judge.specs.Private.{keptBy, keptAt}
 
 -- ---- the number of a bone
 below-none : (n bones : ℕ) → (n ≡ 0 → ⊥) → false ≡ parentOk (negsuc n) bones

@@ -7,10 +7,9 @@ use mathlib.Core.List.{List}
 use lib.ListN.{length, drop, getD, drop-of-length-le}
 use lib.Seq.{drop-cons}
 use borrow.Author.Tests.{eq-eqb, ne-eqb}
-use Rattle.rules.specs.declared.Line.{Line}
-use Rattle.rules.specs.Table.{free, nameOf}
+use Rattle.rules.specs.Table.{Line, free}
 use Rattle.judge.specs.Properties.{has}
-use Rattle.judge.specs.Judge.{isMissing, misses}
+use Rattle.judge.specs.Missing.{isMissing, misses}
 
 module _ (s starts : List ℕ) where
   -- ---- one line
@@ -18,7 +17,7 @@ module _ (s starts : List ℕ) where
     pub not-missing : (l .required ≡ 1 → ⊥) → false ≡ isMissing l s starts
     not-missing n = rw (ne-eqb (l .required) 1 n)
 
-    pub may-miss : l .required ≡ 1 → not (has s starts (nameOf l)) ≡ isMissing l s starts
+    pub may-miss : l .required ≡ 1 → not (has s starts (l .name)) ≡ isMissing l s starts
     may-miss n = rw (eq-eqb (l .required) 1 n)
 
   -- ---- some lines

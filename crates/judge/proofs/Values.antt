@@ -11,19 +11,21 @@ use lib.ListN.{length, take, drop, getD, drop-of-length-le, length-append, lengt
 use lib.Seq.{drop-cons, take-append-seam, sets, sets-eq}
 use Rattle.faces.specs.declared.Face.{Face}
 use Rattle.faces.specs.Faces.{degenerate}
-use Rattle.rules.specs.declared.Line.{Line}
-use Rattle.rules.specs.Table.{free}
+use Rattle.rules.specs.Table.{Line, free}
 use Rattle.rules.proofs.Laws.{found}
 use Rattle.props.specs.Step.{nameAt}
-use Rattle.judge.specs.declared.Beside.{Beside}
-use Rattle.judge.specs.declared.Fault.{Fault}
-use Rattle.judge.specs.declared.Fault.the-variants.{Right, Whole, Element}
-use Rattle.judge.specs.declared.Kept.{Kept}
-use Rattle.judge.specs.declared.Verdict.{Verdict}
+use Rattle.judge.specs.Properties.{Beside, ruleAt, besideOf}
+use Rattle.judge.specs.declared.valued.Fault.{Fault}
+use Rattle.judge.specs.declared.valued.Fault.the-variants.{Right, Whole, Element}
+use Rattle.judge.specs.declared.valued.Kept.{Kept}
+use Rattle.base.specs.declared.Refusal.{Refusal}
 use Rattle.judge.specs.declared.Judged.{Judged}
-use Rattle.judge.specs.Properties.{ruleAt, besideOf}
-use Rattle.judge.specs.Judge.{refuse, faultOf, byFault, valued, heldFaces, nodeFaces, linkCount, nodeLinks, refusedWith, judgedBy, typed, lacks, andThen, verdictAt, judgedAt}
-use Rattle.judge.specs.Contract.{lineNumber, keptBy, keptAt, valuedTo, Bounded}
+use Rattle.judge.specs.Typed.{typed}
+use Rattle.judge.specs.Missing.{lacks}
+use Rattle.judge.specs.Valued.{faultOf, valued, heldFaces, nodeFaces, linkCount, nodeLinks}
+use Rattle.base.specs.Refusals.{refusal}
+use Rattle.judge.specs.Judge.{byFault, refusedNode, judgedBy, andThen, verdictAt, judgedAt, Bounded}
+use Rattle.judge.specs.Private.{lineNumber, keptBy, keptAt, valuedTo}
 use Rattle.judge.proofs.Counted.{degenerate-append}
 
 -- ---- the lines of some properties, by their numbers
@@ -65,9 +67,9 @@ one-most l = by (eqb (l .held) 9)
     by false = omega arith
 
 -- ---- what some properties say on top of what was counted
-abbrev counted : ℕ → Verdict → (faces degenerate links : ℕ) → Judged
+abbrev counted : ℕ → Refusal → (faces degenerate links : ℕ) → Judged
 counted zero v f d n = record { number = 0; at = 0; faces = record { 0 = f }; degenerate = d; links = n }
-counted (suc k) v f d n = refusedWith (suc k) (v .at)
+counted (suc k) v f d n = refusedNode (suc k) (v .at)
 
 unfoldable pub onTop : (faces degenerate links : ℕ) → List Line → (s : List ℕ) → Beside → (starts : List ℕ) → Judged
 onTop f d n ls s b starts =
@@ -75,7 +77,7 @@ onTop f d n ls s b starts =
     let fs = nodeFaces ls s starts in
     counted (v .number) v (f + length fs) (d + degenerate fs) (n + nodeLinks ls s starts)
 
-by-none : (k : ℕ) (v : Verdict) (fs : List Face) (n : ℕ) → counted k v (0 + length fs) (0 + degenerate fs) (0 + n) ≡ judgedBy k v fs n
+by-none : (k : ℕ) (v : Refusal) (fs : List Face) (n : ℕ) → counted k v (0 + length fs) (0 + degenerate fs) (0 + n) ≡ judgedBy k v fs n
 by-none zero v fs n = rw (zero-add (length fs), zero-add (degenerate fs), zero-add n)
 by-none (suc k) v fs n = refl
 
@@ -103,8 +105,8 @@ module _ (ls : List Line) (s : List ℕ) (b : Beside) where
           rw (next, ← m, fault-kept l s at b e r, all-kept l s at b e r, faces, degenerates, links)
 
       pub stopped : {k : Kept} → k ≡ keptAt l s (getD starts i 0) b → {q : Fault} → k .fault ≡ q →
-          ((v : Verdict) → byFault q (getD starts i 0) v ≡ refuse 15 (24 + getD starts i 0)) →
-          onTop f d n ls s b (drop i starts) ≡ refusedWith 15 (24 + getD starts i 0)
+          ((v : Refusal) → byFault q (getD starts i 0) v ≡ refusal 15 (24 + getD starts i 0)) →
+          onTop f d n ls s b (drop i starts) ≡ refusedNode 15 (24 + getD starts i 0)
       unfolding onTop valued
       stopped e r w =
           let at = getD starts i 0 in
@@ -120,18 +122,18 @@ pub first-numbers : (l ns : List ℕ) (n : ℕ) → n ≡ length ns → n ≤ le
 first-numbers l ns n e h = rw (e, sets-eq ns l 0 (omega (arith, e, h))) (take-append-seam ns (drop (0 + length ns) l))
 
 module _ (kind : ℕ) (ls : List Line) (s starts : List ℕ) (bones : ℕ) where
-  by-typed : (k : ℕ) (v w : Verdict) (fs : List Face) (n : ℕ) → (k ≡ 0 → ⊥) → v .number ≡ k →
-      refusedWith (v .number) (v .at) ≡ judgedBy (andThen k v w .number) (andThen k v w) fs n
+  by-typed : (k : ℕ) (v w : Refusal) (fs : List Face) (n : ℕ) → (k ≡ 0 → ⊥) → v .number ≡ k →
+      refusedNode (v .number) (v .at) ≡ judgedBy (andThen k v w .number) (andThen k v w) fs n
   by-typed zero v w fs n h e = absurd (h refl)
   by-typed (suc k) v w fs n h e = rw e
 
-  module _ {v : Verdict} (e : v ≡ typed ls s [] starts) where
-    pub mistyped : (v .number ≡ 0 → ⊥) → refusedWith (v .number) (v .at) ≡ judgedAt kind ls s starts bones
+  module _ {v : Refusal} (e : v ≡ typed ls s [] starts) where
+    pub mistyped : (v .number ≡ 0 → ⊥) → refusedNode (v .number) (v .at) ≡ judgedAt kind ls s starts bones
     unfolding judgedAt verdictAt
     mistyped h = rw (← e) (by-typed (v .number) v _ _ _ h refl)
 
     module _ (t : v .number ≡ 0) where
-      pub lacking : lacks kind ls s starts ≡ true → refusedWith 14 0 ≡ judgedAt kind ls s starts bones
+      pub lacking : lacks kind ls s starts ≡ true → refusedNode 14 0 ≡ judgedAt kind ls s starts bones
       unfolding judgedAt verdictAt
       lacking h = rw (← e, t, h)
 
@@ -140,6 +142,6 @@ module _ (kind : ℕ) (ls : List Line) (s starts : List ℕ) (bones : ℕ) where
       by-values h = rw (← e, t, h)
 
 -- ---- a refusal counts nothing
-pub refused-bounded : (n at size : ℕ) → at ≤ 24 + size → {r : Judged} → r ≡ refusedWith n at → Bounded r size
+pub refused-bounded : (n at size : ℕ) → at ≤ 24 + size → {r : Judged} → r ≡ refusedNode n at → Bounded r size
 refused-bounded n at size h e =
     subst (λ r. Bounded r size) (sym e) (record { place = h; faces = omega arith; degenerates = omega arith; links = omega arith })

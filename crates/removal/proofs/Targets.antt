@@ -9,8 +9,7 @@ use lib.Dec.{eqb}
 use borrow.Author.Tests.{ne-eqb}
 use Rattle.kinds.specs.Kinds.{isKnown, lineOf, lineIn}
 use Rattle.kinds.specs.Kinds.{lines as kindLines}
-use Rattle.rules.specs.declared.Line.{Line}
-use Rattle.rules.specs.Table.{lines, linkTo}
+use Rattle.rules.specs.Table.{Line, lines, linkTo}
 use Rattle.rules.specs.Rules.{linesOf, ruleOf}
 use Rattle.rules.proofs.Laws.{all, ruled}
 use Rattle.base.specs.Lists.{Each}

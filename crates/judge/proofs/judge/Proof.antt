@@ -5,7 +5,7 @@ use lib.ListN.{length, take, replicate}
 use lib.Seq.{length-take-le}
 use Rattle.body.proofs.Places.{properties-few, starts-within, starts-taken, starts-room}
 use Rattle.body.specs.Body.{properties}
-use Rattle.rules.specs.Table.{linesFrom}
+use Rattle.rules.specs.Packing.{linesFrom}
 use Rattle.rules.specs.Rules.{linesOf}
 use Rattle.rules.proofs.Laws.{lines-room, lines-taken}
 use Rattle.judge.specs.Judge.{judgedAt, judged}
