@@ -95,7 +95,7 @@ pub fn index_of(body: &[u8], count: u32) -> Index
 }
 
 // The first of the properties that start at these places which has the name; their number where none has.
-pub fn find(body: &[u8], starts: &[usize], name: &[u8]) -> usize
+pub fn first_named(body: &[u8], starts: &[usize], name: &[u8]) -> usize
     ensures result { λ r. ⌜ r ≡ firstNamed (now (body .entry)) (now (name .entry)) (now (starts .entry)) ⌝ }
     ensures within { λ r. ⌜ r ≤ length (now (starts .entry)) ⌝ }
 {

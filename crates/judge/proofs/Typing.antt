@@ -16,14 +16,14 @@ use Rattle.names.specs.Names.{same}
 use Rattle.names.proofs.Laws.{same-eq}
 use Rattle.props.specs.Step.{codeAt, lengthAt, nameAt}
 use Rattle.body.specs.Body.{firstNamed}
-use Rattle.rules.specs.declared.Line.{Line}
-use Rattle.rules.specs.Table.{free}
+use Rattle.rules.specs.Table.{Line, free}
 use Rattle.rules.specs.Rules.{misfits, findIn}
 use Rattle.rules.proofs.Laws.{found}
-use Rattle.judge.specs.declared.Verdict.{Verdict}
+use Rattle.base.specs.declared.Refusal.{Refusal}
 use Rattle.judge.specs.Properties.{has}
-use Rattle.judge.specs.Judge.{isMistyped, refuse, right, typed}
-use Rattle.judge.specs.Contract.{lineNumber, keyAt, hasKey}
+use Rattle.judge.specs.Typed.{isMistyped, typed}
+use Rattle.base.specs.Refusals.{refusal, noRefusal}
+use Rattle.judge.specs.Private.{lineNumber, keyAt, hasKey}
 
 -- ---- keys
 module _ (any : Bool) (keys : List ℕ) (key i : ℕ) where
@@ -68,7 +68,7 @@ module _ (starts : List ℕ) (i : ℕ) (h : i < length starts) where
         ap (λ n. take n (set keys i v)) (add-one i) ∙ take-suc-set keys i v k ∙ rw (t, e) (sym (one-more f))
 
 -- what those from a place on say, behind those before
-abbrev typedFrom : List Line → (s starts : List ℕ) (i : ℕ) → Verdict
+abbrev typedFrom : List Line → (s starts : List ℕ) (i : ℕ) → Refusal
 typedFrom ls s starts i = typed ls s (take i starts) (drop i starts)
 
 -- those before i are right, and their keys and numbers are noted
@@ -83,7 +83,7 @@ module _ {ls : List Line} {s starts old numbers keys : List ℕ} {i : ℕ} (o : 
   pub as-long : length numbers ≡ length old
   as-long = ap length (o .noted) ∙ length-sets old 0 (map (lineNumber ls s) (take i starts))
 
-  pub all-noted : length starts ≤ i → (right ≡ typed ls s [] starts) × (numbers ≡ sets old 0 (map (lineNumber ls s) starts))
+  pub all-noted : length starts ≤ i → (noRefusal ≡ typed ls s [] starts) × (numbers ≡ sets old 0 (map (lineNumber ls s) starts))
   unfolding typed
   all-noted h =
       (rw (drop-of-length-le starts {i = i} h) at (o .passes), o .noted ∙ ap (λ l. sets old 0 (map (lineNumber ls s) l)) (take-all i starts h))
@@ -98,11 +98,11 @@ module _ {ls : List Line} {s starts old numbers keys : List ℕ} {i : ℕ} (o : 
     mistyped : (r || m) ≡ isMistyped ls s (take i starts) (getD starts i 0)
     mistyped = rw (er, em, g, n, numbered, found ls (nameAt s (getD starts i 0)))
 
-    step : typedFrom ls s starts i ≡ cond (r || m) (refuse 13 (24 + getD starts i 0)) (typedFrom ls s starts (i + 1))
+    step : typedFrom ls s starts i ≡ cond (r || m) (refusal 13 (24 + getD starts i 0)) (typedFrom ls s starts (i + 1))
     unfolding typed
     step = rw (mistyped, drop-cons starts i 0 h, add-one i, take-suc starts i 0 h)
 
-    pub refused : (r || m) ≡ true → refuse 13 (24 + getD starts i 0) ≡ typed ls s [] starts
+    pub refused : (r || m) ≡ true → refusal 13 (24 + getD starts i 0) ≡ typed ls s [] starts
     refused e = sym (rw e at step) ∙ o .passes
 
     pub passed : length starts ≤ 64 → {key : ℕ} → key ≡ numberAt 8 name 0 → (r || m) ≡ false →

@@ -12,18 +12,21 @@ use Rattle.body.specs.Body.{pass, properties, firstNamed}
 use Rattle.faces.specs.Faces.{widthOf, facesIn, below, degenerate}
 use Rattle.base.specs.Letters.{letters}
 use Rattle.props.specs.Types.{byte, short, int, long, float, string, v3, v4}
-use Rattle.rules.specs.Table.{lines, unpacked, texts}
-use Rattle.rules.specs.Rules.{lists, ruleIn, ofKind, linesOf, isText, inSet, isOneOf}
+use Rattle.rules.specs.Table.{lines}
+use Rattle.rules.specs.Rules.{lists, ruleIn, ofKind, linesOf, isText, isOneOf}
 use Rattle.judge.specs.declared.Judged.{Judged}
 use Rattle.judge.specs.Properties.{lengthOf, valueOf, typesOf, besideOf}
-use Rattle.judge.specs.Judge.{typed, misses, lacks, faultOf, valued, nodeFaces, nodeLinks, verdictAt, judgedAt, judged}
+use Rattle.judge.specs.Typed.{typed}
+use Rattle.judge.specs.Missing.{misses, lacks}
+use Rattle.judge.specs.Valued.{faultOf, valued, nodeFaces, nodeLinks}
+use Rattle.judge.specs.Judge.{verdictAt, judgedAt, judged}
 
 abbrev numbers : Judged → List ℕ
 numbers j = j .number ∷ j .at ∷ j .faces .0 ∷ j .degenerate ∷ j .links ∷ []
 
 -- a node's number and offset, faces, degenerate ones and links: of its kind, its property count, the Bones beside it and its body
 unfoldable judge : (kind count bones : ℕ) → List ℕ → List ℕ
-unfolding val numberAt le bytesOk same readDigits number numbered headerRefusal dataRefusal toZero dataOf nameAt stepAt pass properties firstNamed widthOf facesIn below degenerate letters lines unpacked texts lists ruleIn ofKind linesOf isText inSet isOneOf lengthOf valueOf typesOf besideOf typed misses lacks faultOf valued nodeFaces nodeLinks verdictAt judgedAt judged
+unfolding val numberAt le bytesOk same readDigits number numbered headerRefusal dataRefusal toZero dataOf nameAt stepAt pass properties firstNamed widthOf facesIn below degenerate letters lines lists ruleIn ofKind linesOf isText isOneOf lengthOf valueOf typesOf besideOf typed misses lacks faultOf valued nodeFaces nodeLinks verdictAt judgedAt judged
 judge kind count bones body = numbers (judged kind count body bones)
 
 unfoldable property : (code : ℕ) (name : String) (elements : ℕ) → List ℕ → List ℕ

@@ -1,4 +1,7 @@
 pub mod Properties
+pub mod Typed
+pub mod Missing
+pub mod Valued
 pub mod Judge
-pub mod Contract
+pub mod Private
 pub mod Examples

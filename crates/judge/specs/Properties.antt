@@ -9,12 +9,10 @@ use Rattle.kinds.specs.Kinds.{mesh, blendShape, curve}
 use Rattle.props.specs.Step.{codeAt, lengthAt, nameAt, startAt}
 use Rattle.body.specs.Body.{firstNamed}
 use Rattle.faces.specs.Faces.{widthOf}
-use Rattle.rules.specs.declared.Line.{Line}
 use Rattle.base.specs.Letters.{letters}
 use Rattle.props.specs.Types.{float, v4}
-use Rattle.rules.specs.Table.{N}
+use Rattle.rules.specs.Table.{Types, only, N, anyType, Line}
 use Rattle.rules.specs.Rules.{ruleIn, isText}
-use Rattle.judge.specs.declared.Beside.{Beside}
 
 -- the line of the property at a place, among some lines
 abbrev pub ruleAt : List Line → (s : List ℕ) (at : ℕ) → Line
@@ -44,20 +42,30 @@ unfoldable pub valueOf : (s starts name : List ℕ) → ℕ
 valueOf s starts name = cond (has s starts name) (valueAt s (placeOf s starts name)) 0
 
 -- "kv is v4 for rq, N for vb, f for any other kp, listed or not": the types that kp wants, from its string
-abbrev pub keyTypes : List ℕ → ℕ
-keyTypes string = cond (isText string (letters "rq")) v4 (cond (isText string (letters "vb")) N float)
+abbrev pub keyTypes : (string : List ℕ) → Types
+keyTypes string = cond (isText string (letters "rq")) (only v4) (cond (isText string (letters "vb")) N (only float))
 
-unfoldable pub typesOf : (s starts : List ℕ) → ℕ
-typesOf s starts = cond (has s starts (letters "kp")) (keyTypes (restAt s (placeOf s starts (letters "kp")))) float
+unfoldable pub typesOf : (s starts : List ℕ) → Types
+typesOf s starts = cond (has s starts (letters "kp")) (keyTypes (restAt s (placeOf s starts (letters "kp")))) (only float)
 
 -- ---- what a property is held against, from those beside it and from the Bones beside its node
+
+-- a mesh's V, and mi times that; the lengths of vi and of kb, and the types that kp wants; and the number of Bones
+pub record Beside : Type 0 where
+  pub vertices : ℕ
+  pub weights : ℕ
+  pub indices : ℕ
+  pub keys : ℕ
+  pub types : Types
+  pub bones : ℕ
+
 unfoldable pub besideOf : (kind : ℕ) (s starts : List ℕ) (bones : ℕ) → Beside
 besideOf kind s starts bones =
     cond (eqb kind mesh)
     (let v = lengthOf s starts (letters "vp") in
-    record { vertices = v; weights = valueOf s starts (letters "mi") * v; indices = 0; keys = 0; types = 0; bones = bones })
+    record { vertices = v; weights = valueOf s starts (letters "mi") * v; indices = 0; keys = 0; types = anyType; bones = bones })
     (cond (eqb kind blendShape)
-    (record { vertices = 0; weights = 0; indices = lengthOf s starts (letters "vi"); keys = 0; types = 0; bones = bones })
+    (record { vertices = 0; weights = 0; indices = lengthOf s starts (letters "vi"); keys = 0; types = anyType; bones = bones })
     (cond (eqb kind curve)
     (record { vertices = 0; weights = 0; indices = 0; keys = lengthOf s starts (letters "kb"); types = typesOf s starts; bones = bones })
-    (record { vertices = 0; weights = 0; indices = 0; keys = 0; types = 0; bones = bones })))
+    (record { vertices = 0; weights = 0; indices = 0; keys = 0; types = anyType; bones = bones })))

@@ -10,8 +10,7 @@ use borrow.Author.Tests.{eq-eqb, eqb-true}
 use Rattle.base.proofs.Tests.{by-test}
 use Rattle.kinds.specs.Kinds.{mesh, bone, material, file}
 use Rattle.table.specs.declared.Row.{Row}
-use Rattle.rules.specs.declared.Line.{Line}
-use Rattle.rules.specs.Table.{linkTo, lines}
+use Rattle.rules.specs.Table.{Line, linkTo, lines}
 use Rattle.rules.specs.Rules.{ruleOf}
 use Rattle.rules.proofs.Laws.{all, ruled}
 use Rattle.format.specs.Rows.{hashOf}

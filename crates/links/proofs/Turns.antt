@@ -16,15 +16,14 @@ use Rattle.props.specs.Step.{nameAt}
 use Rattle.body.specs.declared.Index.{Index}
 use Rattle.body.specs.Body.{properties, indexOf}
 use Rattle.body.proofs.Places.{properties-few, starts-within, starts-taken}
-use Rattle.rules.specs.declared.Line.{Line}
-use Rattle.rules.specs.Table.{free}
+use Rattle.rules.specs.Table.{Line, free}
 use Rattle.rules.specs.Rules.{findIn, linesOf}
 use Rattle.rules.proofs.Laws.{found}
 use Rattle.judge.specs.Properties.{ruleAt, restAt}
 use Rattle.format.specs.Rows.{bodyOf}
 use Rattle.links.specs.declared.Linked.{Linked}
 use Rattle.links.specs.Links.{refuse}
-use Rattle.judge.specs.Contract.{Within}
+use Rattle.judge.specs.Private.{StartsWithin}
 use Rattle.links.specs.Contract.{Count, byCount, nodeLinked, rowLinked, onBy, rowsLinked}
 
 -- the line of a property, as it is found
@@ -71,7 +70,7 @@ module _ (body : List ℕ) (k : ℕ) {index : Index} (e : index ≡ indexOf (pro
   pub index-few : length (take (index .count) (index .starts)) ≤ 64
   index-few = rw (starts-taken body k e) (properties-few body k)
 
-  pub index-within : Within body (take (index .count) (index .starts))
+  pub index-within : StartsWithin body (take (index .count) (index .starts))
   index-within = rw (starts-taken body k e) (starts-within body k)
 
 module _ (count : Count) (s : List ℕ) (n : ℕ) (r : Row) where

@@ -7,8 +7,7 @@ use Rattle.le.specs.Le.{numberAt}
 use Rattle.kinds.specs.Kinds.{mesh, bone, material, isKnown}
 use Rattle.table.specs.declared.Row.{Row}
 use Rattle.body.specs.Body.{properties}
-use Rattle.rules.specs.declared.Line.{Line}
-use Rattle.rules.specs.Table.{linkTo}
+use Rattle.rules.specs.Table.{Line, linkTo}
 use Rattle.rules.specs.Rules.{linesOf}
 use Rattle.judge.specs.Properties.{ruleAt, restAt}
 use Rattle.format.specs.Rows.{bodyOf}

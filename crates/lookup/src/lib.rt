@@ -22,7 +22,7 @@ fn in_body(body: &[u8], count: u32, name: &[u8]) -> Found
     if starts[n] != body.len() {
         return Found::Refused(42);
     }
-    let i = body::find(body, &starts[..n], name);
+    let i = body::first_named(body, &starts[..n], name);
     if i == n {
         return Found::Refused(43);
     }

@@ -9,8 +9,7 @@ use Rattle.kinds.specs.Kinds.{isKnown}
 use Rattle.table.specs.declared.Row.{Row}
 use Rattle.body.specs.Body.{properties}
 use Rattle.body.proofs.Places.{starts-within}
-use Rattle.rules.specs.declared.Line.{Line}
-use Rattle.rules.specs.Table.{linkTo}
+use Rattle.rules.specs.Table.{Line, linkTo}
 use Rattle.rules.specs.Rules.{linesOf}
 use Rattle.judge.specs.Properties.{ruleAt}
 use Rattle.format.specs.Rows.{bodyOf}

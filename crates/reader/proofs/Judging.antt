@@ -10,13 +10,12 @@ use Rattle.base.proofs.Tests.{by-test}
 use Rattle.kinds.specs.Kinds.{isKnown}
 use Rattle.table.specs.declared.Row.{Row}
 use Rattle.body.specs.Body.{properties}
-use Rattle.rules.specs.declared.Line.{Line}
-use Rattle.rules.specs.Table.{linkTo}
+use Rattle.rules.specs.Table.{Line, linkTo}
 use Rattle.rules.specs.Rules.{linesOf}
 use Rattle.judge.specs.declared.Judged.{Judged}
 use Rattle.judge.specs.Properties.{ruleAt}
-use Rattle.judge.specs.Judge.{nodeLinks, judged}
-use Rattle.judge.specs.Contract.{Bounded}
+use Rattle.judge.specs.Valued.{nodeLinks}
+use Rattle.judge.specs.Judge.{judged, Bounded}
 use Rattle.judge.proofs.Counted.{judged-links}
 use Rattle.format.specs.Rows.{bodyOf}
 use Rattle.links.specs.Links.{Link, linksAt, rowLinks, linksFrom, linksOf, resolved, linked}

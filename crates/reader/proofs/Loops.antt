@@ -15,7 +15,7 @@ use Rattle.table.specs.declared.Row.{Row}
 use Rattle.table.specs.Table.{rowAt, rowsAt}
 use Rattle.table.proofs.Rests.{rest, rest-all, rest-more, rest-none}
 use Rattle.judge.specs.declared.Judged.{Judged}
-use Rattle.judge.specs.Contract.{Bounded}
+use Rattle.judge.specs.Judge.{Bounded}
 use Rattle.format.specs.Rows.{ownBytes, bodyOf}
 use Rattle.format.proofs.Rows.{body-length}
 use Rattle.reader.specs.declared.Ruled.{Ruled}

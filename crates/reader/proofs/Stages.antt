@@ -11,8 +11,7 @@ use Rattle.base.proofs.Tests.{by-test}
 use Rattle.kinds.specs.Kinds.{isKnown}
 use Rattle.table.specs.declared.Row.{Row}
 use Rattle.body.specs.Body.{properties}
-use Rattle.rules.specs.declared.Line.{Line}
-use Rattle.rules.specs.Table.{linkTo}
+use Rattle.rules.specs.Table.{Line, linkTo}
 use Rattle.rules.specs.Rules.{linesOf}
 use Rattle.judge.specs.declared.Judged.{Judged}
 use Rattle.judge.specs.Properties.{ruleAt, restAt}

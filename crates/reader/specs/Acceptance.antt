@@ -15,7 +15,7 @@ use Rattle.body.specs.Body.{properties}
 use Rattle.faces.specs.declared.Face.{Face}
 use Rattle.faces.specs.Faces.{degenerate}
 use Rattle.rules.specs.Rules.{linesOf}
-use Rattle.judge.specs.Judge.{nodeFaces}
+use Rattle.judge.specs.Valued.{nodeFaces}
 use Rattle.format.specs.Forest.{Forest, fileOf}
 use Rattle.format.specs.Rows.{hashOf, rowsOf, bodyOf}
 use Rattle.base.specs.Lists.{Each, Picks}

@@ -10,7 +10,7 @@ use Rattle.table.specs.declared.Row.{Row}
 use Rattle.table.specs.Table.{hasRoom, cleared, filled}
 use Rattle.format.specs.Rows.{bodyOf, ownBytes}
 use Rattle.judge.specs.declared.Judged.{Judged}
-use Rattle.judge.specs.Judge.{refusedWith, judged}
+use Rattle.judge.specs.Judge.{refusedNode, judged}
 use Rattle.links.specs.declared.Linked.{Linked}
 use Rattle.links.specs.Links.{linked}
 use Rattle.walk.specs.Walk.{limited, flagsOf}
@@ -28,7 +28,7 @@ bonesUnder (r ∷ rs) parent = cond (eqb (r .kind) bone && eqb (r .parent) paren
 
 -- an unknown node has no rules
 abbrev pub unjudged : Judged
-unjudged = refusedWith 0 0
+unjudged = refusedNode 0 0
 
 -- a row judged by its node's body and the number of Bones beside it; and among all rows of a file
 unfoldable pub judgedWith : (s : List ℕ) → Row → (bones : ℕ) → Judged

@@ -4,7 +4,7 @@ ghost use Prim.Native.Nat.{ℕ, _≤_, _<_};
 ghost use lib.ListN.{length, getD};
 ghost use Rattle.base.specs.Limits.{mostBytes, mostRows};
 ghost use Rattle.table.specs.Table.{cleared, rowsAt};
-ghost use Rattle.judge.specs.Contract.{Bounded};
+ghost use Rattle.judge.specs.Judge.{Bounded};
 ghost use Rattle.format.specs.Rows.{bodyOf};
 ghost use Rattle.links.specs.Links.{linksOf, linked};
 ghost use Rattle.walk.specs.Walk.{flagsOf};

@@ -8,8 +8,7 @@ use mathlib.Core.List.{List, [], _∷_, _++_, map, map-append, map-map, flatMap}
 use lib.ListN.{drop}
 use Rattle.le.specs.Le.{val}
 use Rattle.kinds.specs.Kinds.{isKnown}
-use Rattle.rules.specs.declared.Line.{Line}
-use Rattle.rules.specs.Table.{lines, linkTo}
+use Rattle.rules.specs.Table.{Line, lines, linkTo}
 use Rattle.base.specs.Lists.{Each}
 use Rattle.format.specs.Layout.{Property, WellFormed}
 use Rattle.base.proofs.Lists.{each-append, each-both, each-map}

@@ -9,8 +9,7 @@ use lib.Dec.{eqb}
 use borrow.Author.Tests.{ne-eqb}
 use Rattle.kinds.specs.Kinds.{isKnown, parentsOf, parentsIn}
 use Rattle.kinds.specs.Kinds.{parentsTable}
-use Rattle.rules.specs.declared.Line.{Line}
-use Rattle.rules.specs.Table.{lines, linkTo}
+use Rattle.rules.specs.Table.{Line, lines, linkTo}
 use Rattle.rules.specs.Rules.{linesOf, ruleOf}
 use Rattle.rules.proofs.Laws.{all, ruled}
 use Rattle.base.specs.Lists.{Each}

@@ -4,18 +4,22 @@ use native.Mathlib.Omega.{arith}
 use native.Mathlib.Numerals.{add-one}
 use mathlib.Core.Path.{_≡_, refl, sym, ap, _∙_}
 use mathlib.Core.Logic.{_⊎_, inl, inr}
-use mathlib.Core.Bool.{Bool, true, false, _&&_, and-false, and-eq-true-iff}
-use mathlib.Core.List.{List, [], _∷_, map}
+use mathlib.Core.Bool.{Bool, true, false, _&&_, _||_, and-false, and-eq-true-iff}
+use mathlib.Core.List.{List, [], _∷_, _++_, map}
 use lib.Dec.{eqb}
 use lib.ListN.{length, take, drop, getD, length-map, drop-of-length-le, List·getD-eq-default, List·getD-map}
 use lib.Seq.{drop-cons, take-append-seam, sets, sets-eq, length-sets}
 use borrow.Author.Tests.{eq-eqb, ne-eqb, eqb-true, le-leb}
 use Rattle.base.proofs.Tests.{by-test}
+use Rattle.base.specs.Letters.{letters}
+use Rattle.le.specs.Le.{val, le, numberAt}
 use Rattle.names.specs.Names.{same}
-use Rattle.rules.specs.declared.Line.{Line}
+use Rattle.rules.specs.declared.Entry.{Entry}
 use Rattle.rules.specs.declared.Text.{Text}
-use Rattle.rules.specs.Table.{lines, free, rowOf, lineFrom, linesFrom, texts, textFrom, stringOf}
-use Rattle.rules.specs.Rules.{lists, ruleIn, findIn, ofKind, linesOf, ruleOf, fitting, isText, inSet}
+use Rattle.rules.specs.Table.{Line, lines, free}
+use Rattle.rules.specs.Packing.{stringSets, stringsOf, unpacked, lineOf, entryFrom, lineFrom, linesFrom, columnsOf, PackedTable}
+use Rattle.rules.specs.Rules.{lists, ruleIn, findIn, ofKind, linesOf, ruleOf, fitting, isText, isOneOf}
+use Rattle.rules.specs.Private.{textFrom, stringOf}
 
 -- what stands inside is there whatever would stand for what is not
 pub getD-inside : {A : Type 0} (l : List A) (i : ℕ) (d e : A) → i < length l → getD l i d ≡ getD l i e
@@ -53,13 +57,21 @@ module _ (ls : List Line) (name : List ℕ) (i : ℕ) where
   unfolding findIn
   find-ended h = rw (drop-of-length-le ls {i = i} h) (omega arith)
 
--- a line from its row, where there is one
-pub row-inside : (rows : List (List ℕ)) (i : ℕ) → i < length rows → lineFrom (getD rows i []) ≡ getD (linesFrom rows) i free
-row-inside rows i h =
-    sym (List·getD-map lineFrom rows i []) ∙ getD-inside (linesFrom rows) i (lineFrom []) free (omega (arith, length-map rows lineFrom))
+-- an entry from its row, where there is one, and the line that it says
+module _ (rows : List (List ℕ)) (i : ℕ) where
+  abbrev Read : Entry → Type 0
+  Read e = (e ≡ entryFrom (getD rows i (columnsOf free))) × (lineOf e ≡ getD (linesFrom rows) i free)
 
-pub row-past : (rows : List (List ℕ)) (i : ℕ) → length rows ≤ i → getD (linesFrom rows) i free ≡ free
-row-past rows i h = List·getD-eq-default (linesFrom rows) free {n = i} (omega (arith, length-map rows lineFrom))
+  reads : {e : Entry} → e ≡ entryFrom (getD rows i (columnsOf free)) → Read e
+  reads r =
+      let packed : lineFrom (columnsOf free) ≡ free = ap (λ ls. getD ls 0 free) PackedTable in
+      (r, ap lineOf r ∙ sym (List·getD-map lineFrom rows i (columnsOf free)) ∙ ap (getD (linesFrom rows) i) packed)
+
+  pub row-inside : i < length rows → {e : Entry} → e ≡ entryFrom (getD rows i []) → Read e
+  row-inside h r = reads (r ∙ ap entryFrom (getD-inside rows i [] (columnsOf free) h))
+
+  pub row-past : length rows ≤ i → {e : Entry} → e ≡ entryFrom (columnsOf free) → Read e
+  row-past h r = reads (r ∙ ap entryFrom (sym (List·getD-eq-default rows (columnsOf free) {n = i} h)))
 
 -- for callers: the line at the place that is found
 pub found : (ls : List Line) (name : List ℕ) → getD ls (findIn ls name) free ≡ ruleIn ls name
@@ -82,29 +94,72 @@ module _ (test : Line → Bool) (kind : ℕ) (name : List ℕ) where
   unfolding linesOf
   ruled = ruled-in lines
 
-back : (ls : List Line) → linesFrom (map rowOf ls) ≡ ls
-back [] = refl
-back (l ∷ ls) = ap (λ m. l ∷ m) (back ls)
+-- packing loses nothing of the lines of a kind
+packed-of : (kind : ℕ) (ls : List Line) → linesFrom (map columnsOf ls) ≡ ls → linesFrom (map columnsOf (ofKind ls kind)) ≡ ofKind ls kind
+unfolding ofKind
+packed-of kind [] e = refl
+packed-of kind (l ∷ ls) e =
+    let rest = packed-of kind ls (ap (drop 1) e) in
+    by-test (eqb (l .kind) kind)
+    (λ t. rw t (ap (λ m. m ∷ linesFrom (map columnsOf (ofKind ls kind))) (ap (λ ls. getD ls 0 free) e) ∙ ap (λ m. l ∷ m) rest))
+    (λ t. rw t rest)
 
 -- for callers: what lines of a kind are taken from rows where they were put
-module _ (ls : List Line) (old : List (List ℕ)) (room : length ls ≤ length old) {n : ℕ} {rows : List (List ℕ)}
-    (c : n ≡ length (fitting ls (length old))) (e : rows ≡ sets old 0 (map rowOf (fitting ls (length old)))) where
+module _ (kind : ℕ) (old : List (List ℕ)) (room : length (linesOf kind) ≤ length old) {n : ℕ} {rows : List (List ℕ)}
+    (c : n ≡ length (fitting (linesOf kind) (length old))) (e : rows ≡ sets old 0 (map columnsOf (fitting (linesOf kind) (length old)))) where
+  abbrev ls : List Line
+  ls = linesOf kind
+
+  back : linesFrom (map columnsOf ls) ≡ ls
+  unfolding linesOf
+  back = packed-of kind lines (ap (drop 1) PackedTable)
+
   all-fit : fitting ls (length old) ≡ ls
   all-fit = rw (le-leb (length ls) (length old) room)
 
   pub lines-room : n ≤ length rows
-  lines-room = rw (c, e, all-fit) (omega (arith, length-sets old 0 (map rowOf ls)))
+  lines-room = rw (c, e, all-fit) (omega (arith, length-sets old 0 (map columnsOf ls)))
 
   pub lines-taken : linesFrom (take n rows) ≡ ls
   lines-taken =
-      let many : length (map rowOf ls) ≡ length ls = length-map ls rowOf in
-      rw (c, e, all-fit, ← many, sets-eq (map rowOf ls) old 0 (omega arith), take-append-seam (map rowOf ls) (drop (0 + length (map rowOf ls)) old)) (back ls)
+      let many : length (map columnsOf ls) ≡ length ls = length-map ls columnsOf in
+      rw (c, e, all-fit, ← many, sets-eq (map columnsOf ls) old 0 (omega arith), take-append-seam (map columnsOf ls) (drop (0 + length (map columnsOf ls)) old)) back
 
 -- ---- the strings of a set
 
+abbrev text : (set : ℕ) → List ℕ → Text
+text set string = record { set = set; size = length string; first = numberAt 4 string 0; second = numberAt 4 string 4; third = numberAt 4 string 8 }
+
+-- those of some sets, the first of which has a number
+unfoldable textsFrom : (set : ℕ) → List (List (List ℕ)) → List Text
+textsFrom set [] = []
+textsFrom set (strings ∷ more) = map (text set) strings ++ textsFrom (suc set) more
+
+unfoldable pub texts : List Text
+unfolding textsFrom
+texts = textsFrom 1 stringSets
+
 count : length texts ≡ 20
-unfolding texts
+unfolding texts textsFrom
 count = refl
+
+-- the string at the start of some bytes is of a set
+unfoldable pub inSet : List Text → (set : ℕ) → List ℕ → Bool
+inSet [] set bytes = false
+inSet (t ∷ ts) set bytes = (eqb (t .set) set && isText bytes (stringOf t)) || inSet ts set bytes
+
+-- what the table says is what the sets say
+pub set-says : (set : ℕ) (bytes : List ℕ) → inSet texts set bytes ≡ isOneOf (stringsOf set) bytes
+unfolding texts textsFrom inSet isOneOf stringsOf unpacked letters numberAt val le
+set-says zero bytes = refl
+set-says (suc zero) bytes = refl
+set-says (suc (suc zero)) bytes = refl
+set-says (suc (suc (suc zero))) bytes = refl
+set-says (suc (suc (suc (suc zero)))) bytes = refl
+set-says (suc (suc (suc (suc (suc zero))))) bytes = refl
+set-says (suc (suc (suc (suc (suc (suc n)))))) bytes =
+    let other : (k : ℕ) → k ≤ 5 → eqb k (suc (suc (suc (suc (suc (suc n)))))) ≡ false = λ k h. ne-eqb k _ (λ e. omega (arith, h, e)) in
+    rw (other 1 (omega arith), other 2 (omega arith), other 3 (omega arith), other 4 (omega arith), other 5 (omega arith))
 
 module _ (set : ℕ) (bytes : List ℕ) (i : ℕ) where
   module _ (h : i < 20) {t : Text} (e : t ≡ getD texts i (textFrom [])) where

@@ -1,4 +1,5 @@
 pub mod Laws
 pub mod Names
+pub mod Helds
 pub mod Together
 pub mod Spans

@@ -15,9 +15,9 @@ use Rattle.base.proofs.Tests.{by-test}
 use Rattle.names.specs.Names.{same}
 use Rattle.names.specs.Names.{numbered as numberIn}
 use Rattle.names.proofs.Laws.{same-eq}
-use Rattle.rules.specs.declared.Line.{Line}
+use Rattle.rules.specs.declared.Entry.{Entry}
 use Rattle.rules.specs.declared.Letters.{Letters}
-use Rattle.rules.specs.Table.{unpacked, lettersOf, nameOf}
+use Rattle.rules.specs.Packing.{unpacked, lettersOf, lineOf}
 use Rattle.rules.specs.Rules.{isNumber, lists}
 
 -- ---- stored and taken
@@ -54,39 +54,39 @@ module _ (size first second third : ℕ) where
         (λ t. let some : min size 12 ≡ size = omega (arith, ltb-false 12 size t) in rw some))
 
 -- ---- the first four letters of a line's name
-module _ (l : Line) where
+module _ (e : Entry) where
   abbrev others : List ℕ
-  others = le 4 (l .second) ++ le 4 (l .third)
+  others = le 4 (e .second) ++ le 4 (e .third)
 
-  -- so many letters of four
-  pub four-some : (n m : ℕ) → l .size ≡ n → n + m ≡ 4 → l .first % 256 ^ n ≡ numberAt 4 (nameOf l) 0
+  -- n letters of four
+  pub four-some : (n m : ℕ) → e .size ≡ n → n + m ≡ 4 → e .first % 256 ^ n ≡ numberAt 4 (lineOf e .name) 0
   unfolding unpacked numberAt
-  four-some n m e f =
-      let x = l .first in
+  four-some n m k f =
+      let x = e .first in
       let split : le 4 x ++ others ≡ le n x ++ (le m (x / 256 ^ n) ++ others) =
       ap (λ w. le w x ++ others) (sym f) ∙ ap (λ b. b ++ others) (le-split n m x) ∙ append-assoc (le n x) (le m (x / 256 ^ n)) others in
       let low : take n (le 4 x ++ others) ≡ le n x = ap (take n) split ∙ take-at (le n x) (le m (x / 256 ^ n) ++ others) n (length-le n x) in
       let all : take 4 (le n x) ≡ le n x = take-all 4 (le n x) (omega (arith, length-le n x)) in
-      sym (rw (e, low, all, ← le-remainder n x) (val-le n (x % 256 ^ n) (mod-lt x (one-le-pow n 256 (omega arith)))))
+      sym (rw (k, low, all, ← le-remainder n x) (val-le n (x % 256 ^ n) (mod-lt x (one-le-pow n 256 (omega arith)))))
 
-  pub four-all : 4 ≤ l .size → l .first < 256 ^ 4 → l .first ≡ numberAt 4 (nameOf l) 0
+  pub four-all : 4 ≤ e .size → e .first < 256 ^ 4 → e .first ≡ numberAt 4 (lineOf e .name) 0
   unfolding unpacked numberAt
   four-all k h =
-      sym (ap val (take-take 4 (l .size) (le 4 (l .first) ++ others) k ∙ take-at (le 4 (l .first)) others 4 (length-le 4 (l .first))) ∙ val-le 4 (l .first) h)
+      sym (ap val (take-take 4 (e .size) (le 4 (e .first) ++ others) k ∙ take-at (le 4 (e .first)) others 4 (length-le 4 (e .first))) ∙ val-le 4 (e .first) h)
 
 -- ---- a line has a name
-module _ (name : List ℕ) (l : Line) where
-  pub lists-numbered : l .numbered ≡ 1 → lists l name ≡ isNumber (numberIn name (nameOf l))
+module _ (name : List ℕ) (e : Entry) where
+  pub lists-numbered : e .numbered ≡ 1 → lists (lineOf e) name ≡ isNumber (numberIn name (lineOf e .name))
   unfolding lists
-  lists-numbered n = rw (eq-eqb (l .numbered) 1 n)
+  lists-numbered n = rw (eq-eqb (e .numbered) 1 n)
 
-  module _ (n : l .numbered ≡ 1 → ⊥) where
-    pub lists-plain : lists l name ≡ same name (nameOf l)
+  module _ (n : e .numbered ≡ 1 → ⊥) where
+    pub lists-plain : lists (lineOf e) name ≡ same name (lineOf e .name)
     unfolding lists
-    lists-plain = rw (ne-eqb (l .numbered) 1 n)
+    lists-plain = rw (ne-eqb (e .numbered) 1 n)
 
-    pub lists-other : {first four : ℕ} → first ≡ numberAt 4 (nameOf l) 0 → four ≡ numberAt 4 name 0 → (first ≡ four → ⊥) → lists l name ≡ false
+    pub lists-other : {first four : ℕ} → first ≡ numberAt 4 (lineOf e .name) 0 → four ≡ numberAt 4 name 0 → (first ≡ four → ⊥) → lists (lineOf e) name ≡ false
     lists-other h f m =
-        lists-plain ∙ by-test (same name (nameOf l))
-        (λ s. absurd (m (rw (f, same-eq name (nameOf l) s) h)))
+        lists-plain ∙ by-test (same name (lineOf e .name))
+        (λ s. absurd (m (rw (f, same-eq name (lineOf e .name) s) h)))
         (λ s. s)

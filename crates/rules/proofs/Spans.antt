@@ -10,9 +10,8 @@ use lib.ListN.{length, drop, getD, drop-of-length-le, List·getD-map}
 use lib.Seq.{drop-cons}
 use borrow.Author.Tests.{ne-eqb, leb-true}
 use Rattle.kinds.specs.Kinds.{model, mesh, blendShape, bone, ikHandle, constraint, animation, curve, curveModeOverride, notificationTrack, material, file, instance, metadata}
-use Rattle.rules.specs.declared.Line.{Line}
-use Rattle.rules.specs.Table.{lines}
-use Rattle.rules.specs.Contract.{before, run, spanOf}
+use Rattle.rules.specs.Table.{Line, lines}
+use Rattle.rules.specs.Private.{before, run, spanOf}
 use Rattle.rules.proofs.Laws.{getD-inside, all, all-at}
 use Rattle.rules.proofs.Together.{many, Spanned}
 

@@ -9,11 +9,11 @@ use lib.ListN.{length, take, drop, getD, length-drop, length-map, List·getD-map
 use lib.Seq.{getD-drop, length-take-le, sets}
 use borrow.Author.Tests.{eqb-true, not-true, le-leb, lt-leb}
 use Rattle.base.proofs.Tests.{by-test}
-use Rattle.rules.specs.declared.Line.{Line}
 use Rattle.rules.specs.declared.Span.{Span}
-use Rattle.rules.specs.Table.{lines, free, rowOf}
+use Rattle.rules.specs.Table.{Line, lines, free}
+use Rattle.rules.specs.Packing.{columnsOf}
 use Rattle.rules.specs.Rules.{ofKind, linesOf, fitting}
-use Rattle.rules.specs.Contract.{before, run, spanOf}
+use Rattle.rules.specs.Private.{before, run, spanOf}
 use Rattle.rules.proofs.Laws.{getD-inside}
 
 pub many : length lines ≡ 81
@@ -24,7 +24,7 @@ unfoldable none : List Line → ℕ → Bool
 none [] kind = true
 none (l ∷ ls) kind = not (eqb (l .kind) kind) && none ls kind
 
--- behind a line comes one of its kind, or there is none behind it
+-- after a line comes one of its kind, or there is none after it
 unfoldable together : List Line → Bool
 together [] = true
 together (l ∷ []) = true
@@ -48,14 +48,14 @@ module _ (kind : ℕ) where
       let both = and-eq-true-iff (not (eqb (l .kind) kind)) (none ls kind) .0 e in
       rw (not-true (eqb (l .kind) kind) (both .0)) (of-none ls (both .1))
 
-  -- behind a line of the kind they come first
-  behind : (l : Line) (ls : List Line) → l .kind ≡ kind → together (l ∷ ls) ≡ true → ofKind ls kind ≡ take (run ls kind) ls
+  -- after a line of the kind they come first
+  after : (l : Line) (ls : List Line) → l .kind ≡ kind → together (l ∷ ls) ≡ true → ofKind ls kind ≡ take (run ls kind) ls
   unfolding together ofKind run
-  behind l [] k e = refl
-  behind l (m ∷ ms) k e =
+  after l [] k e = refl
+  after l (m ∷ ms) k e =
       let both = and-eq-true-iff (eqb (m .kind) (l .kind) || none (m ∷ ms) (l .kind)) (together (m ∷ ms)) .0 e in
       by-test (eqb (m .kind) kind)
-      (λ t. rw t (ap (λ r. m ∷ r) (behind m ms (eqb-true (m .kind) kind t) (both .1))))
+      (λ t. rw t (ap (λ r. m ∷ r) (after m ms (eqb-true (m .kind) kind t) (both .1))))
       (λ t.
       let out : none (m ∷ ms) kind ≡ true =
       ap (λ b. b || none (m ∷ ms) kind) (sym t) ∙ ap (λ k. eqb (m .kind) k || none (m ∷ ms) k) (sym k) ∙ both .0 in
@@ -67,7 +67,7 @@ module _ (kind : ℕ) where
   stand [] e = refl
   stand (l ∷ ls) e =
       by-test (eqb (l .kind) kind)
-      (λ t. rw (t, t) (ap (λ r. l ∷ r) (behind l ls (eqb-true (l .kind) kind t) e)))
+      (λ t. rw (t, t) (ap (λ r. l ∷ r) (after l ls (eqb-true (l .kind) kind t) e)))
       (λ t. rw t (stand ls (tail-together l ls e)))
 
 -- ---- the lines of a kind are those of its span, and are put into rows
@@ -93,7 +93,7 @@ module _ (kind : ℕ) {span : Span} (s : Spanned kind span) where
     abbrev pub Put : ℕ → List (List ℕ) → Type 0
     Put n after =
         (n ≡ length (fitting (linesOf kind) (length rows)))
-        × (after ≡ sets rows 0 (map rowOf (fitting (linesOf kind) (length rows))))
+        × (after ≡ sets rows 0 (map columnsOf (fitting (linesOf kind) (length rows))))
         × (length (linesOf kind) ≤ 14)
 
     few : length (linesOf kind) ≤ 14
@@ -108,11 +108,11 @@ module _ (kind : ℕ) {span : Span} (s : Spanned kind span) where
     put-short n = rw (lt-leb (length (linesOf kind)) (length rows) (omega (arith, counted))) (refl, refl, few)
 
     pub put-all : span .to - span .from ≤ length rows → {after : List (List ℕ)} →
-        after ≡ sets rows 0 (map rowOf (take (span .to - span .from) (drop (span .from) lines))) → Put (span .to - span .from) after
-    put-all n a = rw (le-leb (length (linesOf kind)) (length rows) (omega (arith, counted))) (sym counted, a ∙ ap (λ ls. sets rows 0 (map rowOf ls)) (sym of-span), few)
+        after ≡ sets rows 0 (map columnsOf (take (span .to - span .from) (drop (span .from) lines))) → Put (span .to - span .from) after
+    put-all n a = rw (le-leb (length (linesOf kind)) (length rows) (omega (arith, counted))) (sym counted, a ∙ ap (λ ls. sets rows 0 (map columnsOf ls)) (sym of-span), few)
 
--- the row that is read for the line at a place behind another
-pub row-at : (from i : ℕ) → from + i < 81 → getD (map rowOf lines) (from + i) [] ≡ rowOf (getD (drop from lines) i free)
+-- the row that is read for the line at a place after another
+pub row-at : (from i : ℕ) → from + i < 81 → getD (map columnsOf lines) (from + i) [] ≡ columnsOf (getD (drop from lines) i free)
 row-at from i h =
-    getD-inside (map rowOf lines) (from + i) [] (rowOf free) (omega (arith, length-map lines rowOf, many))
-    ∙ List·getD-map rowOf lines (from + i) free ∙ ap rowOf (sym (getD-drop from lines i free))
+    getD-inside (map columnsOf lines) (from + i) [] (columnsOf free) (omega (arith, length-map lines columnsOf, many))
+    ∙ List·getD-map columnsOf lines (from + i) free ∙ ap columnsOf (sym (getD-drop from lines i free))

@@ -1,4 +1,5 @@
 pub mod Table
+pub mod Packing
 pub mod Rules
-pub mod Contract
+pub mod Private
 pub mod Examples

@@ -1,4 +1,4 @@
--- The line of a kind and name, what it says of a type and a length, and the strings of a set.
+-- The line of a kind and name, what it says of a type and a length, and the strings that are taken.
 use Prim.Native.Nat.{ℕ, suc}
 use mathlib.Core.Bool.{Bool, true, false, cond, not, _&&_, _||_}
 use mathlib.Core.List.{List, [], _∷_}
@@ -8,33 +8,32 @@ use Rattle.names.specs.Names.{same}
 use Rattle.names.specs.Names.{numbered as numberIn}
 use Rattle.names.specs.declared.Numeral.{Numeral}
 use Rattle.names.specs.declared.Numeral.the-variants.{Is, Not}
-use Rattle.rules.specs.declared.Line.{Line}
-use Rattle.rules.specs.declared.Text.{Text}
 use Rattle.props.specs.Types.{byte, short, int, float, v4}
-use Rattle.rules.specs.Table.{N, keyType, anyType, numbered, single, lines, free, nameOf, texts, stringOf}
+use Rattle.rules.specs.Table.{Types, only, N, keyType, anyType, Held, nothing, flag, oneOf, vertices, weights, faces, indices, keys, boneNumber, linkTo, Line, lines, free}
 
 -- "`N` any of `b h i`"
-abbrev pub isN : ℕ → Bool
+abbrev pub isN : (code : ℕ) → Bool
 isN code = (eqb code byte || eqb code short) || eqb code int
 
 -- the types of a line have a type
-abbrev pub takes : (types code : ℕ) → Bool
-takes types code =
-    cond (eqb types N) (isN code)
-    (cond (eqb types keyType) ((isN code || eqb code float) || eqb code v4)
-    (cond (eqb types anyType) true (eqb types code)))
+abbrev pub takes : Types → (code : ℕ) → Bool
+takes (only type) code = eqb type code
+takes N code = isN code
+-- "one of b h i f v4"
+takes keyType code = (isN code || eqb code float) || eqb code v4
+takes anyType code = true
 
 -- "listed name with another type or length", for 13: "`[]` array of any length (else length 1)"
 abbrev pub misfits : Line → (code elements : ℕ) → Bool
-misfits l code elements = not (takes (l .types) code) || (eqb (l .array) single && not (eqb elements 1))
+misfits l code elements = not (takes (l .types) code) || (not (l .array) && not (eqb elements 1))
 
 abbrev pub isNumber : Numeral → Bool
 isNumber (Is n) = true
 isNumber Not = false
 
 -- the line has the name: as it stands, or "`%d`" after it
-unfoldable pub lists : Line → List ℕ → Bool
-lists l name = cond (eqb (l .numbered) numbered) (isNumber (numberIn name (nameOf l))) (same name (nameOf l))
+unfoldable pub lists : Line → (name : List ℕ) → Bool
+lists l name = cond (l .numbered) (isNumber (numberIn name (l .name))) (same name (l .name))
 
 -- ---- the first of some lines that has a name; `free` where none has
 unfoldable pub ruleIn : List Line → (name : List ℕ) → Line
@@ -47,7 +46,7 @@ findIn [] name = 0
 findIn (l ∷ ls) name = cond (lists l name) 0 (suc (findIn ls name))
 
 -- ---- the lines of a kind
-unfoldable pub ofKind : List Line → ℕ → List Line
+unfoldable pub ofKind : List Line → (kind : ℕ) → List Line
 ofKind [] kind = []
 ofKind (l ∷ ls) kind = cond (eqb (l .kind) kind) (l ∷ ofKind ls kind) (ofKind ls kind)
 
@@ -68,10 +67,25 @@ fitting ls room = cond (leb (length ls) room) ls []
 unfoldable pub isText : (bytes string : List ℕ) → Bool
 isText bytes string = same (take (length string) bytes) string && eqb (getD bytes (length string) 1) 0
 
--- the string at the start of some bytes is of a set
-unfoldable pub inSet : List Text → (set : ℕ) → List ℕ → Bool
-inSet [] set bytes = false
-inSet (t ∷ ts) set bytes = (eqb (t .set) set && isText bytes (stringOf t)) || inSet ts set bytes
+-- "strings in brackets are the only ones taken": one of some strings stands at the start of some bytes
+unfoldable pub isOneOf : (strings : List (List ℕ)) → (bytes : List ℕ) → Bool
+isOneOf [] bytes = false
+isOneOf (string ∷ others) bytes = isText bytes string || isOneOf others bytes
 
-unfoldable pub isOneOf : (set : ℕ) → List ℕ → Bool
-isOneOf set bytes = inSet texts set bytes
+-- ---- links
+
+-- "Links, where the node's kind lists the name as l": what holds of a link to a kind, or of what is none
+abbrev pub ifLink : {A : Type 0} → Held → (link : (kind : ℕ) → A) → (other : A) → A
+ifLink (linkTo kind) link other = link kind
+ifLink nothing link other = other
+ifLink flag link other = other
+ifLink (oneOf strings) link other = other
+ifLink vertices link other = other
+ifLink weights link other = other
+ifLink faces link other = other
+ifLink indices link other = other
+ifLink keys link other = other
+ifLink boneNumber link other = other
+
+abbrev pub isLink : Held → Bool
+isLink h = ifLink h (λ kind. true) false

@@ -10,8 +10,8 @@ pub const ANY_TYPE: u32 = 3; // of a name that is not listed
 // A name that a number follows, `%d`.
 pub const NUMBERED: u32 = 1;
 
-// A length of 1, and not of any number of elements.
-pub const SINGLE: u32 = 0;
+// Any number of elements, and not a length of 1.
+pub const ARRAY: u32 = 1;
 
 pub const REQUIRED: u32 = 1;
 

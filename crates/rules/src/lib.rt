@@ -7,9 +7,10 @@ ghost use lib.Seq.{sets};
 ghost use Rattle.le.specs.Le.{numberAt};
 ghost use Rattle.names.specs.Names.{same};
 ghost use Rattle.names.specs.Names.{numbered as numberIn};
-ghost use Rattle.rules.specs.Table.{lineFrom, linesFrom, rowOf, free, lettersOf, nameOf, textFrom, stringOf};
+ghost use Rattle.rules.specs.Table.{free};
+ghost use Rattle.rules.specs.Packing.{lettersOf, stringsOf, typesFrom, lineOf, entryFrom, linesFrom, columnsOf};
 ghost use Rattle.rules.specs.Rules.{takes, misfits, isNumber, lists, findIn, linesOf, fitting, isText, isOneOf};
-ghost use Rattle.rules.specs.Contract.{spanOf};
+ghost use Rattle.rules.specs.Private.{spanOf, textFrom, stringOf};
 
 pub mod held;
 mod lines;
@@ -17,7 +18,8 @@ mod lines;
 // A line as the table has it: the numbers of its columns.
 pub type Columns = [u32; 12];
 
-pub struct Line {
+// A line in numbers: its name's size and letters, four to a number, and what `held` and `lines` say of the others.
+pub struct Entry {
     pub kind: u32,
     pub size: u32,
     pub first: u32,
@@ -32,11 +34,11 @@ pub struct Line {
     pub target: u32,
 }
 
-// A line from its row of the table.
-fn line_from(row: Columns) -> Line
-    ensures { λ r. ⌜ r ≡ lineFrom row ⌝ }
+// An entry from its row of the table.
+fn entry_from(row: Columns) -> Entry
+    ensures { λ r. ⌜ r ≡ entryFrom row ⌝ }
 {
-    Line {
+    Entry {
         kind: row[0],
         size: row[1],
         first: row[2],
@@ -75,15 +77,15 @@ fn unpack(size: u32, first: u32, second: u32, third: u32) -> Letters
 }
 
 // The name of a line; of a numbered one, what comes before the number.
-pub fn name_of(l: Line) -> Letters
-    ensures { λ r. ⌜ r ≡ lettersOf (l .size) (l .first) (l .second) (l .third) ⌝ }
+pub fn name_of(e: Entry) -> Letters
+    ensures { λ r. ⌜ r ≡ lettersOf (e .size) (e .first) (e .second) (e .third) ⌝ }
 {
-    unpack(l.size, l.first, l.second, l.third)
+    unpack(e.size, e.first, e.second, e.third)
 }
 
 // Whether the types of a line have a type.
 pub fn takes(types: u32, code: u16) -> bool
-    ensures { λ r. ⌜ r ≡ takes types code ⌝ }
+    ensures { λ r. ⌜ r ≡ takes (typesFrom types) code ⌝ }
 {
     let n = (code == props::BYTE) | (code == props::SHORT) | (code == props::INT);
     match types {
@@ -95,27 +97,27 @@ pub fn takes(types: u32, code: u16) -> bool
 }
 
 // Whether a listed name has another type or length.
-pub fn misfits(l: Line, code: u16, elements: u32) -> bool
-    ensures { λ r. ⌜ r ≡ misfits l code elements ⌝ }
+pub fn misfits(e: Entry, code: u16, elements: u32) -> bool
+    ensures { λ r. ⌜ r ≡ misfits (lineOf e) code elements ⌝ }
 {
-    !takes(l.types, code) | ((l.array == held::SINGLE) & (elements != 1))
+    !takes(e.types, code) | ((e.array != held::ARRAY) & (elements != 1))
 }
 
 // Whether a name is the line's as it stands.
-fn is_plain(l: Line, name: &[u8]) -> bool
-    ensures { λ r. ⌜ r ≡ same (now (name .entry)) (nameOf l) ⌝ }
+fn is_plain(e: Entry, name: &[u8]) -> bool
+    ensures { λ r. ⌜ r ≡ same (now (name .entry)) (lineOf e .name) ⌝ }
 {
-    let letters = name_of(l);
+    let letters = name_of(e);
     let size = letters.size;
     let bytes = letters.bytes;
     names::same(name, &bytes[..size])
 }
 
 // Whether a name is the line's with a number after it.
-fn is_numbered(l: Line, name: &[u8]) -> bool
-    ensures { λ r. ⌜ r ≡ isNumber (numberIn (now (name .entry)) (nameOf l)) ⌝ }
+fn is_numbered(e: Entry, name: &[u8]) -> bool
+    ensures { λ r. ⌜ r ≡ isNumber (numberIn (now (name .entry)) (lineOf e .name)) ⌝ }
 {
-    let letters = name_of(l);
+    let letters = name_of(e);
     let size = letters.size;
     let bytes = letters.bytes;
     match names::numbered(name, &bytes[..size]) {
@@ -125,11 +127,11 @@ fn is_numbered(l: Line, name: &[u8]) -> bool
 }
 
 // The first four letters of a line's name in one number, zeros for those that are not there.
-fn four_of(l: Line) -> u32
-    ensures { λ r. ⌜ r ≡ numberAt 4 (nameOf l) 0 ⌝ }
+fn four_of(e: Entry) -> u32
+    ensures { λ r. ⌜ r ≡ numberAt 4 (lineOf e .name) 0 ⌝ }
 {
-    let size = l.size;
-    let first = l.first;
+    let size = e.size;
+    let first = e.first;
     match size {
         0 => 0,
         1 => first % 256,
@@ -140,28 +142,28 @@ fn four_of(l: Line) -> u32
 }
 
 // Whether a line has a name, whose first four letters are one number. Most lines differ in these.
-fn has_name(l: Line, name: &[u8], four: u32) -> bool
+fn has_name(e: Entry, name: &[u8], four: u32) -> bool
     requires { ⌜ four ≡ numberAt 4 (now name) 0 ⌝ }
-    ensures { λ r. ⌜ r ≡ lists l (now (name .entry)) ⌝ }
+    ensures { λ r. ⌜ r ≡ lists (lineOf e) (now (name .entry)) ⌝ }
 {
-    if l.numbered == held::NUMBERED {
-        return is_numbered(l, name);
+    if e.numbered == held::NUMBERED {
+        return is_numbered(e, name);
     }
-    if four_of(l) != four {
+    if four_of(e) != four {
         return false;
     }
-    is_plain(l, name)
+    is_plain(e, name)
 }
 
 // The place of the first of some lines that has a name; their number where none has.
-pub fn find(lines: &[Columns], name: &[u8]) -> usize
+pub fn line_named(lines: &[Columns], name: &[u8]) -> usize
     ensures { λ r. ⌜ r ≡ findIn (linesFrom (now (lines .entry))) (now (name .entry)) ⌝ }
 {
     let four = le::u32_at(name, 0);
     let mut i: usize = 0;
     while i < lines.len() {
         let row = lines[i];
-        if has_name(line_from(row), name, four) {
+        if has_name(entry_from(row), name, four) {
             return i;
         }
         i += 1;
@@ -170,14 +172,15 @@ pub fn find(lines: &[Columns], name: &[u8]) -> usize
 }
 
 // The line at a place among some; past their end, that of the names that are not listed.
-pub fn line_in(lines: &[Columns], i: usize) -> Line
-    ensures { λ r. ⌜ r ≡ getD (linesFrom (now (lines .entry))) i free ⌝ }
+pub fn line_in(lines: &[Columns], i: usize) -> Entry
+    ensures entry { λ r. ⌜ r ≡ entryFrom (getD (now (lines .entry)) i (columnsOf free)) ⌝ }
+    ensures line { λ r. ⌜ lineOf r ≡ getD (linesFrom (now (lines .entry))) i free ⌝ }
 {
     if i < lines.len() {
         let row = lines[i];
-        return line_from(row);
+        return entry_from(row);
     }
-    line_from(lines::FREE)
+    entry_from(lines::FREE)
 }
 
 // Lines of the table, from one place up to another.
@@ -209,7 +212,7 @@ fn span_of(kind: u32) -> Span
 // each read copies it to the stack, so a node's lines are taken out once a stage and lent.
 pub fn put_lines(kind: u32, rows: &mut [Columns]) -> usize
     ensures count { λ r. ⌜ r ≡ length (fitting (linesOf kind) (length (now (rows .entry)))) ⌝ }
-    ensures rows { λ r. ⌜ now (rows .exit) ≡ sets (now (rows .entry)) 0 (map rowOf (fitting (linesOf kind) (length (now (rows .entry))))) ⌝ }
+    ensures rows { λ r. ⌜ now (rows .exit) ≡ sets (now (rows .entry)) 0 (map columnsOf (fitting (linesOf kind) (length (now (rows .entry))))) ⌝ }
     ensures bound { λ r. ⌜ length (linesOf kind) ≤ 14 ⌝ }
 {
     let span = span_of(kind);
@@ -233,12 +236,12 @@ pub fn put_lines(kind: u32, rows: &mut [Columns]) -> usize
 }
 
 // A string of a set.
-pub struct Text {
-    pub set: u32,
-    pub size: u32,
-    pub first: u32,
-    pub second: u32,
-    pub third: u32,
+struct Text {
+    set: u32,
+    size: u32,
+    first: u32,
+    second: u32,
+    third: u32,
 }
 
 // A string from its row of the table.
@@ -276,7 +279,7 @@ fn stands(t: Text, bytes: &[u8]) -> bool
 
 // Whether the string at the start of some bytes is of a set.
 pub fn one_of(set: u32, bytes: &[u8]) -> bool
-    ensures { λ r. ⌜ r ≡ isOneOf set (now (bytes .entry)) ⌝ }
+    ensures { λ r. ⌜ r ≡ isOneOf (stringsOf set) (now (bytes .entry)) ⌝ }
 {
     let strings = lines::STRINGS;
     let mut i: usize = 0;

@@ -12,13 +12,12 @@ use Rattle.base.proofs.Tests.{by-test}
 use Rattle.names.specs.Names.{same, bytesOk}
 use Rattle.names.proofs.Laws.{same-eq, same-refl}
 use Rattle.kinds.specs.Kinds.{curve}
-use Rattle.rules.specs.declared.Line.{Line}
+use Rattle.rules.specs.Table.{Line, lines, free, N, keyType, anyType}
 use Rattle.base.specs.Letters.{letters}
 use Rattle.props.specs.Types.{byte, short, int, float, v4, string}
-use Rattle.rules.specs.Table.{lines, free, N, keyType, anyType}
 use Rattle.rules.specs.Rules.{isN, takes, isText, ruleOf}
 use Rattle.rules.proofs.Laws.{all}
-use Rattle.judge.specs.Judge.{signed}
+use Rattle.judge.specs.Valued.{signed}
 use Rattle.base.specs.Lists.{Each, Some}
 use Rattle.format.specs.Layout.{Property, EndsInZero, GoodProperty}
 use Rattle.base.proofs.Lists.{each-both, each-map}

@@ -9,8 +9,7 @@ use Rattle.props.specs.Step.{lengthAt}
 use Rattle.base.specs.Letters.{letters}
 use Rattle.props.specs.Types.{float}
 use Rattle.rules.specs.Rules.{ruleOf}
-use Rattle.judge.specs.declared.Beside.{Beside}
-use Rattle.judge.specs.Properties.{restAt, valueAt, lengthOf, valueOf, keyTypes, typesOf, besideOf}
+use Rattle.judge.specs.Properties.{Beside, restAt, valueAt, lengthOf, valueOf, keyTypes, typesOf, besideOf}
 use Rattle.base.specs.Lists.{Each}
 use Rattle.format.specs.Layout.{Property}
 use Rattle.valid.specs.Obeys.{value, elementsOf, firstValueOf, vertexCount}

@@ -15,17 +15,16 @@ use Rattle.props.specs.Step.{lengthAt, codeAt}
 use Rattle.faces.specs.declared.Values.{Values}
 use Rattle.faces.specs.declared.Values.the-variants.{Below, Past}
 use Rattle.faces.specs.Faces.{widthOf, facesIn, below}
-use Rattle.rules.specs.declared.Line.{Line}
+use Rattle.rules.specs.Table.{Line, texts, stringOf, flag, oneOf, vertices, weights, faces, indices, keys, boneNumber}
 use Rattle.base.specs.Letters.{letters}
 use Rattle.props.specs.Types.{byte, int}
-use Rattle.rules.specs.Table.{texts, stringOf, flag, oneOf, vertices, weights, faces, indices, keys, boneNumber}
 use Rattle.rules.specs.Rules.{isN, takes, linesOf, ruleOf, isOneOf}
-use Rattle.judge.specs.declared.Verdict.{Verdict}
-use Rattle.judge.specs.declared.Beside.{Beside}
-use Rattle.judge.specs.declared.Fault.{Fault}
-use Rattle.judge.specs.declared.Fault.the-variants.{Right, Whole, Element}
-use Rattle.judge.specs.Properties.{restAt, valueAt}
-use Rattle.judge.specs.Judge.{whole, sole, signed, parentOk, byValues, faceFault, faultOf, byFault, valued}
+use Rattle.base.specs.declared.Refusal.{Refusal}
+use Rattle.judge.specs.Properties.{Beside, restAt, valueAt}
+use Rattle.judge.specs.declared.valued.Fault.{Fault}
+use Rattle.judge.specs.declared.valued.Fault.the-variants.{Right, Whole, Element}
+use Rattle.judge.specs.Valued.{whole, sole, signed, parentOk, byValues, faceFault, faultOf, valued}
+use Rattle.judge.specs.Judge.{byFault}
 use Rattle.base.specs.Lists.{Each, Some}
 use Rattle.format.specs.Layout.{Property}
 use Rattle.valid.specs.Obeys.{Distinct, value, elementsOf, vertexCount, AreFaces, KeyTyped, ReadSigned, BoneParent, Keeps}
@@ -157,7 +156,7 @@ module _ (kind : ℕ) (s : List ℕ) (ps : List Property) (bones : ℕ) (b : Bes
       by-held h x y = by-test (eqb (l .held) h) (λ t. rw t (x (eqb-true (l .held) h t))) (λ t. rw t y)
 
 -- ---- all of 15
-passed : (f : Fault) (at : ℕ) (v : Verdict) → (byFault f at v .number ≡ 0) ↔ (f ≡ Right) × (v .number ≡ 0)
+passed : (f : Fault) (at : ℕ) (v : Refusal) → (byFault f at v .number ≡ 0) ↔ (f ≡ Right) × (v .number ≡ 0)
 passed Right at v = (λ e. (refl, e), λ h. h .1)
 passed Whole at v = (λ e. absurd (omega arith), λ h. cc)
 passed (Element k) at v = (λ e. absurd (omega arith), λ h. cc)

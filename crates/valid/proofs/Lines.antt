@@ -10,11 +10,11 @@ use Rattle.le.specs.Le.{val, le, numberAt}
 use Rattle.names.specs.Names.{same, readDigits, number, bytesOk}
 use Rattle.names.specs.Names.{numbered as numberIn}
 use Rattle.kinds.specs.Kinds.{mesh, blendShape, curve}
-use Rattle.rules.specs.declared.Line.{Line}
+use Rattle.rules.specs.Table.{Line, lines, single, N, texts, stringOf, flag, oneOf, vertices, weights, faces, indices, keys, boneNumber, linkTo}
 use Rattle.rules.specs.declared.Text.{Text}
 use Rattle.base.specs.Letters.{letters}
 use Rattle.props.specs.Types.{byte, int, long, string}
-use Rattle.rules.specs.Table.{lines, unpacked, single, N, texts, stringOf, flag, oneOf, vertices, weights, faces, indices, keys, boneNumber, linkTo}
+use Rattle.rules.specs.Packing.{unpacked}
 use Rattle.rules.specs.Rules.{lists, ruleIn, ofKind, linesOf, ruleOf}
 use Rattle.rules.proofs.Laws.{all, ruled}
 use Rattle.valid.proofs.Says.{says-eqb, says-and}

@@ -11,8 +11,7 @@ use Rattle.le.specs.Le.{val}
 use Rattle.base.proofs.Tests.{by-test}
 use Rattle.table.specs.declared.Row.{Row}
 use Rattle.body.specs.Body.{properties}
-use Rattle.rules.specs.declared.Line.{Line}
-use Rattle.rules.specs.Table.{linkTo}
+use Rattle.rules.specs.Table.{Line, linkTo}
 use Rattle.rules.specs.Rules.{linesOf, ruleOf}
 use Rattle.base.specs.Lists.{Each}
 use Rattle.format.specs.Layout.{Property, GoodBody}

@@ -10,9 +10,9 @@ use Rattle.le.specs.Le.{val, le, numberAt}
 use Rattle.base.proofs.Tests.{by-test}
 use Rattle.names.specs.Names.{same, readDigits, number}
 use Rattle.names.specs.Names.{numbered as numberIn}
-use Rattle.rules.specs.declared.Line.{Line}
+use Rattle.rules.specs.Table.{Line, numbered, lines, free}
 use Rattle.base.specs.Letters.{letters}
-use Rattle.rules.specs.Table.{numbered, unpacked, lines, free, nameOf}
+use Rattle.rules.specs.Packing.{unpacked}
 use Rattle.rules.specs.Rules.{isNumber, lists, ruleIn, ofKind, linesOf, ruleOf}
 use Rattle.rules.proofs.Laws.{all}
 use Rattle.base.specs.Lists.{Each, Some}
@@ -26,17 +26,17 @@ unfolding lists
 says-lists l name =
     by-test (eqb (l .numbered) numbered)
     (λ t.
-    let is = says-numbered name (nameOf l) in
+    let is = says-numbered name (l .name) in
     rw t (λ e. inl (eqb-true (l .numbered) numbered t, is .0 e), by is (eqb-true (l .numbered) numbered t)))
     (λ t.
-    let is = says-same name (nameOf l) in
+    let is = says-same name (l .name) in
     rw t (λ e. inr (eqb-false (l .numbered) numbered t, is .0 e), other is (eqb-false (l .numbered) numbered t)))
   where
-    by : {b : Bool} → Says b (Numbered (nameOf l) name) → l .numbered ≡ numbered → Lists l name → b ≡ true
+    by : {b : Bool} → Says b (Numbered (l .name) name) → l .numbered ≡ numbered → Lists l name → b ≡ true
     by is n (inl h) = is .1 (h .1)
     by is n (inr h) = absurd (h .0 n)
 
-    other : {b : Bool} → Says b (name ≡ nameOf l) → (l .numbered ≡ numbered → ⊥) → Lists l name → b ≡ true
+    other : {b : Bool} → Says b (name ≡ l .name) → (l .numbered ≡ numbered → ⊥) → Lists l name → b ≡ true
     other is n (inl h) = absurd (n (h .0))
     other is n (inr h) = is .1 (h .1)
 
@@ -48,8 +48,8 @@ startAlike (x ∷ a) (y ∷ b) = eqb x y
 
 unfoldable meet : Line → Line → Bool
 meet l m = cond (eqb (l .numbered) numbered)
-    (cond (eqb (m .numbered) numbered) (startAlike (nameOf l) (nameOf m)) (isNumber (numberIn (nameOf m) (nameOf l))))
-    (cond (eqb (m .numbered) numbered) (isNumber (numberIn (nameOf l) (nameOf m))) (same (nameOf l) (nameOf m)))
+    (cond (eqb (m .numbered) numbered) (startAlike (l .name) (m .name)) (isNumber (numberIn (m .name) (l .name))))
+    (cond (eqb (m .numbered) numbered) (isNumber (numberIn (l .name) (m .name))) (same (l .name) (m .name)))
 
 alike : (a b c d : List ℕ) → a ++ b ≡ c ++ d → startAlike a c ≡ true
 unfolding startAlike
@@ -60,17 +60,17 @@ alike (x ∷ a) b (y ∷ c) d e = let h : x ≡ y = cc in eq-eqb x y h
 both-meet : (l m : Line) (name : List ℕ) → Lists l name → Lists m name → meet l m ≡ true
 unfolding meet
 both-meet l m name (inl h) (inl k) =
-    rw (eq-eqb _ _ (h .0), eq-eqb _ _ (k .0)) (alike (nameOf l) _ (nameOf m) _ (sym (h .1 .spelt) ∙ k .1 .spelt))
+    rw (eq-eqb _ _ (h .0), eq-eqb _ _ (k .0)) (alike (l .name) _ (m .name) _ (sym (h .1 .spelt) ∙ k .1 .spelt))
 both-meet l m name (inl h) (inr k) =
     by-test (eqb (m .numbered) numbered) (λ t. absurd (k .0 (eqb-true _ _ t)))
-    (λ t. rw (eq-eqb _ _ (h .0), t) (says-numbered (nameOf m) (nameOf l) .1 (subst (Numbered (nameOf l)) (k .1) (h .1))))
+    (λ t. rw (eq-eqb _ _ (h .0), t) (says-numbered (m .name) (l .name) .1 (subst (Numbered (l .name)) (k .1) (h .1))))
 both-meet l m name (inr h) (inl k) =
     by-test (eqb (l .numbered) numbered) (λ t. absurd (h .0 (eqb-true _ _ t)))
-    (λ t. rw (t, eq-eqb _ _ (k .0)) (says-numbered (nameOf l) (nameOf m) .1 (subst (Numbered (nameOf m)) (h .1) (k .1))))
+    (λ t. rw (t, eq-eqb _ _ (k .0)) (says-numbered (l .name) (m .name) .1 (subst (Numbered (m .name)) (h .1) (k .1))))
 both-meet l m name (inr h) (inr k) =
     by-test (eqb (l .numbered) numbered) (λ t. absurd (h .0 (eqb-true _ _ t)))
     (λ t. by-test (eqb (m .numbered) numbered) (λ u. absurd (k .0 (eqb-true _ _ u)))
-    (λ u. rw (t, u) (says-same (nameOf l) (nameOf m) .1 (sym (h .1) ∙ k .1))))
+    (λ u. rw (t, u) (says-same (l .name) (m .name) .1 (sym (h .1) ∙ k .1))))
 
 -- ---- no line meets a later one of its kind
 abbrev clear : Line → Line → Bool

@@ -18,13 +18,13 @@ use Rattle.kinds.specs.Kinds.{mesh}
 use Rattle.body.specs.Body.{properties}
 use Rattle.faces.specs.declared.Face.{Face}
 use Rattle.faces.specs.Faces.{widthOf, facesIn}
-use Rattle.rules.specs.declared.Line.{Line}
+use Rattle.rules.specs.Table.{Line, lines, numbered, faces}
 use Rattle.base.specs.Letters.{letters}
-use Rattle.rules.specs.Table.{unpacked, lines, nameOf, numbered, faces}
+use Rattle.rules.specs.Packing.{unpacked}
 use Rattle.rules.specs.Rules.{lists, ruleIn, ofKind, linesOf, ruleOf, isN}
 use Rattle.rules.proofs.Laws.{all}
 use Rattle.judge.specs.Properties.{restAt}
-use Rattle.judge.specs.Judge.{nodeFaces}
+use Rattle.judge.specs.Valued.{nodeFaces}
 use Rattle.format.specs.Layout.{Property, GoodBody}
 use Rattle.base.proofs.Lists.{each-map}
 use Rattle.valid.specs.Lines.{Lists}
@@ -58,7 +58,7 @@ abbrev f : List ℕ
 f = letters "f"
 
 abbrev isF : Line → Bool
-isF l = not (eqb (l .held) (faces .held)) || (not (eqb (l .numbered) numbered) && same (nameOf l) f)
+isF l = not (eqb (l .held) (faces .held)) || (not (eqb (l .numbered) numbered) && same (l .name) f)
 
 lines-f : all isF lines ≡ true
 unfolding all lines letters unpacked same le val numberAt
@@ -66,7 +66,7 @@ lines-f = refl
 
 one-f : (l : Line) (name : List ℕ) → isF l ≡ true → Lists l name → l .held ≡ faces .held → name ≡ f
 one-f l name t (inl h) e = absurd (false≢true (rw (eq-eqb _ _ e, eq-eqb _ _ (h .0)) at t))
-one-f l name t (inr h) e = h .1 ∙ same-eq (nameOf l) f (rw (eq-eqb _ _ e, ne-eqb _ _ (h .0)) at t)
+one-f l name t (inr h) e = h .1 ∙ same-eq (l .name) f (rw (eq-eqb _ _ e, ne-eqb _ _ (h .0)) at t)
 
 held-f : (kind : ℕ) (name : List ℕ) → ruleOf kind name .held ≡ faces .held → name ≡ f
 held-f kind name =

@@ -7,12 +7,11 @@ use mathlib.Core.List.{List, [], _∷_}
 use lib.Dec.{eqb}
 use Rattle.base.proofs.Tests.{by-test}
 use Rattle.kinds.specs.Kinds.{mesh}
-use Rattle.rules.specs.declared.Line.{Line}
+use Rattle.rules.specs.Table.{Line, required, lines}
 use Rattle.base.specs.Letters.{letters}
-use Rattle.rules.specs.Table.{required, lines, nameOf}
 use Rattle.rules.specs.Rules.{ofKind, linesOf}
 use Rattle.judge.specs.Properties.{has}
-use Rattle.judge.specs.Judge.{isMissing, misses, partnered, unpartnered, lacks}
+use Rattle.judge.specs.Missing.{isMissing, misses, partnered, unpartnered, lacks}
 use Rattle.base.specs.Lists.{Each}
 use Rattle.format.specs.Layout.{Property}
 use Rattle.valid.specs.Obeys.{Has, HasRequired, Partnered}
@@ -33,11 +32,11 @@ module _ (kind : ℕ) (s : List ℕ) {starts : List ℕ} {ps : List Property} (d
   unfolding misses ofKind
   of-kind l ls = by-test (eqb (l .kind) kind) (λ t. rw t) (λ t. rw t)
 
-  none-missing : (ls : List Line) → Fails (misses (ofKind ls kind) s starts) (Each (λ l. l .kind ≡ kind → l .required ≡ required → Has (nameOf l) ps) ls)
+  none-missing : (ls : List Line) → Fails (misses (ofKind ls kind) s starts) (Each (λ l. l .kind ≡ kind → l .required ≡ required → Has (l .name) ps) ls)
   unfolding misses ofKind
   none-missing [] = (λ e. tt, λ h. refl)
   none-missing (l ∷ ls) =
-      let there = fails-not (has s starts (nameOf l)) (says-has s (nameOf l) d) in
+      let there = fails-not (has s starts (l .name)) (says-has s (l .name) d) in
       let wanted = fails-and (eqb (l .required) required) _ (says-eqb (l .required) required) there in
       let here = fails-and (eqb (l .kind) kind) _ (says-eqb (l .kind) kind) wanted in
       rw (of-kind l ls) (fails-or (eqb (l .kind) kind && isMissing l s starts) _ here (none-missing ls))

@@ -8,14 +8,17 @@ use mathlib.Core.List.{List, [], _∷_, _++_}
 use Rattle.base.proofs.Tests.{by-test}
 use Rattle.body.specs.Body.{properties}
 use Rattle.faces.specs.declared.Face.{Face}
-use Rattle.rules.specs.declared.Line.{Line}
+use Rattle.rules.specs.Table.{Line}
 use Rattle.rules.specs.Rules.{linesOf}
-use Rattle.judge.specs.declared.Beside.{Beside}
-use Rattle.judge.specs.declared.Fault.{Fault}
-use Rattle.judge.specs.declared.Fault.the-variants.{Right, Whole, Element}
-use Rattle.judge.specs.declared.Verdict.{Verdict}
-use Rattle.judge.specs.Properties.{ruleAt, besideOf}
-use Rattle.judge.specs.Judge.{refuse, isMistyped, typed, lacks, faultOf, byFault, valued, nodeFaces, nodeLinks, andThen, verdictAt, judgedBy, judgedAt, judged}
+use Rattle.judge.specs.Properties.{Beside, ruleAt, besideOf}
+use Rattle.judge.specs.declared.valued.Fault.{Fault}
+use Rattle.judge.specs.declared.valued.Fault.the-variants.{Right, Whole, Element}
+use Rattle.base.specs.declared.Refusal.{Refusal}
+use Rattle.judge.specs.Typed.{isMistyped, typed}
+use Rattle.judge.specs.Missing.{lacks}
+use Rattle.judge.specs.Valued.{faultOf, valued, nodeFaces, nodeLinks}
+use Rattle.base.specs.Refusals.{refusal}
+use Rattle.judge.specs.Judge.{byFault, andThen, verdictAt, judgedBy, judgedAt, judged}
 use Rattle.base.proofs.Lists.{each-map}
 use Rattle.valid.specs.Statements.{WellTyped, AllKept, JudgedExactly}
 use Rattle.valid.proofs.Agree.{ends, fits-rules, keeps-rules}
@@ -36,7 +39,7 @@ typed-only ls s before [] = inl refl
 typed-only ls s before (at ∷ more) =
     by-test (isMistyped ls s before at) (λ t. rw t (inr refl)) (λ t. rw t (typed-only ls s (before ++ (at ∷ [])) more))
 
-fault-only : (f : Fault) (at : ℕ) (next : Verdict) → Only 15 (next .number) → Only 15 (byFault f at next .number)
+fault-only : (f : Fault) (at : ℕ) (next : Refusal) → Only 15 (next .number) → Only 15 (byFault f at next .number)
 fault-only Right at next n = n
 fault-only Whole at next n = inr refl
 fault-only (Element k) at next n = inr refl
@@ -46,17 +49,17 @@ unfolding valued
 valued-only ls s b [] = inl refl
 valued-only ls s b (at ∷ more) = fault-only (faultOf (ruleAt ls s at) s at b) at (valued ls s b more) (valued-only ls s b more)
 
-same-number : (n : ℕ) (v : Verdict) (fs : List Face) (links : ℕ) → judgedBy n v fs links .number ≡ n
+same-number : (n : ℕ) (v : Refusal) (fs : List Face) (links : ℕ) → judgedBy n v fs links .number ≡ n
 same-number zero v fs links = refl
 same-number (suc n) v fs links = refl
 
 -- ---- one after the other, where the first says T, the second C and the third, of what the first lets pass, K
-module _ {T C K : Type 0} (v w : Verdict) (b : Bool) (first : Only 13 (v .number)) (third : Only 15 (w .number))
+module _ {T C K : Type 0} (v w : Refusal) (b : Bool) (first : Only 13 (v .number)) (third : Only 15 (w .number))
     (t : (v .number ≡ 0) ↔ T) (c : (b ≡ false) ↔ C) (k : T → (w .number ≡ 0) ↔ K) where
   abbrev number : ℕ
-  number = andThen (v .number) v (cond b (refuse 14 0) w) .number
+  number = andThen (v .number) v (cond b (refusal 14 0) w) .number
 
-  past : v .number ≡ 0 → number ≡ cond b (refuse 14 0) w .number
+  past : v .number ≡ 0 → number ≡ cond b (refusal 14 0) w .number
   past e = rw e
 
   stopped : v .number ≡ 13 → number ≡ 13

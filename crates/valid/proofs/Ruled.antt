@@ -4,10 +4,9 @@ use mathlib.Core.Path.{_≡_}
 use mathlib.Core.Bool.{true}
 use mathlib.Core.List.{List}
 use Rattle.kinds.specs.Kinds.{mesh}
-use Rattle.rules.specs.declared.Line.{Line}
+use Rattle.rules.specs.Table.{Line, single}
 use Rattle.base.specs.Letters.{letters}
 use Rattle.props.specs.Types.{float}
-use Rattle.rules.specs.Table.{single}
 use Rattle.rules.specs.Rules.{takes, ruleOf}
 use Rattle.judge.specs.Properties.{keyTypes}
 use Rattle.base.specs.Lists.{Each}

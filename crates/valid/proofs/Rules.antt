@@ -8,9 +8,13 @@ use mathlib.Core.List.{List, []}
 use Rattle.body.specs.Body.{firstNamed, properties}
 use Rattle.faces.specs.declared.Face.{Face}
 use Rattle.rules.specs.Rules.{linesOf}
-use Rattle.judge.specs.declared.Verdict.{Verdict}
+use Rattle.base.specs.declared.Refusal.{Refusal}
 use Rattle.judge.specs.Properties.{has, besideOf}
-use Rattle.judge.specs.Judge.{refuse, typed, lacks, valued, nodeFaces, nodeLinks, andThen, verdictAt, judgedBy, judgedAt, judged}
+use Rattle.judge.specs.Typed.{typed}
+use Rattle.judge.specs.Missing.{lacks}
+use Rattle.judge.specs.Valued.{valued, nodeFaces, nodeLinks}
+use Rattle.base.specs.Refusals.{refusal}
+use Rattle.judge.specs.Judge.{andThen, verdictAt, judgedBy, judgedAt, judged}
 use Rattle.format.specs.Layout.{Property, GoodBody}
 use Rattle.valid.specs.Obeys.{Obeys}
 use Rattle.valid.proofs.Ruled.{ObeysRules}
@@ -23,11 +27,11 @@ use Rattle.valid.proofs.Missing.{lacks-none}
 use Rattle.valid.proofs.Beside.{beheld}
 use Rattle.valid.proofs.Held.{valued-right}
 
-both : (n : ℕ) (v w : Verdict) → v .number ≡ n → (andThen n v w .number ≡ 0) ↔ (n ≡ 0) × (w .number ≡ 0)
+both : (n : ℕ) (v w : Refusal) → v .number ≡ n → (andThen n v w .number ≡ 0) ↔ (n ≡ 0) × (w .number ≡ 0)
 both zero v w h = (λ e. (refl, e), λ p. p .1)
 both (suc n) v w h = (λ e. absurd (omega arith), λ p. absurd (omega (arith, p .0)))
 
-counted : (n : ℕ) (v : Verdict) (fs : List Face) (links : ℕ) → (judgedBy n v fs links .number ≡ 0) ↔ (n ≡ 0)
+counted : (n : ℕ) (v : Refusal) (fs : List Face) (links : ℕ) → (judgedBy n v fs links .number ≡ 0) ↔ (n ≡ 0)
 counted zero v fs links = (λ e. refl, λ e. refl)
 counted (suc n) v fs links = (λ e. e, λ e. e)
 
@@ -43,7 +47,7 @@ module _ (kind : ℕ) (s : List ℕ) (bones : ℕ) where
       let missing = lacks-none kind s d in
       let values = valued (linesOf kind) s (besideOf kind s starts bones) starts in
       let first = typed (linesOf kind) s [] starts in
-      let second = cond (lacks kind (linesOf kind) s starts) (refuse 14 0) values in
+      let second = cond (lacks kind (linesOf kind) s starts) (refusal 14 0) values in
       let ordered = both (first .number) first second refl in
       let after = refused (lacks kind (linesOf kind) s starts) 14 0 values (λ e. omega arith) in (
         λ e.

@@ -15,7 +15,7 @@ use Rattle.rules.specs.Table.{faces}
 use Rattle.rules.specs.Rules.{linesOf, ruleOf, isN}
 use Rattle.props.specs.Step.{codeAt, lengthAt}
 use Rattle.judge.specs.Properties.{ruleAt, restAt}
-use Rattle.judge.specs.Judge.{heldFaces, nodeFaces}
+use Rattle.judge.specs.Valued.{heldFaces, nodeFaces}
 use Rattle.base.specs.Lists.{Each}
 use Rattle.format.specs.Layout.{Property, propertyBytes, GoodBody}
 use Rattle.format.proofs.Properties.{length-property}

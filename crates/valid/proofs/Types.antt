@@ -7,12 +7,12 @@ use mathlib.Core.Bool.{Bool, true, false, cond, not, true≢false}
 use mathlib.Core.List.{List, [], _∷_, _++_}
 use lib.Dec.{eqb}
 use Rattle.names.specs.Names.{same}
-use Rattle.rules.specs.declared.Line.{Line}
-use Rattle.rules.specs.Table.{single}
+use Rattle.rules.specs.Table.{Line, single}
 use Rattle.rules.specs.Rules.{takes, misfits, linesOf, ruleOf}
 use Rattle.judge.specs.Properties.{has}
-use Rattle.judge.specs.declared.Verdict.{Verdict}
-use Rattle.judge.specs.Judge.{refuse, isMistyped, typed}
+use Rattle.base.specs.declared.Refusal.{Refusal}
+use Rattle.judge.specs.Typed.{isMistyped, typed}
+use Rattle.base.specs.Refusals.{refusal}
 use Rattle.base.specs.Lists.{Each}
 use Rattle.format.specs.Layout.{Property}
 use Rattle.valid.specs.Obeys.{Has, Distinct}
@@ -21,7 +21,7 @@ use Rattle.valid.proofs.Says.{Says, says-eqb, says-same, says-or, Fails
 use Rattle.valid.proofs.Described.{At, Described, none, one}
 use Rattle.valid.proofs.Names.{has-snoc}
 
-pub refused : (b : Bool) (n at : ℕ) (v : Verdict) → (n ≡ 0 → ⊥) → (cond b (refuse n at) v .number ≡ 0) ↔ (b ≡ false) × (v .number ≡ 0)
+pub refused : (b : Bool) (n at : ℕ) (v : Refusal) → (n ≡ 0 → ⊥) → (cond b (refusal n at) v .number ≡ 0) ↔ (b ≡ false) × (v .number ≡ 0)
 refused true n at v h = (λ e. absurd (h e), λ p. absurd (true≢false (p .0)))
 refused false n at v h = (λ e. (refl, e), λ p. p .1)
 

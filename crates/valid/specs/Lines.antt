@@ -5,9 +5,8 @@ use mathlib.Core.Path.{_≡_}
 use mathlib.Core.Logic.{_⊎_}
 use mathlib.Core.List.{List, _++_}
 use Rattle.text.specs.Text.{decimal}
-use Rattle.rules.specs.declared.Line.{Line}
+use Rattle.rules.specs.Table.{Line, numbered, lines, N, keyType}
 use Rattle.props.specs.Types.{byte, short, int, float, v4}
-use Rattle.rules.specs.Table.{numbered, lines, nameOf, N, keyType}
 use Rattle.base.specs.Lists.{Each}
 
 -- ---- names
@@ -20,7 +19,7 @@ pub record Numbered (prefix name : List ℕ) : Type 0 where
 
 -- a line lists a name: as it stands, or with `%d` after it
 abbrev pub Lists : Line → (name : List ℕ) → Type 0
-Lists l name = ((l .numbered ≡ numbered) × Numbered (nameOf l) name) ⊎ ((l .numbered ≡ numbered → ⊥) × (name ≡ nameOf l))
+Lists l name = ((l .numbered ≡ numbered) × Numbered (l .name) name) ⊎ ((l .numbered ≡ numbered → ⊥) × (name ≡ l .name))
 
 -- what the line of a kind and name says of a property; "Names not listed are free"
 abbrev pub ByLine : (kind : ℕ) (name : List ℕ) → (Line → Type 0) → Type 0

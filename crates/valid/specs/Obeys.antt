@@ -10,10 +10,9 @@ use Rattle.le.specs.Le.{numberAt}
 use Rattle.names.specs.Names.{same}
 use Rattle.kinds.specs.Kinds.{mesh}
 use Rattle.faces.specs.Faces.{widthOf}
-use Rattle.rules.specs.declared.Line.{Line}
+use Rattle.rules.specs.Table.{Line, single, required, lines, texts, stringOf, flag, oneOf, vertices, weights, faces, indices, keys, boneNumber}
 use Rattle.base.specs.Letters.{letters}
 use Rattle.props.specs.Types.{float, v4}
-use Rattle.rules.specs.Table.{single, required, lines, nameOf, texts, stringOf, flag, oneOf, vertices, weights, faces, indices, keys, boneNumber}
 use Rattle.base.specs.Lists.{Each, Some}
 use Rattle.format.specs.Layout.{Property}
 use Rattle.valid.specs.Lines.{ByLine, IsN, Takes}
@@ -35,7 +34,7 @@ FitsLine l p = Takes (l .types) (p .code) × (l .array ≡ single → p .element
 
 -- not "required ... property missing"
 abbrev pub HasRequired : (kind : ℕ) → List Property → Type 0
-HasRequired kind ps = Each (λ l. l .kind ≡ kind → l .required ≡ required → Has (nameOf l) ps) lines
+HasRequired kind ps = Each (λ l. l .kind ≡ kind → l .required ≡ required → Has (l .name) ps) lines
 
 -- not "partner property missing": "wb and wv come only together and with mi"
 abbrev pub Partnered : List Property → Type 0

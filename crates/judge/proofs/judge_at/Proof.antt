@@ -4,8 +4,8 @@ use mathlib.Core.Path.{sym, ap, _∙_}
 use mathlib.Core.List.{map}
 use lib.ListN.{length, take, replicate, length-map}
 use lib.Seq.{length-take-le}
-use Rattle.rules.specs.Table.{linesFrom}
-use Rattle.judge.specs.Contract.{lineNumber}
+use Rattle.rules.specs.Packing.{linesFrom}
+use Rattle.judge.specs.Private.{lineNumber}
 use Rattle.judge.proofs.Values.{first-numbers, mistyped, lacking, by-values, refused-bounded}
 use borrow.Author.Needs.{needs}
 use Rattle.judge.proofs.judge_at.Statement.{statement}

@@ -6,7 +6,7 @@ use lib.ListN.{length, take, replicate}
 use lib.Seq.{length-take-le}
 use borrow.Author.Tests.{not-true, not-false}
 use Rattle.body.proofs.Places.{starts-room}
-use Rattle.rules.specs.Table.{linesFrom}
+use Rattle.rules.specs.Packing.{linesFrom}
 use Rattle.rules.specs.Rules.{linesOf}
 use Rattle.rules.proofs.Laws.{lines-room, lines-taken}
 use Rattle.links.proofs.Turns.{index-few, index-within, row-unknown, row-known, body-fits}
@@ -50,10 +50,10 @@ module _ (c : tie.After-put-lines) where
   start = bodied .before .before .before .before .before .before .before .before
 
   lines-fit : c .put-lines .result ≤ length (c .put-lines .last .1 .0)
-  lines-fit = let p = c .put-lines .ensures in lines-room (linesOf (start .args .row .kind)) (replicate 14 (replicate 12 0)) (p .1 .1) (p .0) (p .1 .0)
+  lines-fit = let p = c .put-lines .ensures in lines-room (start .args .row .kind) (replicate 14 (replicate 12 0)) (p .1 .1) (p .0) (p .1 .0)
 
   lines-are : linesFrom (take (c .put-lines .result) (c .put-lines .last .1 .0)) ≡ linesOf (start .args .row .kind)
-  lines-are = let p = c .put-lines .ensures in lines-taken (linesOf (start .args .row .kind)) (replicate 14 (replicate 12 0)) (p .1 .1) (p .0) (p .1 .0)
+  lines-are = let p = c .put-lines .ensures in lines-taken (start .args .row .kind) (replicate 14 (replicate 12 0)) (p .1 .1) (p .0) (p .1 .0)
 
 array-share-prefix-lines : tie.Need-array-share-prefix-lines
 array-share-prefix-lines c = lines-fit (c .before)

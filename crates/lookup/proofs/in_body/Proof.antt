@@ -14,8 +14,8 @@ starts : (d : tie.After-index-of) → d .index-of .result .count ≡ length (tak
 starts d = let a = d .before .before .before .args in prefix (a .body .now) (a .name .now) (a .count) (d .index-of .ensures .0) (d .index-of .ensures .1)
 
 -- the property that was found is one of them, or none
-at-most : (c : tie.After-find) → c .find .result ≤ c .before .before .before .before .before .before .index-of .result .count
-at-most c = omega (arith, c .find .ensures .1, starts (c .before .before .before .before .before .before))
+at-most : (c : tie.After-first-named) → c .first-named .result ≤ c .before .before .before .before .before .before .index-of .result .count
+at-most c = omega (arith, c .first-named .ensures .1, starts (c .before .before .before .before .before .before))
 
 index-of-requires : tie.Need-index-of-requires
 index-of-requires c κs = search needs
@@ -43,18 +43,18 @@ array-share-prefix-starts c =
     let d = c .before .before .before .before in
     omega (arith, d .index-of .ensures .1, starts d, length-take (d .index-of .result .count) (d .index-of .result .starts))
 
-slice-aggregate-find : tie.Need-slice-aggregate-find
-slice-aggregate-find c = starts (c .before .before .before .before .before)
+slice-aggregate-first-named : tie.Need-slice-aggregate-first-named
+slice-aggregate-first-named c = starts (c .before .before .before .before .before)
 
-find-requires : tie.Need-find-requires
-find-requires c κs = search needs
+first-named-requires : tie.Need-first-named-requires
+first-named-requires c κs = search needs
 
 returns-3 : tie.Need-returns-3
 returns-3 c =
     let f = c .before in
     let d = f .before .before .before .before .before .before in
     let a = d .before .before .before .args in
-    absent (a .body .now) (a .name .now) (a .count) (d .index-of .ensures .0) (f .before .before .before .if1 .left) (f .before .before .if2 .left) (f .find .ensures .0) (c .if3 .taken)
+    absent (a .body .now) (a .name .now) (a .count) (d .index-of .ensures .0) (f .before .before .before .if1 .left) (f .before .before .if2 .left) (f .first-named .ensures .0) (c .if3 .taken)
 
 mul-at : tie.Need-mul-at
 mul-at c = omega (arith, at-most (c .before), c .before .before .before .before .before .before .before .index-of .ensures .1)
@@ -79,7 +79,7 @@ returns-4 c =
     let f = c .before .before in
     let d = f .before .before .before .before .before .before in
     let a = d .before .before .before .args in
-    ap (λ n. At n (getD (d .index-of .result .starts) (f .find .result + 1) 0)) (c .data-at .ensures .0) ∙ there (a .body .now) (a .name .now) (a .count) (d .index-of .ensures .0) (f .before .before .before .if1 .left) (f .before .before .if2 .left) (f .find .ensures .0) (c .before .if3 .left)
+    ap (λ n. At n (getD (d .index-of .result .starts) (f .first-named .result + 1) 0)) (c .data-at .ensures .0) ∙ there (a .body .now) (a .name .now) (a .count) (d .index-of .ensures .0) (f .before .before .before .if1 .left) (f .before .before .if2 .left) (f .first-named .ensures .0) (c .before .if3 .left)
 
 pub in-body-spec : {M : Type 1} → statement M
 in-body-spec =
@@ -91,8 +91,8 @@ in-body-spec =
     array-read-if2
     returns-2
     array-share-prefix-starts
-    slice-aggregate-find
-    find-requires
+    slice-aggregate-first-named
+    first-named-requires
     returns-3
     mul-at
     array-read-at

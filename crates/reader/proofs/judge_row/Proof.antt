@@ -3,8 +3,7 @@ use mathlib.Core.Path.{sym, ap, _∙_, subst}
 use lib.ListN.{length}
 use borrow.Author.Needs.{needs}
 use borrow.Author.Tests.{not-true, not-false}
-use Rattle.judge.specs.Judge.{judged}
-use Rattle.judge.specs.Contract.{Bounded}
+use Rattle.judge.specs.Judge.{judged, Bounded}
 use Rattle.format.specs.Rows.{bodyOf}
 use Rattle.reader.proofs.Judging.{judged-known, judged-unknown, unjudged-bounded}
 use Rattle.reader.proofs.judge_row.Statement.{statement}

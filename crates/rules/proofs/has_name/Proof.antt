@@ -11,7 +11,7 @@ is-numbered-requires c κs = search needs
 returns : tie.Need-returns
 returns c =
     let a = c .before .before .before .before .args in
-    c .is-numbered .ensures ∙ sym (lists-numbered (a .name .now) (a .l) (c .before .if1 .taken))
+    c .is-numbered .ensures ∙ sym (lists-numbered (a .name .now) (a .e) (c .before .if1 .taken))
 
 four-of-requires : tie.Need-four-of-requires
 four-of-requires c κs = search needs
@@ -21,7 +21,7 @@ returns-2 c =
     let f = c .before in
     let e = f .before in
     let s = e .before .before .before in
-    sym (lists-other (s .args .name .now) (s .args .l) (e .if1 .left) (f .four-of .ensures) (s .pre) (c .if2 .taken))
+    sym (lists-other (s .args .name .now) (s .args .e) (e .if1 .left) (f .four-of .ensures) (s .pre) (c .if2 .taken))
 
 is-plain-requires : tie.Need-is-plain-requires
 is-plain-requires c κs = search needs
@@ -30,7 +30,7 @@ returns-3 : tie.Need-returns-3
 returns-3 c =
     let e = c .before .before .before in
     let a = e .before .before .before .args in
-    c .is-plain .ensures ∙ sym (lists-plain (a .name .now) (a .l) (e .if1 .left))
+    c .is-plain .ensures ∙ sym (lists-plain (a .name .now) (a .e) (e .if1 .left))
 
 pub has-name-spec : {M : Type 1} → statement M
 has-name-spec =

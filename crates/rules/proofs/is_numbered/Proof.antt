@@ -3,7 +3,7 @@ use mathlib.Core.Path.{_≡_, sym, ap, _∙_}
 use lib.Seq.{length-take-le}
 use borrow.Author.Needs.{needs}
 use Rattle.names.specs.Names.{numbered as numberIn}
-use Rattle.rules.specs.Table.{nameOf}
+use Rattle.rules.specs.Packing.{lineOf}
 use Rattle.rules.specs.Rules.{isNumber}
 use Rattle.rules.proofs.Names.{within, taken}
 use Rattle.rules.proofs.is_numbered.Statement.{statement}
@@ -29,7 +29,7 @@ enum-told-2 c = search needs
 
 answers : (c : tie.After-numbered) →
     let a = c .before .before .before .before .before .args in
-    c .numbered .result ≡ numberIn (a .name .now) (nameOf (a .l))
+    c .numbered .result ≡ numberIn (a .name .now) (lineOf (a .e) .name)
 answers c =
     let n = c .before .before .before in
     c .numbered .ensures .0 ∙ ap (numberIn (n .before .before .args .name .now)) (taken _ _ _ _ (n .name-of .ensures))

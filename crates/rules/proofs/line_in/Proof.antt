@@ -1,5 +1,4 @@
--- `rules::line_in`: the line from its row, or the free one.
-use mathlib.Core.Path.{sym, _∙_}
+-- `rules::line_in`: the entry from its row, or the free one.
 use borrow.Author.Needs.{needs}
 use Rattle.le.specs.Le.{val, numberAt}
 use Rattle.base.specs.Letters.{letters}
@@ -13,22 +12,22 @@ mul-row c = search needs
 shared-slice-copy-out-row : tie.Need-shared-slice-copy-out-row
 shared-slice-copy-out-row c = search needs
 
-line-from-requires : tie.Need-line-from-requires
-line-from-requires c κs = search needs
+entry-from-requires : tie.Need-entry-from-requires
+entry-from-requires c κs = search needs
 
 returns : tie.Need-returns
 returns c =
     let t = c .before .before in
-    c .line-from .ensures ∙ row-inside (t .before .args .lines .now) (t .before .args .i) (t .if1 .taken)
+    row-inside (t .before .args .lines .now) (t .before .args .i) (t .if1 .taken) (c .entry-from .ensures)
 
-line-from-requires-2 : tie.Need-line-from-requires-2
-line-from-requires-2 c κs = search needs
+entry-from-requires-2 : tie.Need-entry-from-requires-2
+entry-from-requires-2 c κs = search needs
 
 returns-2 : tie.Need-returns-2
 unfolding letters numberAt val
 returns-2 c =
     let e = c .before in
-    c .line-from2 .ensures ∙ sym (row-past (e .before .args .lines .now) (e .before .args .i) (e .if1 .left))
+    row-past (e .before .args .lines .now) (e .before .args .i) (e .if1 .left) (c .entry-from2 .ensures)
 
 pub line-in-spec : {M : Type 1} → statement M
 line-in-spec =
@@ -36,7 +35,7 @@ line-in-spec =
     (tie.spec
     mul-row
     shared-slice-copy-out-row
-    line-from-requires
+    entry-from-requires
     returns
-    line-from-requires-2
+    entry-from-requires-2
     returns-2)

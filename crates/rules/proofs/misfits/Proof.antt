@@ -12,7 +12,7 @@ takes-requires c κs = search needs
 returns : tie.Need-returns
 returns c =
     let a = c .before .before .args in
-    ap (λ t. not t || (eqb (a .l .array) 0 && not (eqb (a .elements) 1))) (c .before .takes .ensures)
+    ap (λ t. not t || (not (eqb (a .e .array) 1) && not (eqb (a .elements) 1))) (c .before .takes .ensures)
 
 pub misfits-spec : {M : Type 1} → statement M
 misfits-spec = tie.close (tie.spec takes-requires returns)

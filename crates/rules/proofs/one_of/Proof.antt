@@ -10,9 +10,10 @@ use borrow.Author.Needs.{needs}
 use Rattle.le.specs.Le.{val, numberAt}
 use Rattle.rules.specs.declared.Text.{Text}
 use Rattle.base.specs.Letters.{letters}
-use Rattle.rules.specs.Table.{texts, textFrom}
-use Rattle.rules.specs.Rules.{inSet, isOneOf}
-use Rattle.rules.proofs.Laws.{set-passed, text-passed, text-hit, text-ended}
+use Rattle.rules.specs.Packing.{stringsOf}
+use Rattle.rules.specs.Rules.{isOneOf}
+use Rattle.rules.specs.Private.{textFrom}
+use Rattle.rules.proofs.Laws.{texts, inSet, set-says, set-passed, text-passed, text-hit, text-ended}
 use Rattle.rules.proofs.one_of.Statement.{statement}
 use Rattle.rules.proofs.one_of.Tie as tie
 
@@ -20,14 +21,13 @@ abbrev textRow : Text → List ℕ
 textRow t = t .set ∷ t .size ∷ t .first ∷ t .second ∷ t .third ∷ []
 
 abbrev Inv-loop : tie.InvT-loop
-Inv-loop set bytes strings i₀ i = inSet (drop i texts) set bytes ≡ isOneOf set bytes
+Inv-loop set bytes strings i₀ i = inSet (drop i texts) set bytes ≡ isOneOf (stringsOf set) bytes
 
 abbrev μ-loop : tie.MeasureT-loop
 μ-loop set bytes strings i₀ i = 20 - i
 
 loop-holds : tie.Need-loop-holds Inv-loop μ-loop
-unfolding isOneOf
-loop-holds c = refl
+loop-holds c = let a = c .before .args in set-says (a .set) (a .bytes .now)
 
 mul-row : tie.Need-mul-row Inv-loop μ-loop
 mul-row c = search needs

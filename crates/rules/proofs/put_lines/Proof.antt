@@ -10,13 +10,15 @@ use Rattle.le.specs.Le.{val, numberAt}
 use Rattle.base.proofs.Answers.{clauses}
 use Rattle.base.proofs.Stores.{sets-more}
 use Rattle.base.specs.Letters.{letters}
-use Rattle.rules.specs.Table.{lines, free, rowOf}
+use Rattle.names.specs.Names.{same}
+use Rattle.rules.specs.Table.{lines, free}
+use Rattle.rules.specs.Packing.{placeIn, columnsOf}
 use Rattle.rules.proofs.Together.{many, put-none, put-short, put-all, row-at}
 use Rattle.rules.proofs.put_lines.Statement.{statement}
 use Rattle.rules.proofs.put_lines.Tie as tie
 
 abbrev Inv-loop : tie.InvT-loop
-Inv-loop kind rows₀ from to count table i₀ rows i = (i ≤ count) × (rows ≡ sets rows₀ 0 (map rowOf (take i (drop from lines))))
+Inv-loop kind rows₀ from to count table i₀ rows i = (i ≤ count) × (rows ≡ sets rows₀ 0 (map columnsOf (take i (drop from lines))))
 
 abbrev μ-loop : tie.MeasureT-loop
 μ-loop kind rows₀ from to count table i₀ rows i = count - i
@@ -39,7 +41,7 @@ loop-holds c = (omega arith, refl)
 -- as many rows as were lent
 length-put : (c : tie.At-loop Inv-loop μ-loop) → length (c .loop .rows) ≡ length (c .before .before .before .before .args .rows .now)
 length-put c =
-    ap length (c .loop .inv .1) ∙ length-sets (c .before .before .before .before .args .rows .now) 0 (map rowOf (take (c .loop .i) (drop (c .before .before .before .span-of .result .from) lines)))
+    ap length (c .loop .inv .1) ∙ length-sets (c .before .before .before .before .args .rows .now) 0 (map columnsOf (take (c .loop .i) (drop (c .before .before .before .span-of .result .from) lines)))
 
 -- in the loop a line is in the table, and there is room for it
 module _ (c : tie.In-loop Inv-loop μ-loop) where
@@ -77,13 +79,13 @@ loop-less : tie.Need-loop-less Inv-loop μ-loop
 loop-less c = omega arith
 
 loop-again : tie.Need-loop-again Inv-loop μ-loop
-unfolding lines letters numberAt val
+unfolding lines letters numberAt val same placeIn
 loop-again c =
     let s = spanned (c .before) in
     let from = s .span-of .result .from in
     let l = head (c .before) .loop in
     let below = inside (c .before) in
-    (omega arith, sets-more rowOf (drop from lines) (l .i) free (omega (arith, length-drop from lines, many, below)) (row-at from (l .i) below) (s .before .args .rows .now) (l .inv .1))
+    (omega arith, sets-more columnsOf (drop from lines) (l .i) free (omega (arith, length-drop from lines, many, below)) (row-at from (l .i) below) (s .before .args .rows .now) (l .inv .1))
 
 same-length : tie.Need-same-length Inv-loop μ-loop
 same-length c = length-put (c .before)
@@ -96,7 +98,7 @@ returns-3 c =
     let done : l .loop .i ≡ s .span-of .result .to - from = omega (arith, l .loop .inv .0, c .loop-test .left) in
     clauses
     (put-all _ (s .span-of .ensures) _ (omega (arith, l .before .if2 .left))
-    (l .loop .inv .1 ∙ ap (λ n. sets (s .before .args .rows .now) 0 (map rowOf (take n (drop from lines)))) done))
+    (l .loop .inv .1 ∙ ap (λ n. sets (s .before .args .rows .now) 0 (map columnsOf (take n (drop from lines)))) done))
 
 pub put-lines-spec : {M : Type 1} → statement M
 put-lines-spec =

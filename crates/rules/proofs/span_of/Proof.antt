@@ -5,7 +5,7 @@ use mathlib.Core.Path.{_≡_, refl, _∙_}
 use lib.ListN.{drop, drop-of-length-le}
 use borrow.Author.Needs.{needs}
 use Rattle.rules.specs.Table.{lines}
-use Rattle.rules.specs.Contract.{before, run, spanOf}
+use Rattle.rules.specs.Private.{before, run, spanOf}
 use Rattle.rules.proofs.Spans.{kinds, member, span-within, span-hit, span-passed, nowhere}
 use Rattle.rules.proofs.span_of.Statement.{statement}
 use Rattle.rules.proofs.span_of.Tie as tie

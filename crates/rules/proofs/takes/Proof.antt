@@ -1,18 +1,19 @@
 -- `rules::takes`: the test of each group of types in turn.
 use mathlib.Core.Path.{sym, ap}
 use borrow.Author.Tests.{ne-eqb}
+use Rattle.rules.specs.Packing.{typesFrom}
 use Rattle.rules.specs.Rules.{takes}
 use Rattle.rules.proofs.takes.Statement.{statement}
 use Rattle.rules.proofs.takes.Tie as tie
 
 returns : tie.Need-returns
-returns c = ap (λ t. takes t (c .before .args .code)) (sym (c .match .keys1))
+returns c = ap (λ t. takes (typesFrom t) (c .before .args .code)) (sym (c .match .keys1))
 
 returns-2 : tie.Need-returns-2
-returns-2 c = ap (λ t. takes t (c .before .args .code)) (sym (c .match .keys2))
+returns-2 c = ap (λ t. takes (typesFrom t) (c .before .args .code)) (sym (c .match .keys2))
 
 returns-3 : tie.Need-returns-3
-returns-3 c = ap (λ t. takes t (c .before .args .code)) (sym (c .match .keys3))
+returns-3 c = ap (λ t. takes (typesFrom t) (c .before .args .code)) (sym (c .match .keys3))
 
 returns-4 : tie.Need-returns-4
 returns-4 c =

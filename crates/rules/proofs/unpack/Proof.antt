@@ -1,8 +1,8 @@
--- `rules::unpack`: three numbers of four bytes, stored one behind the other.
+-- `rules::unpack`: three numbers of four bytes, stored one after the other.
 use native.Mathlib.Omega.{arith}
 use mathlib.Core.Path.{_≡_}
 use borrow.Author.Needs.{needs}
-use Rattle.rules.specs.Table.{unpacked}
+use Rattle.rules.specs.Packing.{unpacked}
 use Rattle.rules.proofs.Names.{stored, lettered}
 use Rattle.rules.proofs.unpack.Statement.{statement}
 use Rattle.rules.proofs.unpack.Tie as tie

@@ -1,0 +1,86 @@
+-- `judge::valued::types_of`: the string at the place that the search gives, or none.
+use mathlib.Core.Path.{_≡_, sym, ap}
+use borrow.Author.Tests.{lt-ltb, le-ltb}
+use Rattle.base.specs.Letters.{letters}
+use Rattle.judge.specs.Properties.{keyTypes, typesOf}
+use borrow.Author.Needs.{needs}
+use Rattle.judge.proofs.valued.types_of.Statement.{statement}
+use Rattle.judge.proofs.valued.types_of.Tie as tie
+
+slice-aggregate-first-named : tie.Need-slice-aggregate-first-named
+slice-aggregate-first-named c = search needs
+
+first-named-requires : tie.Need-first-named-requires
+first-named-requires c κs = search needs
+
+returns : tie.Need-returns
+unfolding typesOf letters
+returns c = rw (← c .before .first-named .ensures .0, le-ltb _ _ (c .if1 .taken))
+
+mul-rest-at : tie.Need-mul-rest-at
+mul-rest-at c = search needs
+
+shared-slice-read-rest-at : tie.Need-shared-slice-read-rest-at
+shared-slice-read-rest-at c = search needs
+
+rest-at-requires : tie.Need-rest-at-requires
+rest-at-requires c κs = search needs
+
+slice-aggregate-is-text : tie.Need-slice-aggregate-is-text
+slice-aggregate-is-text c = search needs
+
+is-text-requires : tie.Need-is-text-requires
+is-text-requires c κs = search needs
+
+-- what the string at that place wants is what is sought
+wanted : (c : tie.After-rest-at) →
+    let a = c .before .before .before .before .before .before .before .args in
+    typesOf (a .body .now) (a .starts .now) ≡ keyTypes (c .rest-at .result .now)
+unfolding typesOf letters
+wanted c =
+    let t = c .before .before in
+    rw (← t .before .first-named .ensures .0, lt-ltb _ _ (t .if1 .left)) (ap keyTypes (sym (c .rest-at .ensures)))
+
+returns-2 : tie.Need-returns-2
+unfolding letters
+returns-2 c =
+    let t = c .before in
+    rw (wanted (t .before .before), ← t .is-text .ensures, c .if2 .taken)
+
+slice-aggregate-is-text-2 : tie.Need-slice-aggregate-is-text-2
+slice-aggregate-is-text-2 c = search needs
+
+is-text-requires-2 : tie.Need-is-text-requires-2
+is-text-requires-2 c κs = search needs
+
+returns-3 : tie.Need-returns-3
+unfolding letters
+returns-3 c =
+    let t = c .before in
+    let s = t .before .before in
+    rw (wanted (s .before .before .before), ← s .before .is-text .ensures, s .if2 .left, ← t .is-text2 .ensures, c .if3 .taken)
+
+returns-4 : tie.Need-returns-4
+unfolding letters
+returns-4 c =
+    let t = c .before in
+    let s = t .before .before in
+    rw (wanted (s .before .before .before), ← s .before .is-text .ensures, s .if2 .left, ← t .is-text2 .ensures, c .if3 .left)
+
+pub types-of-spec : {M : Type 1} → statement M
+types-of-spec =
+    tie.close
+    (tie.spec
+    slice-aggregate-first-named
+    first-named-requires
+    returns
+    mul-rest-at
+    shared-slice-read-rest-at
+    rest-at-requires
+    slice-aggregate-is-text
+    is-text-requires
+    returns-2
+    slice-aggregate-is-text-2
+    is-text-requires-2
+    returns-3
+    returns-4)

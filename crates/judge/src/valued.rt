@@ -1,0 +1,272 @@
+// 15: any other property rule broken; and what the properties count.
+use crate::Judged;
+ghost use mathlib.Core.Path.{_≡_};
+ghost use Prim.Native.Nat.{_+_, _≤_, _<_};
+ghost use mathlib.Core.List.{map};
+ghost use lib.ListN.{length};
+ghost use Rattle.base.specs.Limits.{mostProperties};
+ghost use Rattle.le.specs.Le.{numberAt};
+ghost use Rattle.rules.specs.Packing.{typesFrom, lineOf, linesFrom};
+ghost use Rattle.judge.specs.Properties.{restAt, valueAt, lengthOf, valueOf, typesOf, besideOf};
+ghost use Rattle.judge.specs.Valued.{whole, sole, signed, parentOk, faultOf, facesAt, faceFault, linkCount};
+ghost use Rattle.judge.specs.Judge.{Bounded};
+ghost use Rattle.judge.specs.Private.{StartsWithin, lineNumber, besideFrom, keptBy, keptAt, valuedTo};
+
+// Types, as a line has them.
+const FLOAT: u32 = props::FLOAT as u32;
+
+const V4: u32 = props::V4 as u32;
+
+// What a property is held against, in numbers: a mesh's number of vertices, and mi times that; the lengths of vi and of kb, and
+// the types that kp wants; and the number of Bones beside the node.
+struct Measures {
+    vertices: u32,
+    weights: u64,
+    indices: u32,
+    keys: u32,
+    types: u32,
+    bones: u32,
+}
+
+// The first value of the property at a place.
+fn value_at(body: &[u8], at: usize) -> u32
+    ensures { λ r. ⌜ r ≡ valueAt (now (body .entry)) at ⌝ }
+{
+    let width = faces::width_of(props::code_at(body, at));
+    le::number_at(props::rest_at(body, at), 0, width)
+}
+
+// The length and the first value of the property of a name; 0 where there is none.
+struct Named {
+    length: u32,
+    value: u32,
+}
+
+fn read_named(body: &[u8], starts: &[usize], name: &[u8]) -> Named
+    ensures length { λ r. ⌜ r .length ≡ lengthOf (now (body .entry)) (now (starts .entry)) (now (name .entry)) ⌝ }
+    ensures value { λ r. ⌜ r .value ≡ valueOf (now (body .entry)) (now (starts .entry)) (now (name .entry)) ⌝ }
+{
+    let i = body::first_named(body, starts, name);
+    if i < starts.len() {
+        let at = starts[i];
+        return Named {
+            length: props::length_at(body, at),
+            value: value_at(body, at),
+        };
+    }
+    Named {
+        length: 0,
+        value: 0,
+    }
+}
+
+// The types that kp wants of kv: v4 for rq, N for vb, else f.
+fn types_of(body: &[u8], starts: &[usize]) -> u32
+    ensures { λ r. ⌜ typesFrom r ≡ typesOf (now (body .entry)) (now (starts .entry)) ⌝ }
+{
+    let i = body::first_named(body, starts, b"kp");
+    if starts.len() <= i {
+        return FLOAT;
+    }
+    let string = props::rest_at(body, starts[i]);
+    if rules::is_text(string, b"rq") {
+        return V4;
+    }
+    if rules::is_text(string, b"vb") {
+        return rules::held::N;
+    }
+    FLOAT
+}
+
+fn measures_of(kind: u32, body: &[u8], starts: &[usize], bones: u32) -> Measures
+    ensures { λ r. ⌜ besideFrom r ≡ besideOf kind (now (body .entry)) (now (starts .entry)) bones ⌝ }
+{
+    let mut vertices: u32 = 0;
+    let mut weights: u64 = 0;
+    let mut indices: u32 = 0;
+    let mut keys: u32 = 0;
+    let mut types: u32 = rules::held::ANY_TYPE;
+    if kind == kinds::MESH {
+        vertices = read_named(body, starts, b"vp").length;
+        weights = read_named(body, starts, b"mi").value as u64 * vertices as u64;
+    } else if kind == kinds::BLEND_SHAPE {
+        indices = read_named(body, starts, b"vi").length;
+    } else if kind == kinds::CURVE {
+        keys = read_named(body, starts, b"kb").length;
+        types = types_of(body, starts);
+    }
+    Measures {
+        vertices,
+        weights,
+        indices,
+        keys,
+        types,
+        bones,
+    }
+}
+
+// What a property breaks: nothing; a rule of its length, its string or its type; or its first bad element.
+pub enum Fault {
+    Right,
+    Whole,
+    Element(u64),
+}
+
+fn whole(ok: bool) -> Fault
+    ensures { λ r. ⌜ r ≡ whole ok ⌝ }
+{
+    if ok { Fault::Right } else { Fault::Whole }
+}
+
+fn sole(ok: bool) -> Fault
+    ensures { λ r. ⌜ r ≡ sole ok ⌝ }
+{
+    if ok { Fault::Right } else { Fault::Element(0) }
+}
+
+// Whether p, read as signed, is -1 or the number of a Bone.
+fn is_parent(p: u32, bones: u32) -> bool
+    ensures { λ r. ⌜ r ≡ parentOk (signed p) bones ⌝ }
+{
+    (p == 0xFFFF_FFFF) | ((p < 0x8000_0000) & (p < bones))
+}
+
+fn is_bone(body: &[u8], at: usize, bones: u32) -> bool
+    ensures { λ r. ⌜ r ≡ parentOk (signed (numberAt 4 (restAt (now (body .entry)) at) 0)) bones ⌝ }
+{
+    is_parent(le::u32_at(props::rest_at(body, at), 0), bones)
+}
+
+// What the property breaks of what its line holds it to; faces are judged apart.
+fn fault_of(e: rules::Entry, body: &[u8], at: usize, m: Measures) -> Fault
+    requires { ⌜ (e .held ≡ 5 → ⊥) ⌝ }
+    ensures { λ r. ⌜ r ≡ faultOf (lineOf e .held) (now (body .entry)) at (besideFrom m) ⌝ }
+{
+    let held = e.held;
+    let elements = props::length_at(body, at);
+    match held {
+        rules::held::FLAG => sole(value_at(body, at) <= 1),
+        rules::held::ONE_OF => whole(rules::one_of(e.set, props::rest_at(body, at))),
+        rules::held::VERTICES => whole(elements == m.vertices),
+        rules::held::WEIGHTS => whole(elements as u64 == m.weights),
+        rules::held::INDICES => whole(elements == m.indices),
+        rules::held::KEYS => whole(
+            (elements == m.keys) & rules::takes(m.types, props::code_at(body, at)),
+        ),
+        rules::held::BONE_NUMBER => sole(is_bone(body, at, m.bones)),
+        _ => Fault::Right,
+    }
+}
+
+// What a property breaks, and where it breaks nothing how many faces and degenerate ones it counts.
+struct Kept {
+    fault: Fault,
+    faces: u64,
+    degenerate: u64,
+}
+
+fn broken(fault: Fault) -> Kept
+    ensures { λ r. ⌜ r ≡ record { fault = fault; faces = 0; degenerate = 0 } ⌝ }
+{
+    Kept {
+        fault,
+        faces: 0,
+        degenerate: 0,
+    }
+}
+
+fn faces_at(body: &[u8], at: usize, vertices: u32) -> Kept
+    ensures { λ r. ⌜ r ≡ keptBy (faceFault (now (body .entry)) at vertices) (facesAt (now (body .entry)) at) ⌝ }
+{
+    let elements = props::length_at(body, at);
+    if elements % 3 != 0 {
+        return broken(Fault::Whole);
+    }
+    let s = faces::scan(
+        props::rest_at(body, at),
+        props::code_at(body, at),
+        elements / 3,
+        vertices,
+    );
+    let faces = s.faces;
+    let degenerate = s.degenerate;
+    let values = s.values;
+    match values {
+        faces::Values::Below => Kept {
+            fault: Fault::Right,
+            faces: faces.0,
+            degenerate,
+        },
+        faces::Values::Past(k) => broken(Fault::Element(k)),
+    }
+}
+
+fn kept_at(e: rules::Entry, body: &[u8], at: usize, m: Measures) -> Kept
+    ensures { λ r. ⌜ (r ≡ keptAt (lineOf e .held) (now (body .entry)) at (besideFrom m)) × (r .faces < 4294967296) × (r .degenerate < 4294967296) ⌝ }
+{
+    if e.held == rules::held::FACES {
+        return faces_at(body, at, m.vertices);
+    }
+    broken(fault_of(e, body, at, m))
+}
+
+// One for a link, else none.
+fn one_link(e: rules::Entry) -> u32
+    ensures { λ r. ⌜ r ≡ linkCount (lineOf e .held) ⌝ }
+{
+    if e.held == rules::held::LINK {
+        return 1;
+    }
+    0
+}
+
+// The first property that breaks what its line holds it to, or what they count.
+pub(crate) fn valued(
+    kind: u32,
+    lines: &[rules::Columns],
+    body: &[u8],
+    starts: &[usize],
+    numbers: &[usize],
+    bones: u32,
+) -> Judged
+    requires count { ⌜ length (now starts) ≤ mostProperties ⌝ }
+    requires numbers { ⌜ now numbers ≡ map (lineNumber (linesFrom (now lines)) (now body)) (now starts) ⌝ }
+    requires places { ⌜ StartsWithin (now body) (now starts) ⌝ }
+    ensures result { λ r. ⌜ r
+        ≡ valuedTo (linesFrom (now (lines .entry))) (now (body .entry))
+        (besideOf kind (now (body .entry)) (now (starts .entry)) bones) (now (starts .entry)) ⌝ }
+    ensures bounds { λ r. ⌜ Bounded r (length (now (body .entry))) ⌝ }
+{
+    let m = measures_of(kind, body, starts, bones);
+    let mut faces: u64 = 0;
+    let mut degenerate: u64 = 0;
+    let mut links: u32 = 0;
+    let mut i: usize = 0;
+    while i < starts.len() {
+        let at = starts[i];
+        let e = rules::line_in(lines, numbers[i]);
+        let kept = kept_at(e, body, at, m);
+        let fault = kept.fault;
+        match fault {
+            Fault::Right => {
+                faces += kept.faces;
+                degenerate += kept.degenerate;
+            }
+            Fault::Whole => {
+                return crate::refused(15, 24 + at);
+            }
+            Fault::Element(_) => {
+                return crate::refused(15, 24 + at);
+            }
+        }
+        links += one_link(e);
+        i += 1;
+    }
+    Judged {
+        number: 0,
+        at: 0,
+        faces: faces::Faces(faces),
+        degenerate,
+        links,
+    }
+}
