@@ -5,15 +5,15 @@ use mathlib.Core.Bool.{Bool, true, false}
 use mathlib.Core.List.{List, [], _∷_, _++_}
 use Rattle.le.specs.Le.{val, numberAt}
 use Rattle.names.specs.Names.{bytesOk, same}
-use Rattle.props.specs.Step.{headerRefusal, dataRefusal, toZero, dataOf, nameAt, stepAt}
-use Rattle.body.specs.Body.{Walked, pass, properties, exactly, firstNamed}
+use Rattle.props.specs.Step.{toZero, nameAt, stepAt}
+use Rattle.body.specs.Body.{PropertyWalk, pass, properties, exactly, firstNamed}
 
-unfoldable walk : List ℕ → ℕ → Walked
-unfolding val numberAt bytesOk headerRefusal dataRefusal toZero dataOf nameAt stepAt pass properties
+unfoldable walk : List ℕ → ℕ → PropertyWalk
+unfolding val numberAt bytesOk toZero nameAt stepAt pass properties
 walk s k = properties s k
 
 unfoldable exact : List ℕ → ℕ → Bool
-unfolding val numberAt bytesOk headerRefusal dataRefusal toZero dataOf nameAt stepAt pass properties exactly
+unfolding val numberAt bytesOk toZero nameAt stepAt pass properties exactly
 exact s k = exactly s k
 
 unfoldable first : List ℕ → List ℕ → List ℕ → ℕ

@@ -7,7 +7,7 @@ use Rattle.names.specs.Names.{bytesOk, same, decimal, number, numbered}
 use Rattle.kinds.specs.Kinds.{mesh, material, bone, lineIn, lineOf, isKnown}
 use Rattle.kinds.specs.Kinds.{lines as kindLines}
 use Rattle.table.specs.declared.Row.{Row}
-use Rattle.props.specs.Step.{headerRefusal, dataRefusal, toZero, dataOf, nameAt, stepAt}
+use Rattle.props.specs.Step.{toZero, nameAt, stepAt}
 use Rattle.body.specs.Body.{pass, properties}
 use Rattle.base.specs.Letters.{letters}
 use Rattle.rules.specs.Table.{lines, unpacked}
@@ -16,7 +16,7 @@ use Rattle.links.specs.declared.Linked.{Linked}
 use Rattle.links.specs.Links.{refuse, reached, linksAt, linksFrom, resolved, linked}
 
 unfoldable resolve : List ℕ → List Row → Linked
-unfolding val numberAt le bytesOk same decimal number numbered kindLines lineIn lineOf isKnown headerRefusal dataRefusal toZero dataOf nameAt stepAt pass properties letters lines unpacked lists ruleIn ofKind linesOf reached linksAt linksFrom resolved linked
+unfolding val numberAt le bytesOk same decimal number numbered kindLines lineIn lineOf isKnown toZero nameAt stepAt pass properties letters lines unpacked lists ruleIn ofKind linesOf reached linksAt linksFrom resolved linked
 resolve s rows = linked s rows
 
 abbrev row : (kind low high end properties : ℕ) → Row

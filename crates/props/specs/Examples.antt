@@ -8,15 +8,15 @@ use Rattle.names.specs.Names.{bytesOk}
 use Rattle.props.specs.declared.Size.the-variants.{Bytes, Text, NoSuch}
 use Rattle.props.specs.declared.Step.{Step}
 use Rattle.props.specs.declared.Step.the-variants.{Past, Refused}
-use Rattle.props.specs.Types.{sizeOf}
-use Rattle.props.specs.Step.{headerRefusal, dataRefusal, toZero, dataOf, stepAt, dataAt, nameAt}
+use Rattle.props.specs.Types.{elementSize}
+use Rattle.props.specs.Step.{toZero, stepAt, dataAt, nameAt}
 
 -- b h i l f d v2 v3 v4 s, by their letters; and v2 with its letters exchanged
-types : map sizeOf (98 ∷ 104 ∷ 105 ∷ 108 ∷ 102 ∷ 100 ∷ 0x7632 ∷ 0x7633 ∷ 0x7634 ∷ 115 ∷ 0x3276 ∷ []) ≡ Bytes 1 ∷ Bytes 2 ∷ Bytes 4 ∷ Bytes 8 ∷ Bytes 4 ∷ Bytes 8 ∷ Bytes 8 ∷ Bytes 12 ∷ Bytes 16 ∷ Text ∷ NoSuch ∷ []
+types : map elementSize (98 ∷ 104 ∷ 105 ∷ 108 ∷ 102 ∷ 100 ∷ 0x7632 ∷ 0x7633 ∷ 0x7634 ∷ 115 ∷ 0x3276 ∷ []) ≡ Bytes 1 ∷ Bytes 2 ∷ Bytes 4 ∷ Bytes 8 ∷ Bytes 4 ∷ Bytes 8 ∷ Bytes 8 ∷ Bytes 12 ∷ Bytes 16 ∷ Text ∷ NoSuch ∷ []
 types = refl
 
 unfoldable step : List ℕ → ℕ → Step
-unfolding val numberAt bytesOk headerRefusal dataRefusal toZero dataOf nameAt stepAt
+unfolding val numberAt bytesOk toZero nameAt stepAt
 step s at = stepAt s at
 
 -- past a property with a name of one byte
@@ -27,7 +27,7 @@ passing at next = Past (record { name = at + 8; start = at + 9 }) (record { at =
 abbrev header : ℕ → ℕ → ℕ → List ℕ
 header type size len = type ∷ 0 ∷ size ∷ 0 ∷ len ∷ 0 ∷ 0 ∷ 0 ∷ []
 
--- `f` with the three bytes 0 1 2; and the same with a byte before and behind it
+-- `f` with the three bytes 0 1 2; and the same with a byte before and after it
 abbrev face : List ℕ
 face = header 0x62 1 3 ++ (102 ∷ 0 ∷ 1 ∷ 2 ∷ [])
 
@@ -55,7 +55,7 @@ longest : step (header 0x62 32 0 ++ replicate 32 102) 0 ≡ Past (record { name 
 unfolding step
 longest = refl
 
--- "ab" and its zero, with a byte behind; of array length 2; without the zero
+-- "ab" and its zero, with a byte after it; of array length 2; without the zero
 text : (step (header 0x73 1 1 ++ (110 ∷ 97 ∷ 98 ∷ 0 ∷ 7 ∷ [])) 0 ≡ passing 0 12) × (step (header 0x73 1 2 ++ (110 ∷ 97 ∷ 0 ∷ 0 ∷ [])) 0 ≡ Refused 11) × (step (header 0x73 1 1 ++ (110 ∷ 97 ∷ 98 ∷ [])) 0 ≡ Refused 10)
 unfolding step
 text = (refl, refl, refl)

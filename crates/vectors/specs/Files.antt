@@ -7,7 +7,7 @@ use lib.ListN.{replicate}
 use Rattle.table.specs.Table.{hasRoom, cleared}
 use Rattle.walk.specs.declared.Answer.{Answer as Walked}
 use Rattle.walk.specs.Walk.{answer}
-use Rattle.walk.specs.Walk.{tableAfter as walkedInto}
+use Rattle.walk.specs.Walk.{tableWalked as walkedInto}
 use Rattle.reader.specs.declared.Reading.{Reading}
 use Rattle.reader.specs.Reading.{Numbers, numbersOf, readingOf, tableAfter}
 use Rattle.vectors.specs.declared.frame.Frame.{Frame}
