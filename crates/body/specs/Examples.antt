@@ -29,7 +29,9 @@ abbrev three : List ℕ
 three = one 97 5 ++ (one 98 6 ++ one 97 7)
 
 -- all three, two of them, and one too many
-walked : (walk three 3 ≡ record { number = 0; at = 30; starts = 0 ∷ 10 ∷ 20 ∷ [] }) × (walk three 2 ≡ record { number = 0; at = 20; starts = 0 ∷ 10 ∷ [] }) × (walk three 4 ≡ record { number = 10; at = 30; starts = 0 ∷ 10 ∷ 20 ∷ [] })
+walked : (walk three 3 ≡ record { number = 0; at = 30; starts = 0 ∷ 10 ∷ 20 ∷ [] })
+    × (walk three 2 ≡ record { number = 0; at = 20; starts = 0 ∷ 10 ∷ [] })
+    × (walk three 4 ≡ record { number = 10; at = 30; starts = 0 ∷ 10 ∷ 20 ∷ [] })
 unfolding walk
 walked = (refl, refl, refl)
 
@@ -48,6 +50,7 @@ unfolding exact
 exact-counts = (refl, refl, refl, refl)
 
 -- the first `a`, `b`, and no `c`
-named : (first three (97 ∷ []) (0 ∷ 10 ∷ 20 ∷ []) ≡ 0) × (first three (98 ∷ []) (0 ∷ 10 ∷ 20 ∷ []) ≡ 1) × (first three (99 ∷ []) (0 ∷ 10 ∷ 20 ∷ []) ≡ 3)
+named : (first three (97 ∷ []) (0 ∷ 10 ∷ 20 ∷ []) ≡ 0) × (first three (98 ∷ []) (0 ∷ 10 ∷ 20 ∷ []) ≡ 1)
+    × (first three (99 ∷ []) (0 ∷ 10 ∷ 20 ∷ []) ≡ 3)
 unfolding first
 named = (refl, refl, refl)

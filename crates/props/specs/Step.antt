@@ -54,17 +54,17 @@ stepAt s at =
     let room = length s - at in
     let rest = drop (startAt s at) s in
     let n = dataSize size (lengthAt s at) rest in
-    cond (ltb room 8) (Refused 10)
-    (cond (noSuch size) (Refused 11)
-    (cond (not (sizeOk (sizeAt s at))) (Refused 11)
-    (cond (ltb room (8 + sizeAt s at)) (Refused 10)
-    (cond (not (bytesOk (nameAt s at))) (Refused 11)
-    (cond (not (lengthOk size (lengthAt s at))) (Refused 11)
-    (cond (ltb (length rest) n) (Refused 10)
+    cond (ltb room 8) (Refused 10)  -- header fits
+    (cond (noSuch size) (Refused 11)  -- type
+    (cond (not (sizeOk (sizeAt s at))) (Refused 11)  -- name size
+    (cond (ltb room (8 + sizeAt s at)) (Refused 10)  -- name fits
+    (cond (not (bytesOk (nameAt s at))) (Refused 11)  -- name bytes
+    (cond (not (lengthOk size (lengthAt s at))) (Refused 11)  -- string length
+    (cond (ltb (length rest) n) (Refused 10)  -- data fits
     (Past (record { name = at + 8; start = startAt s at }) (record { at = startAt s at + n }))))))))
 
--- The same by numbers alone, before the bytes themselves are there. 0 is no refusal.
--- header fits, type, name size, name fits: from the type, the name size and the bytes left from the header's start to the end
+-- The same by the header's numbers alone; 0 is no refusal. First header fits, type, name size and name fits: from the type, the name
+-- size and the bytes left from the header's start to the end;
 unfoldable pub headerRefusal : (code size room : ℕ) → ℕ
 headerRefusal code size room =
     cond (ltb room 8) 10
@@ -72,8 +72,8 @@ headerRefusal code size room =
     (cond (not (sizeOk size)) 11
     (cond (ltb room (8 + size)) 10 0)))
 
--- string length; and data fits, but of a string, whose end is found in its bytes: from the size of an element, the array length and
--- the bytes left after the name
+-- then string length and data fits, but for a string, whose end is found in its bytes: from the size of an element, the array length
+-- and the bytes left after the name
 unfoldable pub dataRefusal : Size → (len room : ℕ) → ℕ
 dataRefusal (Bytes w) len room = cond (ltb room (len * w)) 10 0
 dataRefusal Text len room = cond (eqb len 1) 0 11

@@ -23,7 +23,8 @@ use Rattle.format.specs.Forest.{header, fileHeader}
 use Rattle.links.specs.Links.{reached, linksAt, linksFrom, resolved, linked}
 use Rattle.walk.specs.Walk.{headerAt, nodeRefusal, andThen, children, node, childrenAt, walkOf, limited}
 use Rattle.reader.specs.declared.Reading.the-variants.{Refused}
-use Rattle.reader.specs.Reading.{Numbers, numbersOf, bonesUnder, judgedWith, ruled, ownKnown, ownUnknown, checked, verdict, readingOf, tableAfter}
+use Rattle.reader.specs.Reading.{Numbers, numbersOf, bonesUnder, judgedWith, ruled, ownKnown, ownUnknown}
+use Rattle.reader.specs.Reading.{checked, verdict, readingOf, tableAfter}
 
 -- a table of 8,193 numbers, none of them 0
 abbrev lent : List ℕ
@@ -104,7 +105,8 @@ rows-in-turn = (refl, refl, refl, refl, refl)
 
 -- all rules of all rows before the first link: row 1's link reaches no node, and the answer is row 2's 14 or 15; where row 2 is
 -- right it is 16
-rules-before-links : (read (pair astray still) ≡ refusal 14 149) × (read (pair astray (upward 0x77)) ≡ refusal 15 173) × (read (pair astray timed) ≡ refusal 16 64)
+rules-before-links : (read (pair astray still) ≡ refusal 14 149) × (read (pair astray (upward 0x77)) ≡ refusal 15 173)
+    × (read (pair astray timed) ≡ refusal 16 64)
 unfolding read cast nodeOf property
 rules-before-links = (refl, refl, refl)
 

@@ -35,7 +35,8 @@ head kind size properties children = header kind size 0 properties children
 
 -- E1 and E2; E9, and the first four bytes wrong
 headers : (answered (cast 0 []) ≡ record { number = 0; place = 0; nodes = 0; flags = 0 }) × (walk [] ≡ refusedWalk 3 0)
-    × (walk (0x63 ∷ 0x61 ∷ 0x73 ∷ 0x74 ∷ 2 ∷ replicate 11 0) ≡ refusedWalk 4 4) × (walk (0x63 ∷ 0x61 ∷ 0x73 ∷ 0x75 ∷ 1 ∷ replicate 11 0) ≡ refusedWalk 3 0)
+    × (walk (0x63 ∷ 0x61 ∷ 0x73 ∷ 0x74 ∷ 2 ∷ replicate 11 0) ≡ refusedWalk 4 4)
+    × (walk (0x63 ∷ 0x61 ∷ 0x73 ∷ 0x75 ∷ 1 ∷ replicate 11 0) ≡ refusedWalk 3 0)
 unfolding answered walk cast
 headers = (refl, refl, refl, refl)
 

@@ -90,33 +90,35 @@ andThen w next = refusedOr (w .number) w (afterRows (w .rows) (next (w .at) (len
 abbrev pub inside : Header → List ℕ → List ℕ
 inside h bs = take (h .size - 24) (drop 24 bs)
 
--- "A node reads its children, and each child is again a node". The bytes end with what encloses the node, or the children. The bound
--- is for the recursion alone: any above the number of bytes gives the same walk (the statement `Unbounded`).
+-- "A node reads its children, and each child is again a node". The bytes end with the node or the file that encloses them. The bound is
+-- for the recursion alone: any that is greater than the number of bytes gives the same walk (the statement `Unbounded`).
 unfoldable mutual
-  -- the node at the start of the bytes, from its parent's kind and row, its depth, its place and its row: 5 to 9; an unknown node is
-  -- passed by its size, for "what follows its header is not read"; a known one's properties, 10 and 11; its row, and its children
+  -- the node at the start of the bytes, from its parent's kind and row, its depth, its place and its row
   pub node : (bound : ℕ) → Parent → (above depth at row : ℕ) → List ℕ → Walked
   node zero parent above depth at row bs = refusedWalk 5 at
   node (suc n) parent above depth at row bs =
       let h = headerAt bs in
-      let start = at + 24 in
       let number = nodeRefusal h (length bs) parent row depth in
       let p = properties (inside h bs) (h .properties) in
+      let start = at + 24 in
       let end = start + p .at in
-      refusedOr number (refusedWalk number at)
+      refusedOr number (refusedWalk number at)  -- 5 to 9
+      -- "Any other kind is unknown: .. only its size is judged, and what follows its header is not read."
       (cond (not (isKnown (h .kind))) (afterRows (rowOfHeader h above start (at + h .size) ∷ []) (walkedTo (at + h .size)))
-      (refusedOr (p .number) (refusedWalk (p .number) end)
-      (afterRows (rowOfHeader h above start end ∷ [])
+      (refusedOr (p .number) (refusedWalk (p .number) end)  -- "its properties", 10 and 11
+      (afterRows (rowOfHeader h above start end ∷ [])  -- "its children"
       (children n (Kind (h .kind)) row (depth + 1) (h .children) end (row + 1) (drop (p .at) (inside h bs))))))
 
-  -- exactly `count` nodes, one after the other. 12: "bytes after the last child of a known node, or the last root"
+  -- exactly `count` nodes, one after the other, which fill the bytes
   pub children : (bound : ℕ) → Parent → (above depth count at row : ℕ) → List ℕ → Walked
   children zero parent above depth count at row bs = refusedWalk 5 at
+  -- 12: "bytes after the last child of a known node, or the last root"
   children (suc n) parent above depth zero at row bs = cond (ltb 0 (length bs)) (refusedWalk 12 at) (walkedTo at)
   children (suc n) parent above depth (suc k) at row bs =
       andThen (node n parent above depth at row bs)
       (λ next rows. children n parent above depth k next (row + rows) (drop (next - at) bs))
 
+-- with a bound that is enough
 unfoldable pub nodeAt : Parent → (above depth at row : ℕ) → List ℕ → Walked
 nodeAt parent above depth at row bs = node (suc (length bs)) parent above depth at row bs
 
