@@ -12,7 +12,7 @@ use Rattle.kinds.specs.declared.Parent.the-variants.{Kind}
 use Rattle.kinds.specs.Kinds.{isKnown, mayStand}
 use Rattle.props.specs.declared.Size.{Size}
 use Rattle.props.specs.declared.Size.the-variants.{Bytes, Text, NoSuch}
-use Rattle.props.specs.Types.{sizeOf}
+use Rattle.props.specs.Types.{elementSize}
 use Rattle.format.specs.Forest.{Forest, end, known, unknown, count, nodes, encode}
 
 -- ---- one property
@@ -49,7 +49,7 @@ Content Text n content = (n ≡ 1) × EndsInZero content
 Content NoSuch n content = ⊥
 
 abbrev pub GoodProperty : Property → Type 0
-GoodProperty p = (p .code < 256 ^ 2) × (p .elements < 256 ^ 4) × Name (p .name) × Content (sizeOf (p .code)) (p .elements) (p .content)
+GoodProperty p = (p .code < 256 ^ 2) × (p .elements < 256 ^ 4) × Name (p .name) × Content (elementSize (p .code)) (p .elements) (p .content)
 
 -- ---- a known node's body: so many properties, not "over 64"
 

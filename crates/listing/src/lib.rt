@@ -8,7 +8,7 @@ ghost use Rattle.text.specs.Text.{placeAfter, withText, decimal};
 ghost use Rattle.table.specs.Table.{rowsAt};
 ghost use Rattle.base.specs.Letters.{letters};
 ghost use Rattle.reader.specs.declared.Reading.the-variants.{Accepted};
-ghost use Rattle.reader.specs.Contract.{Small};
+ghost use Rattle.reader.specs.Reading.{Small};
 ghost use Rattle.listing.specs.declared.TextLine.the-variants.{Summary, Node, Total};
 ghost use Rattle.listing.specs.Private.{Puts, PutsWhole};
 ghost use Rattle.listing.specs.Listing.{parentText, newline, textOf, nodeLines, footLines, fileLines, printed, listingOf};

@@ -5,7 +5,7 @@ use mathlib.Core.List.{List, [], _∷_}
 use Rattle.le.specs.Le.{val, numberAt}
 use Rattle.names.specs.Names.{bytesOk}
 use Rattle.kinds.specs.Kinds.{root, model, mesh, skeleton, parentsTable, parentsIn, parentsOf, isKnown}
-use Rattle.props.specs.Step.{headerRefusal, dataRefusal, toZero, dataOf, nameAt, stepAt}
+use Rattle.props.specs.Step.{toZero, nameAt, stepAt}
 use Rattle.body.specs.Body.{pass, properties, exactly}
 use Rattle.table.specs.declared.Row.{Row}
 use Rattle.table.specs.Table.{noParent}
@@ -13,7 +13,7 @@ use Rattle.plan.specs.Plan.{upFrom, pathOf, isOn, rightParent, naming, r
 
 -- the number, and the row
 unfoldable judge : List ℕ → List Row → List ℕ
-unfolding val numberAt bytesOk parentsTable parentsIn parentsOf isKnown headerRefusal dataRefusal toZero dataOf nameAt stepAt pass properties exactly upFrom pathOf isOn rightParent naming rowRefusal judgedFrom judged
+unfolding val numberAt bytesOk parentsTable parentsIn parentsOf isKnown toZero nameAt stepAt pass properties exactly upFrom pathOf isOn rightParent naming rowRefusal judgedFrom judged
 judge s rows = let j = judged s rows in j .number ∷ j .row ∷ []
 
 -- a row without a body, and one with; an unknown kind

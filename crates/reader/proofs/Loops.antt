@@ -9,6 +9,8 @@ use lib.Dec.{eqb}
 use lib.ListN.{length, getD, set}
 use lib.Seq.{getD-set-same, getD-set-other}
 use borrow.Author.Tests.{eq-eqb, ne-eqb, eqb-true, eqb-false}
+use Rattle.base.specs.Refusals.{refusedOr}
+use Rattle.base.proofs.Refusals.{is-refused}
 use Rattle.base.proofs.Tests.{by-test}
 use Rattle.kinds.specs.Kinds.{bone, isKnown}
 use Rattle.table.specs.declared.Row.{Row}
@@ -19,8 +21,8 @@ use Rattle.judge.specs.Judge.{Bounded}
 use Rattle.format.specs.Rows.{ownBytes, bodyOf}
 use Rattle.format.proofs.Rows.{body-length}
 use Rattle.reader.specs.declared.Ruled.{Ruled}
-use Rattle.reader.specs.Reading.{bonesUnder, judgedWith, ruledBy, ruled, ownKnown, ownUnknown}
-use Rattle.reader.specs.Contract.{RowOk, RowsOk}
+use Rattle.reader.specs.Reading.{bonesUnder, judgedWith, counted, uncounted, ruled, ownKnown, ownUnknown}
+use Rattle.reader.specs.Private.{RowOk, RowsOk}
 
 -- ---- Bones
 pub bones-few : (t : List ℕ) (k n p : ℕ) → bonesUnder (rowsAt t k n) p ≤ n
@@ -81,7 +83,7 @@ module _ (t : List ℕ) (n i : ℕ) where
 abbrev pub onTop : (faces degenerate links : ℕ) → Ruled → Ruled
 onTop f d l u = record { number = u .number; place = u .place; faces = f + u .faces; degenerate = d + u .degenerate; links = l + u .links }
 
--- a judgement's place lies behind the node's header, and in the file
+-- a judgement's place lies after the node's header, and in the file
 pub row-place : (s t : List ℕ) (n i : ℕ) {r : Row} {j : Judged} → RowsOk (length s) t n → i < n → r ≡ rowAt t i → Bounded j (length (bodyOf s r))
     → (24 ≤ r .start + j .at) × (r .start + j .at ≤ 24 + length s)
 row-place s t n i {r} ok h e b =
@@ -97,21 +99,16 @@ module _ (s t : List ℕ) (n : ℕ) where
   rules-begun = rw (rest-all t n) (simp zero-add)
 
   module _ (f d l i : ℕ) where
-    refused-on-top : (m start : ℕ) (j : Judged) (u : Ruled) → (m ≡ 0 → ⊥)
-        → onTop f d l (ruledBy m start j u) ≡ record { number = m; place = (start + j .at) - 24; faces = f; degenerate = d; links = l }
-    refused-on-top zero start j u n = absurd (n refl)
-    refused-on-top (suc m) start j u n = simp add-zero
-
     module _ (h : i < n) {r : Row} {b : ℕ} {j : Judged} (e : r ≡ rowAt t i) (g : b ≡ bonesUnder all (r .parent))
         (k : j ≡ judgedWith s r b) where
-      next : ruled s all (rest t n i) ≡ ruledBy (j .number) (r .start) j (ruled s all (rest t n (i + 1)))
+      next : ruled s all (rest t n i) ≡ refusedOr (j .number) (uncounted (j .number) (r .start + j .at - 24)) (counted j (ruled s all (rest t n (i + 1))))
       unfolding ruled
       next = rw (rest-more t n i h, ← e, ← g, ← k)
 
       pub rules-refused : (j .number ≡ 0 → ⊥)
           → onTop f d l (ruled s all (rest t n i))
           ≡ record { number = j .number; place = (r .start + j .at) - 24; faces = f; degenerate = d; links = l }
-      rules-refused m = rw next (refused-on-top (j .number) (r .start) j (ruled s all (rest t n (i + 1))) m)
+      rules-refused m = rw (next ∙ is-refused (j .number) _ _ m) (simp add-zero)
 
       pub rules-passed : j .number ≡ 0
           → onTop f d l (ruled s all (rest t n i))

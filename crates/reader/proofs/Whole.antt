@@ -5,6 +5,8 @@ use mathlib.Core.Path.{_≡_, refl, ap, sym, _∙_, subst}
 use mathlib.Core.Bool.{true, false}
 use mathlib.Core.List.{List, [], _∷_, _++_}
 use lib.ListN.{length, getD, length-append}
+use Rattle.base.specs.Refusals.{refusedOr}
+use Rattle.base.proofs.Refusals.{is-refused}
 use Rattle.le.specs.Le.{AreBytes}
 use Rattle.kinds.specs.declared.Parent.the-variants.{None}
 use Rattle.table.specs.declared.Row.{Row}
@@ -22,13 +24,13 @@ use Rattle.format.proofs.Rows.{length-rows}
 use Rattle.format.proofs.Within.{Lies, BoneUnder, rows-lie, bones-under}
 use Rattle.links.specs.Links.{linksOf, linked}
 use Rattle.walk.specs.declared.Answer.{Answer}
-use Rattle.walk.specs.Walk.{Walked, limited, answerBy, answer, flagsOf}
+use Rattle.walk.specs.Walk.{Walked, limited, refusedAnswer, acceptedAnswer, answer, flagsOf}
 use Rattle.walk.proofs.Laws.{limited-is}
 use Rattle.walk.proofs.Sound.{sound}
 use Rattle.reader.specs.declared.Reading.{Reading}
 use Rattle.reader.specs.declared.Reading.the-variants.{Accepted, Refused}
-use Rattle.reader.specs.Reading.{ruled, ownKnown, ownUnknown, byNumber, checked, verdict, readingOf, leftBy, tableAfter}
-use Rattle.reader.specs.Contract.{RowOk, RowsOk, BoneParents, leftIn}
+use Rattle.reader.specs.Reading.{ruled, ownKnown, ownUnknown, checked, verdict, readingOf, tableLeft, tableAfter}
+use Rattle.reader.specs.Private.{RowOk, RowsOk, BoneParents, leftIn}
 use Rattle.reader.proofs.Bounds.{links-lie, resolved-lies}
 use Rattle.reader.proofs.Exactly.{short, checked-right}
 
@@ -84,17 +86,13 @@ walked-ok s bytes e =
 
 -- ---- the stages after the walk
 module _ (s : List ℕ) (rs : List Row) where
-  pub by-rules : (n place : ℕ) (next : Reading) → (n ≡ 0 → ⊥) → Refused n place ≡ byNumber n place next
-  by-rules zero place next h = absurd (h refl)
-  by-rules (suc n) place next h = refl
-
   pub refused-rules : (ruled s rs rs .number ≡ 0 → ⊥) → Refused (ruled s rs rs .number) (ruled s rs rs .place) ≡ checked s rs
   unfolding checked
-  refused-rules h = by-rules (ruled s rs rs .number) (ruled s rs rs .place) _ h
+  refused-rules h = sym (is-refused (ruled s rs rs .number) _ _ h)
 
   pub refused-links : ruled s rs rs .number ≡ 0 → (linked s rs .number ≡ 0 → ⊥) → Refused (linked s rs .number) (linked s rs .place) ≡ checked s rs
   unfolding checked
-  refused-links r h = rw r (by-rules (linked s rs .number) (linked s rs .place) _ h)
+  refused-links r h = rw r (sym (is-refused (linked s rs .number) _ _ h))
 
   pub links-place : (size n : ℕ) → Each (RowOk size n) rs → linked s rs .place ≤ size
   unfolding linked
@@ -122,11 +120,11 @@ module _ (s t : List ℕ) where
   short-table h = (rw h, rw h)
 
   -- the walk's answer
-  refused-by : (n : ℕ) (w : Walked) {a : Answer} → a ≡ answerBy n s w → (a .number ≡ 0 → ⊥) → n ≡ w .number → (a .number ≡ w .number) × (a .place ≡ w .at)
+  refused-by : (n : ℕ) (w : Walked) {a : Answer} → a ≡ refusedOr n (refusedAnswer n (w .at)) (acceptedAnswer (length (w .rows)) (flagsOf s)) → (a .number ≡ 0 → ⊥) → n ≡ w .number → (a .number ≡ w .number) × (a .place ≡ w .at)
   refused-by zero w e h m = absurd (h (ap (λ x. x .number) e))
   refused-by (suc n) w e h m = (ap (λ x. x .number) e ∙ m, ap (λ x. x .place) e)
 
-  accepted-by : (n : ℕ) (w : Walked) {a : Answer} → a ≡ answerBy n s w → a .number ≡ 0 → (n ≡ 0) × (a .nodes ≡ length (w .rows)) × (a .flags ≡ flagsOf s)
+  accepted-by : (n : ℕ) (w : Walked) {a : Answer} → a ≡ refusedOr n (refusedAnswer n (w .at)) (acceptedAnswer (length (w .rows)) (flagsOf s)) → a .number ≡ 0 → (n ≡ 0) × (a .nodes ≡ length (w .rows)) × (a .flags ≡ flagsOf s)
   accepted-by zero w e h = (refl, ap (λ x. x .nodes) e, ap (λ x. x .flags) e)
   accepted-by (suc n) w e h = absurd (omega (arith, sym (ap (λ x. x .number) e) ∙ h))
 
@@ -145,10 +143,10 @@ module _ (s t : List ℕ) where
         → (Refused (limited s .number) (limited s .at) ≡ readingOf s t) × (cleared u ≡ tableAfter s t)
     unfolding readingOf tableAfter verdict
     refused-read h e =
-        let is = by-rules s [] (limited s .number) (limited s .at) (checked s (limited s .rows)) h in
+        let is = sym (is-refused (limited s .number) (Refused (limited s .number) (limited s .at)) (checked s (limited s .rows)) h) in
         (rw room is, rw room (rw (← is) (ap cleared e ∙ cleared-again t (limited s .rows) room few)))
 
-    left : (r : Reading) → leftIn r (putRows (cleared t) 0 (limited s .rows)) ≡ leftBy r (limited s .rows) t
+    left : (r : Reading) → leftIn r (putRows (cleared t) 0 (limited s .rows)) ≡ tableLeft r (limited s .rows) t
     left (Accepted a) = filled-putRows t (limited s .rows) room few
     left (Refused n place) = cleared-again t (limited s .rows) room few
 

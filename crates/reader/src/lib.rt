@@ -9,8 +9,8 @@ ghost use Rattle.format.specs.Rows.{bodyOf};
 ghost use Rattle.links.specs.Links.{linksOf, linked};
 ghost use Rattle.walk.specs.Walk.{flagsOf};
 ghost use Rattle.reader.specs.declared.Reading.the-variants.{Refused};
-ghost use Rattle.reader.specs.Reading.{judgedWith, ruled, ownKnown, ownUnknown, checked, readingOf, tableAfter, numbersOf};
-ghost use Rattle.reader.specs.Contract.{RowsOk, BoneParents, Counted, leftIn, Small};
+ghost use Rattle.reader.specs.Reading.{judgedWith, ruled, ownKnown, ownUnknown, checked, readingOf, tableAfter, numbersOf, Small};
+ghost use Rattle.reader.specs.Private.{RowsOk, BoneParents, Counted, leftIn};
 
 // What is answered of an accepted file: its nodes and flags; the own bytes of its known and of its unknown nodes; its
 // faces, and how many of them are degenerate; its links.
@@ -126,7 +126,7 @@ fn rules_of(file: &[u8], table: &[u32], nodes: usize, bones: &[u32]) -> Ruled
 
 // ---- 16 and 17
 
-// The links of a file, of which the rules have counted so many.
+// The links of a file, of which the rules have counted `links`.
 fn links_of(file: &[u8], table: &[u32], nodes: usize, links: u32) -> links::Linked
     requires { ⌜ (nodes ≤ mostRows) × (links ≡ length (linksOf (now file) (rowsAt (now table) 0 nodes))) ⌝ }
     ensures { λ r. ⌜ r ≡ linked (now (file .entry)) (rowsAt (now (table .entry)) 0 nodes) ⌝ }
@@ -176,7 +176,7 @@ fn own_of(table: &[u32], nodes: usize) -> Own
 // ---- the answer
 
 // A refusal, which clears the rows.
-fn refused(number: u32, place: u32, rows: &mut [u32]) -> Reading
+fn refuse_and_clear(number: u32, place: u32, rows: &mut [u32]) -> Reading
     ensures { λ r. ⌜ (r ≡ Refused number place) × (now (rows .exit) ≡ cleared (now (rows .entry))) ⌝ }
 {
     table::clear(rows);
@@ -194,11 +194,11 @@ fn checked(file: &[u8], table: &mut [u32], nodes: u32, flags: u32) -> Reading
     count_bones(table, n, &mut bones);
     let rules = rules_of(file, table, n, &bones);
     if rules.number != 0 {
-        return refused(rules.number, rules.place as u32, table);
+        return refuse_and_clear(rules.number, rules.place as u32, table);
     }
     let links = links_of(file, table, n, rules.links);
     if links.number != 0 {
-        return refused(links.number, links.place as u32, table);
+        return refuse_and_clear(links.number, links.place as u32, table);
     }
     let own = own_of(table, n);
     let known = own.known;
@@ -231,7 +231,7 @@ pub fn read(file: &[u8], table: &mut [u32]) -> Reading
     table::clear(table);
     let w = walk::walk(file, table);
     if w.number != 0 {
-        return refused(w.number, w.place, table);
+        return refuse_and_clear(w.number, w.place, table);
     }
     checked(file, table, w.nodes, w.flags)
 }

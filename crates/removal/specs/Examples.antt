@@ -10,7 +10,7 @@ use Rattle.kinds.specs.Kinds.{root, model, mesh, material, parentsIn, parentsOf
 use Rattle.kinds.specs.Kinds.{parentsTable}
 use Rattle.table.specs.declared.Row.{Row}
 use Rattle.table.specs.Table.{noParent, fields, hasRoom, zeroed, cleared, flat, filled}
-use Rattle.props.specs.Step.{headerRefusal, dataRefusal, toZero, dataOf, nameAt, stepAt}
+use Rattle.props.specs.Step.{toZero, nameAt, stepAt}
 use Rattle.body.specs.Body.{pass, properties, firstNamed}
 use Rattle.faces.specs.Faces.{widthOf, facesIn, below, degenerate}
 use Rattle.base.specs.Letters.{letters}
@@ -23,7 +23,7 @@ use Rattle.judge.specs.Valued.{faultOf, valued, nodeFaces, nodeLinks}
 use Rattle.judge.specs.Judge.{verdictAt, judgedAt, judged}
 use Rattle.format.specs.Forest.{header, fileHeader}
 use Rattle.links.specs.Links.{Link, reached, linksAt, linksFrom, linksOf, resolved, linked}
-use Rattle.walk.specs.Walk.{headerAt, nodeRefusal, andThen, children, knownNode, nodeBy, node, nodeAt, childrenAt, walkOf, limited}
+use Rattle.walk.specs.Walk.{headerAt, nodeRefusal, andThen, children, node, childrenAt, walkOf, limited}
 use Rattle.reader.specs.Reading.{bonesUnder, judgedWith, ruled, ownKnown, ownUnknown, checked, verdict, readingOf}
 use Rattle.reader.specs.Reading.{tableAfter as readTable}
 use Rattle.emit.specs.declared.Written.{Written}
@@ -41,7 +41,7 @@ pub record Ended : Type 0 where
   pub file : List ℕ
 
 unfoldable byRun : List ℕ → List Trimming → Ended
-unfolding val numberAt bytesOk same readDigits number numbered parentsTable parentsIn parentsOf isKnown standsAtTop standsUnder mayStand hasRoom headerRefusal dataRefusal toZero dataOf nameAt stepAt pass properties firstNamed widthOf facesIn below degenerate letters lines lists ruleIn ofKind linesOf isText isOneOf le lengthOf valueOf typesOf besideOf typed misses lacks faultOf valued nodeFaces nodeLinks verdictAt judgedAt judged header fileHeader reached linksAt linksFrom resolved linked headerAt nodeRefusal andThen children knownNode nodeBy node nodeAt childrenAt walkOf limited bonesUnder judgedWith ruled ownKnown ownUnknown checked verdict readingOf under sizes nodesBytes roots fileBytes emitLeft withoutFrom newFile trimmedOf trimmedOutput answersOf fileAfter
+unfolding val numberAt bytesOk same readDigits number numbered parentsTable parentsIn parentsOf isKnown standsAtTop standsUnder mayStand hasRoom toZero nameAt stepAt pass properties firstNamed widthOf facesIn below degenerate letters lines lists ruleIn ofKind linesOf isText isOneOf le lengthOf valueOf typesOf besideOf typed misses lacks faultOf valued nodeFaces nodeLinks verdictAt judgedAt judged header fileHeader reached linksAt linksFrom resolved linked headerAt nodeRefusal andThen children node childrenAt walkOf limited bonesUnder judgedWith ruled ownKnown ownUnknown checked verdict readingOf under sizes nodesBytes roots fileBytes emitLeft withoutFrom newFile trimmedOf trimmedOutput answersOf fileAfter
 byRun s list = record { answers = answersOf s list; file = fileAfter s list }
 
 unfoldable byTally : List ℕ → List Row → List Trimming → Ended
@@ -57,7 +57,7 @@ pub record Lent : Type 0 where
   pub output : List ℕ
 
 unfoldable lentAfter : (s : List ℕ) (k : ℕ) (t out : List ℕ) → Lent
-unfolding flat filled zeroed cleared readTable trimmedTable val numberAt bytesOk same readDigits number numbered parentsTable parentsIn parentsOf isKnown standsAtTop standsUnder mayStand hasRoom headerRefusal dataRefusal toZero dataOf nameAt stepAt pass properties firstNamed widthOf facesIn below degenerate letters lines lists ruleIn ofKind linesOf isText isOneOf le lengthOf valueOf typesOf besideOf typed misses lacks faultOf valued nodeFaces nodeLinks verdictAt judgedAt judged header fileHeader reached linksAt linksFrom resolved linked headerAt nodeRefusal andThen children knownNode nodeBy node nodeAt childrenAt walkOf limited bonesUnder judgedWith ruled ownKnown ownUnknown checked verdict readingOf under sizes nodesBytes roots fileBytes emitLeft withoutFrom newFile trimmedOf trimmedOutput
+unfolding flat filled zeroed cleared readTable trimmedTable val numberAt bytesOk same readDigits number numbered parentsTable parentsIn parentsOf isKnown standsAtTop standsUnder mayStand hasRoom toZero nameAt stepAt pass properties firstNamed widthOf facesIn below degenerate letters lines lists ruleIn ofKind linesOf isText isOneOf le lengthOf valueOf typesOf besideOf typed misses lacks faultOf valued nodeFaces nodeLinks verdictAt judgedAt judged header fileHeader reached linksAt linksFrom resolved linked headerAt nodeRefusal andThen children node childrenAt walkOf limited bonesUnder judgedWith ruled ownKnown ownUnknown checked verdict readingOf under sizes nodesBytes roots fileBytes emitLeft withoutFrom newFile trimmedOf trimmedOutput
 lentAfter s k t out = record { table = trimmedTable s k t (length out); output = trimmedOutput s k t out }
 
 -- the same, with a table of 8,193 numbers
@@ -199,7 +199,7 @@ link-moves : (byRun noted (trim 1 ∷ []) ≡ record { answers = done 168 ∷ []
     × (linksOf noted notedRows ≡ link 3 133 4 ∷ [])
     × (movedLink notedRows (false ∷ true ∷ false ∷ false ∷ false ∷ []) (link 3 133 4) ≡ link 2 107 3)
     × (linksOf (linkedBy 152 1 []) (rowsLeft notedRows (false ∷ true ∷ false ∷ false ∷ false ∷ [])) ≡ link 2 107 3 ∷ [])
-unfolding val numberAt bytesOk same readDigits number numbered parentsTable parentsIn parentsOf isKnown headerRefusal dataRefusal toZero dataOf nameAt stepAt pass properties lists ruleIn ofKind linesOf letters lines reached linksAt linksFrom le header sumOverMarked unmarked renumberedFrom laidOut rowsLeft byRun cast head linkedBy noted notedRows
+unfolding val numberAt bytesOk same readDigits number numbered parentsTable parentsIn parentsOf isKnown toZero nameAt stepAt pass properties lists ruleIn ofKind linesOf letters lines reached linksAt linksFrom le header sumOverMarked unmarked renumberedFrom laidOut rowsLeft byRun cast head linkedBy noted notedRows
 link-moves = (refl, refl, refl, refl)
 
 -- ---- with refusals between: 1 before 30; 30; 31; 32 by one byte; then A with just enough room; the same four again, as rows

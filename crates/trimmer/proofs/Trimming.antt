@@ -13,7 +13,7 @@ use Rattle.reader.specs.declared.Account.{Account}
 use Rattle.reader.specs.declared.Reading.{Reading}
 use Rattle.reader.specs.declared.Reading.the-variants.{Accepted, Refused}
 use Rattle.reader.specs.Reading.{verdict, readingOf}
-use Rattle.reader.specs.Reading.{leftBy as readLeft}
+use Rattle.reader.specs.Reading.{tableLeft as readLeft}
 use Rattle.reader.specs.Reading.{tableAfter as readTable}
 use Rattle.reader.proofs.Exactly.{in-room, has-room}
 use Rattle.reader.proofs.Accepted.{nodes-are, flags-are, table-left, few}

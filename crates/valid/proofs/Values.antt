@@ -12,7 +12,7 @@ use borrow.Author.Tests.{eqb-true}
 use Rattle.le.specs.Le.{val, numberAt}
 use Rattle.base.proofs.Tests.{by-test}
 use Rattle.props.specs.declared.Size.the-variants.{Bytes}
-use Rattle.props.specs.Types.{sizeOf, byte, int, long, string}
+use Rattle.props.specs.Types.{elementSize, byte, int, long, string}
 use Rattle.faces.specs.Faces.{widthOf}
 use Rattle.rules.specs.Table.{N}
 use Rattle.rules.specs.Rules.{isN, takes}
@@ -46,7 +46,7 @@ module _ (types code : ℕ) (h : takes types code ≡ true) where
   takes-string = takes-one string refl
 
 -- ---- numbers of b h i
-pub width-size : (code : ℕ) → isN code ≡ true → sizeOf code ≡ Bytes (widthOf code)
+pub width-size : (code : ℕ) → isN code ≡ true → elementSize code ≡ Bytes (widthOf code)
 unfolding widthOf
 width-size code h =
     by-test (eqb code 0x62) (λ e. rw e)

@@ -17,7 +17,7 @@ use Rattle.props.specs.declared.Size.the-variants.{Bytes, Text, NoSuch}
 use Rattle.props.specs.declared.Step.{Step}
 use Rattle.props.specs.declared.Step.the-variants.{Past, Refused}
 use Rattle.props.specs.Step.{stepAt}
-use Rattle.props.specs.Types.{sizeOf}
+use Rattle.props.specs.Types.{elementSize}
 use Rattle.table.specs.Table.{hasRoom}
 use Rattle.plan.specs.Plan.{judged}
 use Rattle.lookup.specs.declared.Found.{Found}
@@ -82,7 +82,7 @@ step (Refused n) = short (omega arith)
 part : (f : Frame) (first second : List ℕ) → AtMost 12 (partLine f first second)
 unfolding partLine nameLine indexNumbers
 part f first second =
-    either (eqb (f .function) 10) (size (sizeOf (f .x % 65536)))
+    either (eqb (f .function) 10) (size (elementSize (f .x % 65536)))
     (either (eqb (f .function) 11) (either (ltb 65535 (length first)) (short (omega arith)) (short (omega arith)))
     (either (eqb (f .function) 12) (short (omega arith))
     (either (eqb (f .function) 13) (numeral (numbered first second))

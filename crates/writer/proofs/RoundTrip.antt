@@ -1,5 +1,5 @@
 -- Demand 2, second half: write after read, and read after write.
-use Prim.Native.Nat.{ℕ, zero, suc, _+_, _-_, _≤_, _<_}
+use Prim.Native.Nat.{ℕ, _+_, _-_, _≤_, _<_}
 use native.Mathlib.Omega.{arith}
 use mathlib.Core.Path.{_≡_, refl, ap, sym, subst, _∙_}
 use mathlib.Core.Logic.{_⊎_, inl, inr}
@@ -27,13 +27,11 @@ use Rattle.emit.specs.declared.Written.{Written}
 use Rattle.emit.specs.Emission.{done, fileBytes, leftBy}
 use Rattle.valid.specs.Valid.{Valid}
 use Rattle.reader.specs.declared.Account.{Account}
-use Rattle.reader.specs.declared.Reading.{Reading}
 use Rattle.reader.specs.declared.Reading.the-variants.{Accepted, Refused}
 use Rattle.reader.specs.Reading.{readingOf, tableAfter, verdict, checked}
-use Rattle.reader.specs.Reading.{byNumber as byNumberOf}
 use Rattle.reader.proofs.Accepted.{nodes-are, flags-are, table-left}
 use Rattle.reader.proofs.Exactly.{verdict-valid, in-room, has-room, accepted-parts, answersTheRules}
-use Rattle.reader.proofs.Numbers.{numberOf, checked-told}
+use Rattle.reader.proofs.Numbers.{numberOf, by-stage, checked-told}
 use Rattle.table.proofs.Rests.{length-rowsAt}
 use Rattle.reader.proofs.Whole.{short-table}
 use Rattle.writer.specs.Writer.{planRows, writtenOf, outputAfter}
@@ -145,15 +143,11 @@ module _ (plan s : List ℕ) (flags : ℕ) (file t : List ℕ) (w : Wrote plan s
       by (inl e) = ap (λ b. walkOf b .number) (enc .encoding) ∙ e
       by (inr e) = absurd (e .1 (enc .few))
 
-  by-stages : (m at : ℕ) (next : Reading) {n place : ℕ} → m ≡ walkOf file .number → (next ≡ Refused n place → Told n) → byNumberOf m at next ≡ Refused n place → Told n
-  by-stages zero at next e on r = on r
-  by-stages (suc m) at next e on r =
-      inr (inl (ap numberOf (sym r) ∙ e ∙ not-walked (λ z. omega (arith, e, z))))
-
   verdict-told : {n place : ℕ} → verdict file ≡ Refused n place → Told n
   unfolding verdict
   verdict-told {n} {place} r =
-      by-stages (limited file .number) (limited file .at) (checked file (limited file .rows)) (ap (λ x. x .number) is-walk)
+      let number = ap (λ x. x .number) is-walk in
+      by-stage Told (limited file .number) (limited file .at) (checked file (limited file .rows)) (λ h. inr (inl (number ∙ not-walked (λ z. h (number ∙ z)))))
       (λ c. inr (inr (checked-told file (limited file .rows) n place c)))
       r
 

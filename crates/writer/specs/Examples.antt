@@ -10,7 +10,7 @@ use lib.ListN.{length, replicate}
 use Rattle.le.specs.Le.{val, numberAt, le}
 use Rattle.names.specs.Names.{bytesOk}
 use Rattle.kinds.specs.Kinds.{root, model, mesh, parentsTable, parentsIn, parentsOf, isKnown}
-use Rattle.props.specs.Step.{headerRefusal, dataRefusal, toZero, dataOf, nameAt, stepAt}
+use Rattle.props.specs.Step.{toZero, nameAt, stepAt}
 use Rattle.body.specs.Body.{pass, properties, exactly}
 use Rattle.table.specs.declared.Row.{Row}
 use Rattle.table.specs.Table.{noParent, hasRow, rowAt, rowsAt}
@@ -23,7 +23,7 @@ use Rattle.writer.specs.Forest.{nodesUnder, forestOf, laidOut}
 use Rattle.writer.specs.Writable.{rowOf, Ancestor, nearest, higher, Near, MayHold, rowsNaming}
 
 unfoldable write : (plan s : List ℕ) (room : ℕ) → Written
-unfolding val numberAt le bytesOk parentsTable parentsIn parentsOf isKnown headerRefusal dataRefusal toZero dataOf nameAt stepAt pass properties exactly hasRow rowAt rowsAt header fileHeader upFrom pathOf isOn rightParent naming rowRefusal judgedFrom judged under sizes nodesBytes roots fileBytes emission writtenOf
+unfolding val numberAt le bytesOk parentsTable parentsIn parentsOf isKnown toZero nameAt stepAt pass properties exactly hasRow rowAt rowsAt header fileHeader upFrom pathOf isOn rightParent naming rowRefusal judgedFrom judged under sizes nodesBytes roots fileBytes emission writtenOf
 write plan s room = writtenOf plan s 0 room
 
 -- E10's rows, and its private node's body anywhere
@@ -47,7 +47,7 @@ answers = (refl, refl, refl, refl, refl, refl, refl)
 output : (outputAfter (rootRow 0) [] 0 (replicate 42 8) ≡ 0x63 ∷ 0x61 ∷ 0x73 ∷ 0x74 ∷ 1 ∷ 0 ∷ 0 ∷ 0 ∷ 1 ∷ 0 ∷ 0 ∷ 0 ∷ 0 ∷ 0 ∷ 0 ∷ 0 ∷
     0x72 ∷ 0x6F ∷ 0x6F ∷ 0x74 ∷ 24 ∷ 0 ∷ 0 ∷ 0 ∷ 0 ∷ 0 ∷ 0 ∷ 0 ∷ 0 ∷ 0 ∷ 0 ∷ 0 ∷ 0 ∷ 0 ∷ 0 ∷ 0 ∷ 0 ∷ 0 ∷ 0 ∷ 0 ∷ 8 ∷ 8 ∷ [])
     × (outputAfter (rootRow 0) [] 0 (replicate 39 8) ≡ replicate 39 8)
-unfolding write leftBy outputAfter val numberAt le bytesOk parentsTable parentsIn parentsOf isKnown headerRefusal dataRefusal toZero dataOf nameAt stepAt pass properties exactly hasRow rowAt rowsAt header fileHeader upFrom pathOf isOn rightParent naming rowRefusal judgedFrom judged under sizes nodesBytes roots fileBytes emission writtenOf
+unfolding write leftBy outputAfter val numberAt le bytesOk parentsTable parentsIn parentsOf isKnown toZero nameAt stepAt pass properties exactly hasRow rowAt rowsAt header fileHeader upFrom pathOf isOn rightParent naming rowRefusal judgedFrom judged under sizes nodesBytes roots fileBytes emission writtenOf
 output = (refl, refl)
 
 -- the forest of E10's rows; and where its bodies lie in the file

@@ -9,8 +9,7 @@ use borrow.Author.Tests.{le-leb}
 use Rattle.le.specs.Le.{AreBytes}
 use Rattle.table.specs.Table.{rowsAt, hasRoom}
 use Rattle.reader.specs.declared.Reading.{Reading}
-use Rattle.reader.specs.Reading.{verdict}
-use Rattle.reader.specs.Contract.{Small}
+use Rattle.reader.specs.Reading.{verdict, Small}
 use Rattle.reader.proofs.Exactly.{in-room}
 use Rattle.reader.proofs.Accepted.{table-rows}
 use Rattle.listing.proofs.Listed.{listing-long, listing-refused, listing-accepted}

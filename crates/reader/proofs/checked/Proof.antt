@@ -12,7 +12,7 @@ use Rattle.table.specs.Table.{rowsAt}
 use Rattle.links.specs.Links.{linked}
 use Rattle.reader.specs.declared.Reading.the-variants.{Refused}
 use Rattle.reader.specs.Reading.{ruled}
-use Rattle.reader.specs.Contract.{leftIn}
+use Rattle.reader.specs.Private.{leftIn}
 use Rattle.reader.proofs.Judging.{links-counted}
 use Rattle.reader.proofs.Whole.{bones-ok, table-ok, links-place, refused-rules, refused-links, account-checked}
 use Rattle.reader.proofs.checked.Statement.{statement}
@@ -33,11 +33,11 @@ slice-aggregate-rules-of c = search needs
 rules-of-requires : tie.Need-rules-of-requires
 rules-of-requires c κs = search needs
 
-cast-refused : tie.Need-cast-refused
-cast-refused c = search needs
+cast-refuse-and-clear : tie.Need-cast-refuse-and-clear
+cast-refuse-and-clear c = search needs
 
-refused-requires : tie.Need-refused-requires
-refused-requires c κs = search needs
+refuse-and-clear-requires : tie.Need-refuse-and-clear-requires
+refuse-and-clear-requires c κs = search needs
 
 same-length : tie.Need-same-length
 same-length c = search needs
@@ -63,7 +63,7 @@ module _ (c : tie.After-rules-of) where
 returns : tie.Need-returns
 returns c =
     let r = c .before .before .before .before .before .before .before in
-    let x = c .before .before .refused .ensures in (
+    let x = c .before .before .refuse-and-clear .ensures in (
       x .0 ∙ ap (λ u. Refused (u .number) (u .place)) (rules r) ∙ refused-rules (file r) (rows r) (λ e. c .before .before .before .before .before .if1 .taken (ap (λ u. u .number) (rules r) ∙ e)),
       x .1 ∙ ap (λ y. leftIn y (start r .args .table .now)) (sym (x .0)),
     )
@@ -84,16 +84,16 @@ module _ (c : tie.After-links-of) where
   no-rule : ruled (file ruled-at) (rows ruled-at) (rows ruled-at) .number ≡ 0
   no-rule = right ruled-at (c .before .before .if1 .left)
 
-cast-refused-2 : tie.Need-cast-refused-2
-cast-refused-2 c =
+cast-refuse-and-clear-2 : tie.Need-cast-refuse-and-clear-2
+cast-refuse-and-clear-2 c =
     let l = c .before .before .before in
     let s = start (ruled-at l) in
     let a = s .args in
     let ok = table-ok (length (a .file .now)) (a .table .now) (a .nodes) (s .pre .1) in
     omega (arith, ap (λ u. u .place) (links l), links-place (a .file .now) (rows (ruled-at l)) (length (a .file .now)) (a .nodes) ok, s .pre .2)
 
-refused-requires-2 : tie.Need-refused-requires-2
-refused-requires-2 c κs = search needs
+refuse-and-clear-requires-2 : tie.Need-refuse-and-clear-requires-2
+refuse-and-clear-requires-2 c κs = search needs
 
 same-length-2 : tie.Need-same-length-2
 same-length-2 c = search needs
@@ -102,7 +102,7 @@ returns-2 : tie.Need-returns-2
 returns-2 c =
     let l = c .before .before .before .before .before .before .before in
     let r = ruled-at l in
-    let x = c .before .before .refused2 .ensures in (
+    let x = c .before .before .refuse-and-clear2 .ensures in (
       x .0 ∙ ap (λ u. Refused (u .number) (u .place)) (links l)
           ∙ refused-links (file r) (rows r) (no-rule l) (λ e. c .before .before .before .before .before .if2 .taken (ap (λ u. u .number) (links l) ∙ e)),
       x .1 ∙ ap (λ y. leftIn y (start r .args .table .now)) (sym (x .0)),
@@ -135,13 +135,13 @@ checked-spec =
     count-bones-requires
     slice-aggregate-rules-of
     rules-of-requires
-    cast-refused
-    refused-requires
+    cast-refuse-and-clear
+    refuse-and-clear-requires
     same-length
     returns
     links-of-requires
-    cast-refused-2
-    refused-requires-2
+    cast-refuse-and-clear-2
+    refuse-and-clear-requires-2
     same-length-2
     returns-2
     own-of-requires

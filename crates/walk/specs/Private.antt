@@ -1,4 +1,4 @@
--- What the walk over a node, or over so many, promises to the functions that call it.
+-- What private functions promise each other; nothing here need be believed.
 use mathlib.Core.Path.{_≡_}
 use Prim.Native.Nat.{ℕ, _+_, _≤_}
 use mathlib.Core.List.{List}

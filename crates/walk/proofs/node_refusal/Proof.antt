@@ -1,10 +1,10 @@
--- `walk::refusal`: the definition's tests in their order.
+-- `walk::node_refusal`: the definition's tests in their order.
 use mathlib.Core.Path.{sym, _∙_}
 use borrow.Author.Needs.{needs}
 use borrow.Author.Tests.{not-true, not-false}
 use Rattle.walk.proofs.Cases.{ill, misplaced, rowless, deep, crowded, right}
-use Rattle.walk.proofs.refusal.Statement.{statement}
-use Rattle.walk.proofs.refusal.Tie as tie
+use Rattle.walk.proofs.node_refusal.Statement.{statement}
+use Rattle.walk.proofs.node_refusal.Tie as tie
 
 ill-sized-requires : tie.Need-ill-sized-requires
 ill-sized-requires c κs = search needs
@@ -58,8 +58,8 @@ returns-6 c =
     (sym (two .before .may-stand .ensures) ∙ not-false _ (two .if2 .left))
     (four .before .if3 .left) (four .if4 .left) (sym (c .before .too-many .ensures) ∙ c .if5 .left)
 
-pub refusal-spec : {M : Type 1} → statement M
-refusal-spec =
+pub node-refusal-spec : {M : Type 1} → statement M
+node-refusal-spec =
     tie.close
     (tie.spec
     ill-sized-requires

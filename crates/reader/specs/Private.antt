@@ -1,5 +1,5 @@
--- What functions ask of a table, and promise of it and of an account.
-use Prim.Native.Nat.{ℕ, _≤_, _<_, _^_}
+-- What private functions promise each other; nothing here need be believed.
+use Prim.Native.Nat.{ℕ, _≤_, _<_}
 use mathlib.Core.Path.{_≡_}
 use mathlib.Core.List.{List}
 use lib.ListN.{getD}
@@ -11,7 +11,7 @@ use Rattle.reader.specs.Reading.{bonesUnder}
 use Rattle.reader.specs.declared.Reading.{Reading}
 use Rattle.reader.specs.declared.Reading.the-variants.{Accepted, Refused}
 
--- a row among n of a file of so many bytes: its body lies in the file behind a header, and a Bone is under one of them
+-- a row among n of a file of `size` bytes: its body lies in the file after a header, and a Bone is under one of them
 pub record RowOk (size n : ℕ) (r : Row) : Type 0 where
   pub first : 24 ≤ r .start
   pub onward : r .start ≤ r .end
@@ -33,8 +33,3 @@ Counted bones rows = (p : ℕ) → getD bones p 0 ≡ bonesUnder rows p
 abbrev pub leftIn : Reading → List ℕ → List ℕ
 leftIn (Accepted a) t = t
 leftIn (Refused n place) t = cleared t
-
--- an account's numbers are of 32 bits
-abbrev pub Small : Reading → Type 0
-Small (Accepted a) = (a .known .0 < 2 ^ 32) × (a .unknown .0 < 2 ^ 32) × (a .faces .0 < 2 ^ 32) × (a .degenerate < 2 ^ 32)
-Small (Refused n place) = Unit {0}

@@ -1,14 +1,14 @@
--- `props::size_of`: each arm by its code, and the last by none of them.
+-- `props::element_size`: each arm by its code, and the last by none of them.
 use Prim.Native.Nat.{ℕ}
 use mathlib.Core.Path.{_≡_, refl, ap, sym}
 use borrow.Author.Tests.{ne-eqb}
 use Rattle.base.proofs.Answers.{told}
-use Rattle.props.specs.Types.{sizeOf, sizeNumbers}
-use Rattle.props.proofs.size_of.Statement.{statement}
-use Rattle.props.proofs.size_of.Tie as tie
+use Rattle.props.specs.Types.{elementSize, sizeNumbers}
+use Rattle.props.proofs.element_size.Statement.{statement}
+use Rattle.props.proofs.element_size.Tie as tie
 
-by-code : {k code : ℕ} → code ≡ k → (sizeOf k ≡ sizeOf code) × (sizeNumbers (sizeOf k) ≡ sizeNumbers (sizeOf code))
-by-code e = told sizeNumbers (ap sizeOf (sym e))
+by-code : {k code : ℕ} → code ≡ k → (elementSize k ≡ elementSize code) × (sizeNumbers (elementSize k) ≡ sizeNumbers (elementSize code))
+by-code e = told sizeNumbers (ap elementSize (sym e))
 
 returns : tie.Need-returns
 returns c = by-code (c .match .keys1)
@@ -45,8 +45,8 @@ returns-11 c =
     let r = c .match .rest in
     simp (ne-eqb _ _ (r .0 .0 .0 .0 .0 .0 .0 .0 .0 .1), ne-eqb _ _ (r .0 .0 .0 .0 .0 .0 .0 .0 .1), ne-eqb _ _ (r .0 .0 .0 .0 .0 .0 .0 .1), ne-eqb _ _ (r .0 .0 .0 .0 .0 .0 .1), ne-eqb _ _ (r .0 .0 .0 .0 .0 .1), ne-eqb _ _ (r .0 .0 .0 .0 .1), ne-eqb _ _ (r .0 .0 .0 .1), ne-eqb _ _ (r .0 .0 .1), ne-eqb _ _ (r .0 .1), ne-eqb _ _ (r .1)) (refl, refl)
 
-pub size-of-spec : {M : Type 1} → statement M
-size-of-spec =
+pub element-size-spec : {M : Type 1} → statement M
+element-size-spec =
     tie.close
     (tie.spec
     returns
