@@ -36,7 +36,8 @@ mesh-names = refl
 
 -- m is a link of a Mesh, text of a Curve, and free on a Model
 same-name : (found mesh "m" ∷ found curve "m" ∷ found model "m" ∷ found root "n" ∷ []) ≡
-    rule mesh "m" plain (only long) single optional (linkTo material) ∷ rule curve "m" plain (only string) single required (oneOf modes) ∷ free ∷ free ∷ []
+    rule mesh "m" plain (only long) single optional (linkTo material) ∷
+    rule curve "m" plain (only string) single required (oneOf modes) ∷ free ∷ free ∷ []
 unfolding found letters
 same-name = refl
 
