@@ -10,6 +10,7 @@ use Rattle.names.specs.Names.{bytesOk, same, decimal, number, numbered}
 use Rattle.kinds.specs.Kinds.{root, model, animation, instance, metadata, lineIn, lineOf, isKnown, standsAtTop, standsUnder, mayStand}
 use Rattle.kinds.specs.Kinds.{lines as kindLines}
 use Rattle.table.specs.Table.{noParent, hasRoom, zeroed, cleared, flat, filled}
+use Rattle.table.specs.Counts.{countUnder}
 use Rattle.props.specs.Step.{headerRefusal, dataRefusal, toZero, dataOf, nameAt, stepAt}
 use Rattle.body.specs.Body.{pass, properties, firstNamed}
 use Rattle.faces.specs.Faces.{widthOf, facesIn, below, degenerate}
@@ -23,7 +24,7 @@ use Rattle.format.specs.Forest.{header, fileHeader}
 use Rattle.links.specs.Links.{reached, linksAt, linksFrom, resolved, linked}
 use Rattle.walk.specs.Walk.{headerAt, nodeRefusal, andThen, children, knownNode, nodeBy, node, nodeAt, childrenAt, walkOf, limited}
 use Rattle.reader.specs.declared.Reading.the-variants.{Refused}
-use Rattle.reader.specs.Reading.{Numbers, numbersOf, bonesUnder, judgedWith, ruled, ownKnown, ownUnknown, checked, verdict, readingOf, tableAfter}
+use Rattle.reader.specs.Reading.{Numbers, numbersOf, judgedWith, ruled, ownKnown, ownUnknown, checked, verdict, readingOf, tableAfter}
 
 -- a table of 8,193 numbers, none of them 0
 abbrev lent : List ℕ
@@ -31,7 +32,7 @@ lent = replicate 8193 7
 
 -- all numbers of a reading with it; and some numbers of the table after that
 unfoldable read : List ℕ → Numbers
-unfolding val numberAt bytesOk same decimal number numbered kindLines lineIn lineOf isKnown standsAtTop standsUnder mayStand headerRefusal dataRefusal toZero dataOf nameAt stepAt pass properties firstNamed widthOf facesIn below degenerate letters lines unpacked texts lists ruleIn ofKind linesOf isText inSet isOneOf le lengthOf valueOf typesOf besideOf typed misses lacks faultOf valued nodeFaces nodeLinks verdictAt judgedAt judged reached linksAt linksFrom resolved linked headerAt nodeRefusal andThen children knownNode nodeBy node nodeAt childrenAt walkOf limited bonesUnder judgedWith ruled ownKnown ownUnknown checked verdict hasRoom readingOf
+unfolding val numberAt bytesOk same decimal number numbered kindLines lineIn lineOf isKnown standsAtTop standsUnder mayStand headerRefusal dataRefusal toZero dataOf nameAt stepAt pass properties firstNamed widthOf facesIn below degenerate letters lines unpacked texts lists ruleIn ofKind linesOf isText inSet isOneOf le lengthOf valueOf typesOf besideOf typed misses lacks faultOf valued nodeFaces nodeLinks verdictAt judgedAt judged reached linksAt linksFrom resolved linked headerAt nodeRefusal andThen children knownNode nodeBy node nodeAt childrenAt walkOf limited countUnder judgedWith ruled ownKnown ownUnknown checked verdict hasRoom readingOf
 read s = numbersOf (readingOf s lent)
 
 unfoldable after : List ℕ → (places : List ℕ) → List ℕ
