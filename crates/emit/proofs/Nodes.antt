@@ -1,4 +1,4 @@
--- Nodes put one behind the other.
+-- Nodes put one after the other.
 use Prim.Native.Nat.{ℕ, _+_, _-_, _≤_, _<_}
 use native.Mathlib.Numerals.{add-one}
 use native.Mathlib.Omega.{arith}
@@ -13,7 +13,7 @@ use Rattle.table.specs.Table.{rowAt, rowsAt}
 use Rattle.format.specs.Forest.{header}
 use Rattle.format.specs.Rows.{hashOf, bodyOf}
 use Rattle.format.proofs.Headers.{length-header}
-use Rattle.emit.specs.Emission.{sizeOf, nodesBytes}
+use Rattle.emit.specs.Emission.{nodeSize, nodesBytes}
 use Rattle.table.proofs.Rests.{rest, rest-all, rest-next, rest-none}
 
 -- ---- one node
@@ -66,7 +66,7 @@ module _ (s t : List ℕ) (n : ℕ) where
   unfolding nodesBytes
   nodes-none i h = rw (rest-none t n i h)
 
-  module _ (i : ℕ) (h : i < n) {r : Row} {size : ℕ} (e : r ≡ rowAt t i) (f : size ≡ sizeOf s i (rowAt t i) (rowsAt t (i + 1) (n - (i + 1)))) where
+  module _ (i : ℕ) (h : i < n) {r : Row} {size : ℕ} (e : r ≡ rowAt t i) (f : size ≡ nodeSize s i (rowAt t i) (rowsAt t (i + 1) (n - (i + 1)))) where
     more : nodesFrom i ≡ nodeOf s r size ++ nodesFrom (i + 1)
     unfolding nodesBytes
     more = rw (f, e, rest-next t n i h, add-one i) (simp append-assoc)

@@ -44,7 +44,7 @@ same k s h p c k′ s′ h′ p′ c′ x y f g e = record {
 differ : {P : Type 0} (k k′ : ℕ) → isKnown k ≡ true → isKnown k′ ≡ false → k ≡ k′ → P
 differ k k′ e f h = absurd (true≢false (sym e ∙ ap isKnown h ∙ f))
 
--- the bytes of nodes with more behind them
+-- the bytes of nodes with more after them
 pub unique : (f g : Forest) (x y : List ℕ) → WellFormed f → WellFormed g → count f ≡ count g → encode f ++ x ≡ encode g ++ y → f ≡ g
 unique end end x y w v n e = refl
 unique end (known k h p b kids next) x y w v n e = absurd (omega (arith, n))

@@ -4,8 +4,7 @@ use mathlib.Core.Path.{_≡_, refl}
 use mathlib.Core.List.{List, [], _∷_}
 use Rattle.le.specs.Le.{val, numberAt, le}
 use Rattle.names.specs.Names.{bytesOk, same, readDigits, number, numbered}
-use Rattle.kinds.specs.Kinds.{mesh, material, bone, parentsIn, parentsOf, isKnown}
-use Rattle.kinds.specs.Kinds.{parentsTable}
+use Rattle.kinds.specs.Kinds.{mesh, material, bone, parentsIn, parentsOf, isKnown, parentsTable}
 use Rattle.table.specs.declared.Row.{Row}
 use Rattle.props.specs.Step.{toZero, nameAt, stepAt}
 use Rattle.body.specs.Body.{pass, properties}

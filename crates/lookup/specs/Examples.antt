@@ -18,7 +18,7 @@ look bs t row name = lookupOf bs t row name
 abbrev one : ℕ → ℕ → List ℕ
 one name value = 0x62 ∷ 0 ∷ 1 ∷ 0 ∷ 1 ∷ 0 ∷ 0 ∷ 0 ∷ name ∷ value ∷ []
 
--- four bytes before a body of `a`, `b`, and `a` again; and one byte behind it
+-- four bytes before a body of `a`, `b`, and `a` again; and one byte after it
 abbrev bytes : List ℕ
 bytes = 9 ∷ 9 ∷ 9 ∷ 9 ∷ (one 97 5 ++ (one 98 6 ++ (one 97 7 ++ (9 ∷ []))))
 

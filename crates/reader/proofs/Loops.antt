@@ -2,17 +2,13 @@
 use Prim.Native.Nat.{ℕ, zero, suc, _+_, _-_, _≤_, _<_}
 use native.Mathlib.Nat.{zero-add, add-zero, add-assoc}
 use native.Mathlib.Omega.{arith}
-use mathlib.Core.Path.{_≡_, refl, sym, _∙_}
-use mathlib.Core.Bool.{true, false, _&&_}
+use mathlib.Core.Path.{_≡_, refl}
+use mathlib.Core.Bool.{true, false}
 use mathlib.Core.List.{List}
-use lib.Dec.{eqb}
-use lib.ListN.{length, getD, set}
-use lib.Seq.{getD-set-same, getD-set-other}
-use borrow.Author.Tests.{eq-eqb, ne-eqb, eqb-true, eqb-false}
+use lib.ListN.{length}
 use Rattle.base.specs.Refusals.{refusedOr}
 use Rattle.base.proofs.Refusals.{is-refused}
-use Rattle.base.proofs.Tests.{by-test}
-use Rattle.kinds.specs.Kinds.{bone, isKnown}
+use Rattle.kinds.specs.Kinds.{isKnown}
 use Rattle.table.specs.declared.Row.{Row}
 use Rattle.table.specs.Table.{rowAt, rowsAt}
 use Rattle.table.proofs.Rests.{rest, rest-all, rest-more, rest-none}
@@ -23,42 +19,6 @@ use Rattle.format.proofs.Rows.{body-length}
 use Rattle.reader.specs.declared.Ruled.{Ruled}
 use Rattle.reader.specs.Reading.{bonesUnder, judgedWith, counted, uncounted, ruled, ownKnown, ownUnknown}
 use Rattle.reader.specs.Private.{RowOk, RowsOk}
-
--- ---- Bones
-pub bones-few : (t : List ℕ) (k n p : ℕ) → bonesUnder (rowsAt t k n) p ≤ n
-unfolding bonesUnder rowsAt
-bones-few t k zero p = omega arith
-bones-few t k (suc n) p =
-    let ih = bones-few t (suc k) n p in
-    by-test (eqb (rowAt t k .kind) bone && eqb (rowAt t k .parent) p) (λ e. rw e (omega (arith, ih))) (λ e. rw e (omega (arith, ih)))
-
--- numbers that, with the Bones of the rest, tell those of all
-abbrev pub Counting : (bones : List ℕ) (t : List ℕ) (n i : ℕ) → Type 0
-Counting bones t n i = (p : ℕ) → getD bones p 0 + bonesUnder (rest t n i) p ≡ bonesUnder (rowsAt t 0 n) p
-
-pub counting-begun : (bones t : List ℕ) (n : ℕ) → ((p : ℕ) → getD bones p 0 ≡ 0) → Counting bones t n 0
-counting-begun bones t n h p = rw (h p, rest-all t n) (omega arith)
-
-module _ (bones t : List ℕ) (n i : ℕ) where
-  module _ (h : i < n) {r : Row} (e : r ≡ rowAt t i) (c : Counting bones t n i) where
-    pub counting-bone : (x : ℕ) → r .kind ≡ bone → r .parent < length bones → x ≡ getD bones (r .parent) 0 + 1
-        → Counting (set bones (r .parent) x) t n (i + 1)
-    unfolding bonesUnder
-    counting-bone x k b f p =
-        let now = rw (rest-more t n i h, ← e, eq-eqb (r .kind) bone k) at (c p) in
-        by-test
-        (eqb (r .parent) p)
-        (λ q. rw (← eqb-true (r .parent) p q, getD-set-same bones (r .parent) x 0 b, f)
-        (omega (arith, rw (← eqb-true (r .parent) p q, eq-eqb (r .parent) (r .parent) refl) at now)))
-        (λ q. rw (getD-set-other bones (r .parent) p x 0 (λ g. eqb-false (r .parent) p q (sym g))) (rw q at now))
-
-    pub counting-other : (r .kind ≡ bone → ⊥) → Counting bones t n (i + 1)
-    unfolding bonesUnder
-    counting-other k p = rw (rest-more t n i h, ← e, ne-eqb (r .kind) bone k) at (c p)
-
-  pub counting-ended : n ≤ i → Counting bones t n i → (p : ℕ) → getD bones p 0 ≡ bonesUnder (rowsAt t 0 n) p
-  unfolding bonesUnder
-  counting-ended h c p = sym (add-zero (getD bones p 0)) ∙ rw (rest-none t n i h) at (c p)
 
 -- ---- own bytes
 module _ (t : List ℕ) (n i : ℕ) where

@@ -3,7 +3,6 @@ use Prim.Native.Nat.{ℕ, _≤_, _<_}
 use mathlib.Core.Path.{_≡_}
 use mathlib.Core.List.{List}
 use lib.ListN.{getD}
-use Rattle.base.specs.Limits.{mostRows}
 use Rattle.kinds.specs.Kinds.{bone}
 use Rattle.table.specs.declared.Row.{Row}
 use Rattle.table.specs.Table.{rowAt, cleared}
@@ -20,10 +19,6 @@ pub record RowOk (size n : ℕ) (r : Row) : Type 0 where
 
 abbrev pub RowsOk : (size : ℕ) (t : List ℕ) (n : ℕ) → Type 0
 RowsOk size t n = (i : ℕ) → i < n → RowOk size n (rowAt t i)
-
--- the Bones of n rows are under rows that a table has
-abbrev pub BoneParents : (t : List ℕ) (n : ℕ) → Type 0
-BoneParents t n = (i : ℕ) → i < n → rowAt t i .kind ≡ bone → rowAt t i .parent < mostRows
 
 -- numbers that tell, by its place, the Bones under each row
 abbrev pub Counted : (bones : List ℕ) (rows : List Row) → Type 0

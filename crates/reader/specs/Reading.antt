@@ -1,14 +1,15 @@
 -- Document 01's reading: "1 to 4; then nodes as they come ... Then, row by row: all 13, then 14, then all 15. Then links, row
 -- by row. ... The first found is the answer; all other numbers of it are 0."
 use Prim.Native.Nat.{ℕ, suc, _+_, _-_, _<_, _^_}
-use mathlib.Core.Bool.{cond, _&&_}
+use mathlib.Core.Bool.{cond}
 use mathlib.Core.List.{List, [], _∷_}
-use lib.Dec.{eqb}
 use lib.ListN.{length}
 use Rattle.base.specs.Refusals.{refusedOr}
 use Rattle.kinds.specs.Kinds.{bone, isKnown}
 use Rattle.table.specs.declared.Row.{Row}
+use Rattle.table.specs.declared.Which.the-variants.{OfKind}
 use Rattle.table.specs.Table.{hasRoom, cleared, filled}
+use Rattle.table.specs.Counts.{countUnder}
 use Rattle.format.specs.Rows.{bodyOf, ownBytes}
 use Rattle.judge.specs.declared.Judged.{Judged}
 use Rattle.judge.specs.Judge.{refusedNode, judged}
@@ -23,9 +24,8 @@ use Rattle.reader.specs.declared.Ruled.{Ruled}
 -- ---- 13 to 15, row by row
 
 -- "the Bone children of that Skeleton": the Bones under a parent
-unfoldable pub bonesUnder : List Row → (parent : ℕ) → ℕ
-bonesUnder [] parent = 0
-bonesUnder (r ∷ rs) parent = cond (eqb (r .kind) bone && eqb (r .parent) parent) (suc (bonesUnder rs parent)) (bonesUnder rs parent)
+abbrev pub bonesUnder : List Row → (parent : ℕ) → ℕ
+bonesUnder rows parent = countUnder (OfKind bone) rows parent
 
 -- an unknown node has no rules
 abbrev pub unjudged : Judged

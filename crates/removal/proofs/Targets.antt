@@ -7,8 +7,7 @@ use mathlib.Core.Bool.{Bool, true, false, cond}
 use mathlib.Core.List.{List}
 use lib.Dec.{eqb}
 use borrow.Author.Tests.{ne-eqb}
-use Rattle.kinds.specs.Kinds.{isKnown, parentsOf, parentsIn}
-use Rattle.kinds.specs.Kinds.{parentsTable}
+use Rattle.kinds.specs.Kinds.{isKnown, parentsOf, parentsIn, parentsTable}
 use Rattle.rules.specs.Table.{Line, lines, linkTo}
 use Rattle.rules.specs.Rules.{linesOf, ruleOf}
 use Rattle.rules.proofs.Laws.{all, ruled}

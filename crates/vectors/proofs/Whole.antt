@@ -19,7 +19,7 @@ use Rattle.props.specs.declared.Step.the-variants.{Past, Refused}
 use Rattle.props.specs.Step.{stepAt}
 use Rattle.props.specs.Types.{elementSize}
 use Rattle.table.specs.Table.{hasRoom}
-use Rattle.plan.specs.Plan.{judged}
+use Rattle.plan.specs.Plan.{planRefusal}
 use Rattle.lookup.specs.declared.Found.{Found}
 use Rattle.lookup.specs.declared.Found.the-variants.{At}
 use Rattle.lookup.specs.declared.Found.the-variants.{Refused as Refused′}
@@ -119,7 +119,7 @@ unfolding writeNumbers planNumbers partsNumbers
 write f s block room =
     either (ltb 8300 (length block / 4)) (short (omega arith))
     (either (eqb (f .function) 34) (short (omega arith))
-    (two-more (either (eqb (judged s (firstOf (numbersIn block (length block / 4)) (f .x)) .number) 0) (short (omega arith)) (short (omega arith)))))
+    (two-more (either (eqb (planRefusal s (firstOf (numbersIn block (length block / 4)) (f .x)) .number) 0) (short (omega arith)) (short (omega arith)))))
 
 trim : (f : Frame) (s block : List ℕ) (room : ℕ) → AtMost 11 (trimLine f s block room)
 unfolding trimLine trimNumbers

@@ -3,9 +3,8 @@ use Prim.Native.Nat.{ℕ}
 use native.Mathlib.Omega.{arith}
 use mathlib.Core.Path.{_≡_, refl, sym, ap, _∙_}
 use mathlib.Core.List.{List}
-use lib.ListN.{length, length-replicate}
+use lib.ListN.{length}
 use borrow.Author.Needs.{needs}
-use Rattle.base.proofs.Stores.{zeros}
 use Rattle.table.proofs.Rests.{length-rowsAt}
 use Rattle.table.specs.declared.Row.{Row}
 use Rattle.table.specs.Table.{rowsAt}
@@ -14,24 +13,22 @@ use Rattle.reader.specs.declared.Reading.the-variants.{Refused}
 use Rattle.reader.specs.Reading.{ruled}
 use Rattle.reader.specs.Private.{leftIn}
 use Rattle.reader.proofs.Judging.{links-counted}
-use Rattle.reader.proofs.Whole.{bones-ok, table-ok, links-place, refused-rules, refused-links, account-checked}
+use Rattle.reader.proofs.Whole.{bones-counted, table-ok, links-place, refused-rules, refused-links, account-checked}
 use Rattle.reader.proofs.checked.Statement.{statement}
 use Rattle.reader.proofs.checked.Tie as tie
 
-slice-aggregate-count-bones : tie.Need-slice-aggregate-count-bones
-slice-aggregate-count-bones c = search needs
-
-count-bones-requires : tie.Need-count-bones-requires
-count-bones-requires c κs =
-    let s = c .before .before .before .before in
-    let a = s .args in
-    (s .pre .0, length-replicate {A = ℕ} 1024 0, zeros 1024, bones-ok (length (a .file .now)) (a .table .now) (a .nodes) (s .pre .0) (s .pre .1))
+count-under-requires : tie.Need-count-under-requires
+count-under-requires c κs = search needs
 
 slice-aggregate-rules-of : tie.Need-slice-aggregate-rules-of
 slice-aggregate-rules-of c = search needs
 
 rules-of-requires : tie.Need-rules-of-requires
-rules-of-requires c κs = search needs
+rules-of-requires c κs =
+    let s = c .before .before .before .before .before .before in
+    let k = c .before .before .count-under in
+    let long : length (k .result) ≡ 1024 = search needs in
+    (s .pre .0, s .pre .1, bones-counted (length (s .args .file .now)) (s .args .table .now) (s .args .nodes) (s .pre .0) (s .pre .1) (k .result) long (k .ensures))
 
 cast-refuse-and-clear : tie.Need-cast-refuse-and-clear
 cast-refuse-and-clear c = search needs
@@ -45,7 +42,7 @@ same-length c = search needs
 -- at the rules' answer: the file, its rows, and that the rules are those of the rows
 module _ (c : tie.After-rules-of) where
   abbrev start : tie.Start
-  start = c .before .before .before .before .before .before .before .before .before
+  start = c .before .before .before .before .before .before .before
 
   abbrev file : List ℕ
   file = start .args .file .now
@@ -131,8 +128,7 @@ pub checked-spec : {M : Type 1} → statement M
 checked-spec =
     tie.close
     (tie.spec
-    slice-aggregate-count-bones
-    count-bones-requires
+    count-under-requires
     slice-aggregate-rules-of
     rules-of-requires
     cast-refuse-and-clear

@@ -1,4 +1,4 @@
--- What private functions ask and promise.
+-- What private functions promise each other; nothing here need be believed.
 use Prim.Native.Nat.{ℕ, zero, suc, _<_}
 use mathlib.Core.Path.{_≡_}
 use mathlib.Core.List.{List, [], _∷_}

@@ -1,4 +1,4 @@
--- What private functions ask and promise.
+-- What private functions promise each other; nothing here need be believed.
 use Prim.Native.Nat.{ℕ, _+_, _-_, _≤_, _<_}
 use mathlib.Core.Path.{_≡_}
 use mathlib.Core.Bool.{Bool, true, false}
@@ -10,7 +10,7 @@ use Rattle.table.specs.Table.{rowAt, rowsAt}
 use Rattle.format.specs.Forest.{header}
 use Rattle.format.specs.Rows.{hashOf, bodyOf}
 use Rattle.emit.specs.declared.Measured.{Measured}
-use Rattle.emit.specs.Emission.{sizeOf, nodesBytes, roots}
+use Rattle.emit.specs.Emission.{nodeSize, nodesBytes, roots}
 
 -- a row's header with a size, and its body
 abbrev pub nodeBytes : (s : List ℕ) (size : ℕ) → Row → List ℕ
@@ -18,7 +18,7 @@ nodeBytes s size r = header (r .kind) size (hashOf r) (r .properties) (r .childr
 
 -- at place i, the size of row i, of n rows
 abbrev pub Sized : (sizes s t : List ℕ) (n : ℕ) → Type 0
-Sized zs s t n = (i : ℕ) → i < n → getD zs i 0 ≡ sizeOf s i (rowAt t i) (rowsAt t (i + 1) (n - (i + 1)))
+Sized zs s t n = (i : ℕ) → i < n → getD zs i 0 ≡ nodeSize s i (rowAt t i) (rowsAt t (i + 1) (n - (i + 1)))
 
 -- what was measured of n rows: their file is over 16,777,216 bytes; or it is not, and this is its length, and its roots, and
 -- its sizes

@@ -1,4 +1,4 @@
--- What private functions ask and promise.
+-- What private functions promise each other; nothing here need be believed.
 use Prim.Native.Nat.{ℕ, _≤_, _<_}
 use mathlib.Core.Path.{_≡_}
 use mathlib.Core.Bool.{true, false, cond}
