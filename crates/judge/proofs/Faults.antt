@@ -18,12 +18,14 @@ use Rattle.faces.specs.declared.Values.the-variants.{Below, Past}
 use Rattle.faces.specs.declared.Scanned.{Scanned}
 use Rattle.faces.specs.Faces.{widthOf, facesIn, below, isDegenerate, degenerate, countedBy, scanOf}
 use Rattle.faces.proofs.Laws.{length-facesIn}
-use Rattle.rules.specs.Table.{Line}
-use Rattle.judge.specs.Properties.{Beside, restAt}
+use Rattle.rules.specs.declared.Entry.{Entry}
+use Rattle.rules.specs.Packing.{lineOf}
+use Rattle.rules.proofs.Helds.{by-held}
 use Rattle.judge.specs.declared.valued.Fault.{Fault}
 use Rattle.judge.specs.declared.valued.Fault.the-variants.{Right, Whole, Element}
 use Rattle.judge.specs.declared.valued.Kept.{Kept}
-use Rattle.judge.specs.Valued.{signed, parentOk, byValues, facesAt, faceFault, faultOf}
+use Rattle.judge.specs.Properties.{restAt, Beside}
+use Rattle.judge.specs.Valued.{signed, parentOk, byValues, facesAt, faceFault, faultOf, heldFaces}
 use Rattle.judge.specs.Private.{keptBy, keptAt}
 
 -- ---- the number of a bone
@@ -91,14 +93,14 @@ faces-few s at h =
     omega (arith, n, numberAt-lt 4 s (at + 4) h)
 
 -- a property that is held to be faces, and any other
-module _ (l : Line) (s : List ℕ) (at : ℕ) (b : Beside) where
-  pub held-faces : l .held ≡ 5 → AreBytes s → {r : Kept} → r ≡ keptBy (faceFault s at (b .vertices)) (facesAt s at) →
-      (r ≡ keptAt l s at b) × (r .faces < 4294967296) × (r .degenerate < 4294967296)
+module _ (e : Entry) (s : List ℕ) (at : ℕ) (b : Beside) where
+  pub held-faces : e .held ≡ 5 → AreBytes s → {r : Kept} → r ≡ keptBy (faceFault s at (b .vertices)) (facesAt s at) →
+      (r ≡ keptAt (lineOf e .held) s at b) × (r .faces < 4294967296) × (r .degenerate < 4294967296)
   unfolding keptAt faultOf
-  held-faces e h k =
+  held-faces five h k =
       let few = kept-few (faceFault s at (b .vertices)) (facesAt s at) in
       let less = faces-few s at h in
-      (rw e k, rw k (omega (arith, few, less)), rw k (omega (arith, few, less)))
+      (rw five k, rw k (omega (arith, few, less)), rw k (omega (arith, few, less)))
 
   no-faces : (f : Fault) → record { fault = f; faces = 0; degenerate = 0 } ≡ keptBy f []
   unfolding degenerate
@@ -106,7 +108,24 @@ module _ (l : Line) (s : List ℕ) (at : ℕ) (b : Beside) where
   no-faces Whole = refl
   no-faces (Element k) = refl
 
-  pub held-other : (l .held ≡ 5 → ⊥) → {f : Fault} → f ≡ faultOf l s at b → {r : Kept} → r ≡ record { fault = f; faces = 0; degenerate = 0 } →
-      (r ≡ keptAt l s at b) × (r .faces < 4294967296) × (r .degenerate < 4294967296)
+  other-faces : (e .held ≡ 5 → ⊥) → heldFaces (lineOf e .held) s at ≡ []
+  other-faces =
+      by-held (e .set) (e .target) (λ n held. (n ≡ 5 → ⊥) → heldFaces held s at ≡ [])
+      (λ h. refl) (λ h. refl) (λ h. refl) (λ h. refl) (λ h. refl) (λ h. absurd (h refl)) (λ h. refl) (λ h. refl) (λ h. refl) (λ h. refl)
+      (λ n h. refl) (e .held)
+
+  pub held-other : (e .held ≡ 5 → ⊥) → {f : Fault} → f ≡ faultOf (lineOf e .held) s at b → {r : Kept} → r ≡ record { fault = f; faces = 0; degenerate = 0 } →
+      (r ≡ keptAt (lineOf e .held) s at b) × (r .faces < 4294967296) × (r .degenerate < 4294967296)
   unfolding keptAt
-  held-other n e k = (k ∙ rw (e, ne-eqb (l .held) 5 n) (no-faces (faultOf l s at b)), rw k (omega arith), rw k (omega arith))
+  held-other n q k = (k ∙ rw (q, other-faces n) (no-faces (faultOf (lineOf e .held) s at b)), rw k (omega arith), rw k (omega arith))
+
+  -- a property that is held to none of these breaks nothing
+  pub unheld : (e .held ≡ 1 → ⊥) → (e .held ≡ 2 → ⊥) → (e .held ≡ 3 → ⊥) → (e .held ≡ 4 → ⊥) → (e .held ≡ 5 → ⊥) → (e .held ≡ 6 → ⊥) →
+      (e .held ≡ 7 → ⊥) → (e .held ≡ 8 → ⊥) → faultOf (lineOf e .held) s at b ≡ Right
+  unfolding faultOf
+  unheld =
+      by-held (e .set) (e .target)
+      (λ n held. (n ≡ 1 → ⊥) → (n ≡ 2 → ⊥) → (n ≡ 3 → ⊥) → (n ≡ 4 → ⊥) → (n ≡ 5 → ⊥) → (n ≡ 6 → ⊥) → (n ≡ 7 → ⊥) → (n ≡ 8 → ⊥) → faultOf held s at b ≡ Right)
+      (λ a b c d f g h i. refl) (λ a b c d f g h i. absurd (a refl)) (λ a b c d f g h i. absurd (b refl)) (λ a b c d f g h i. absurd (c refl))
+      (λ a b c d f g h i. absurd (d refl)) (λ a b c d f g h i. absurd (f refl)) (λ a b c d f g h i. absurd (g refl))
+      (λ a b c d f g h i. absurd (h refl)) (λ a b c d f g h i. absurd (i refl)) (λ a b c d f g h i. refl) (λ n a b c d f g h i. refl) (e .held)

@@ -7,18 +7,20 @@ use mathlib.Core.List.{List}
 use lib.ListN.{length, drop, getD, drop-of-length-le}
 use lib.Seq.{drop-cons}
 use borrow.Author.Tests.{eq-eqb, ne-eqb}
+use Rattle.rules.specs.declared.Entry.{Entry}
 use Rattle.rules.specs.Table.{Line, free}
+use Rattle.rules.specs.Packing.{lineOf}
 use Rattle.judge.specs.Properties.{has}
 use Rattle.judge.specs.Missing.{isMissing, misses}
 
 module _ (s starts : List ℕ) where
   -- ---- one line
-  module _ (l : Line) where
-    pub not-missing : (l .required ≡ 1 → ⊥) → false ≡ isMissing l s starts
-    not-missing n = rw (ne-eqb (l .required) 1 n)
+  module _ (e : Entry) where
+    pub not-missing : (e .required ≡ 1 → ⊥) → false ≡ isMissing (lineOf e) s starts
+    not-missing n = rw (ne-eqb (e .required) 1 n)
 
-    pub may-miss : l .required ≡ 1 → not (has s starts (l .name)) ≡ isMissing l s starts
-    may-miss n = rw (eq-eqb (l .required) 1 n)
+    pub may-miss : e .required ≡ 1 → not (has s starts (lineOf e .name)) ≡ isMissing (lineOf e) s starts
+    may-miss n = rw (eq-eqb (e .required) 1 n)
 
   -- ---- some lines
   module _ (ls : List Line) (k : ℕ) where

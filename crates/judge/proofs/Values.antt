@@ -4,27 +4,32 @@ use native.Mathlib.Omega.{arith}
 use native.Mathlib.Nat.{zero-add, add-zero}
 use native.Mathlib.Numerals.{add-one}
 use mathlib.Core.Path.{_≡_, refl, sym, ap, _∙_, subst}
-use mathlib.Core.Bool.{Bool, true, false, cond}
+use mathlib.Core.Bool.{true, false}
 use mathlib.Core.List.{List, [], _∷_, _++_, map}
 use lib.Dec.{eqb}
 use lib.ListN.{length, take, drop, getD, drop-of-length-le, length-append, length-map}
 use lib.Seq.{drop-cons, take-append-seam, sets, sets-eq}
+use borrow.Author.Tests.{eqb-true, eqb-false}
+use Rattle.base.specs.declared.Refusal.{Refusal}
+use Rattle.base.specs.Refusals.{refusedOr}
+use Rattle.base.proofs.Tests.{by-test}
 use Rattle.faces.specs.declared.Face.{Face}
 use Rattle.faces.specs.Faces.{degenerate}
-use Rattle.rules.specs.Table.{Line, free}
+use Rattle.rules.specs.declared.Entry.{Entry}
+use Rattle.rules.specs.Table.{Held, Line, free}
+use Rattle.rules.specs.Packing.{lineOf}
 use Rattle.rules.proofs.Laws.{found}
+use Rattle.rules.proofs.Helds.{no-link}
 use Rattle.props.specs.Step.{nameAt}
-use Rattle.judge.specs.Properties.{Beside, ruleAt, besideOf}
 use Rattle.judge.specs.declared.valued.Fault.{Fault}
 use Rattle.judge.specs.declared.valued.Fault.the-variants.{Right, Whole, Element}
 use Rattle.judge.specs.declared.valued.Kept.{Kept}
-use Rattle.base.specs.declared.Refusal.{Refusal}
 use Rattle.judge.specs.declared.Judged.{Judged}
+use Rattle.judge.specs.Properties.{ruleAt, Beside, besideOf}
 use Rattle.judge.specs.Typed.{typed}
 use Rattle.judge.specs.Missing.{lacks}
-use Rattle.judge.specs.Valued.{faultOf, valued, heldFaces, nodeFaces, linkCount, nodeLinks}
-use Rattle.base.specs.Refusals.{refusal}
-use Rattle.judge.specs.Judge.{byFault, refusedNode, judgedBy, andThen, verdictAt, judgedAt, Bounded}
+use Rattle.judge.specs.Valued.{faultOf, faultNumber, valued, heldFaces, nodeFaces, linkCount, nodeLinks}
+use Rattle.judge.specs.Judge.{verdictAt, refusedNode, acceptedNode, judgedBy, judgedAt, Bounded}
 use Rattle.judge.specs.Private.{lineNumber, keptBy, keptAt, valuedTo}
 use Rattle.judge.proofs.Counted.{degenerate-append}
 
@@ -49,71 +54,64 @@ kept-fault Right fs = refl
 kept-fault Whole fs = refl
 kept-fault (Element k) fs = refl
 
-module _ (l : Line) (s : List ℕ) (at : ℕ) (b : Beside) {k : Kept} (e : k ≡ keptAt l s at b) {q : Fault} (r : k .fault ≡ q) where
-  fault-kept : faultOf l s at b ≡ q
+module _ (h : Held) (s : List ℕ) (at : ℕ) (b : Beside) {k : Kept} (e : k ≡ keptAt h s at b) {q : Fault} (r : k .fault ≡ q) where
+  fault-kept : faultOf h s at b ≡ q
   unfolding keptAt
-  fault-kept = sym (kept-fault (faultOf l s at b) (heldFaces l s at)) ∙ sym (ap (λ k. k .fault) e) ∙ r
+  fault-kept = sym (kept-fault (faultOf h s at b) (heldFaces h s at)) ∙ sym (ap (λ k. k .fault) e) ∙ r
 
-  all-kept : k ≡ keptBy q (heldFaces l s at)
+  all-kept : k ≡ keptBy q (heldFaces h s at)
   unfolding keptAt
-  all-kept = e ∙ ap (λ q. keptBy q (heldFaces l s at)) fault-kept
+  all-kept = e ∙ ap (λ q. keptBy q (heldFaces h s at)) fault-kept
 
 -- one link at most
-pub one-most : (l : Line) → linkCount l ≤ 1
-one-most l = by (eqb (l .held) 9)
-  where
-    by : (b : Bool) → cond b 1 0 ≤ 1
-    by true = omega arith
-    by false = omega arith
+pub one-most : (e : Entry) → linkCount (lineOf e .held) ≤ 1
+one-most e =
+    by-test (eqb (e .held) 9)
+    (λ t. rw (eqb-true (e .held) 9 t) (omega arith))
+    (λ t. let none : linkCount (lineOf e .held) ≡ 0 = no-link e _ 0 (eqb-false (e .held) 9 t) in omega (arith, none))
 
 -- ---- what some properties say on top of what was counted
-abbrev counted : ℕ → Refusal → (faces degenerate links : ℕ) → Judged
-counted zero v f d n = record { number = 0; at = 0; faces = record { 0 = f }; degenerate = d; links = n }
-counted (suc k) v f d n = refusedNode (suc k) (v .at)
+abbrev counted : Refusal → (faces degenerate links : ℕ) → Judged
+counted v f d n = refusedOr (v .number) (refusedNode (v .number) (v .place)) (acceptedNode f d n)
 
 unfoldable pub onTop : (faces degenerate links : ℕ) → List Line → (s : List ℕ) → Beside → (starts : List ℕ) → Judged
 onTop f d n ls s b starts =
-    let v = valued ls s b starts in
     let fs = nodeFaces ls s starts in
-    counted (v .number) v (f + length fs) (d + degenerate fs) (n + nodeLinks ls s starts)
-
-by-none : (k : ℕ) (v : Refusal) (fs : List Face) (n : ℕ) → counted k v (0 + length fs) (0 + degenerate fs) (0 + n) ≡ judgedBy k v fs n
-by-none zero v fs n = rw (zero-add (length fs), zero-add (degenerate fs), zero-add n)
-by-none (suc k) v fs n = refl
+    counted (valued ls s b starts) (f + length fs) (d + degenerate fs) (n + nodeLinks ls s starts)
 
 module _ (ls : List Line) (s : List ℕ) (b : Beside) where
   pub on-none : (starts : List ℕ) → onTop 0 0 0 ls s b starts ≡ valuedTo ls s b starts
   unfolding onTop valuedTo
-  on-none starts = by-none (valued ls s b starts .number) (valued ls s b starts) (nodeFaces ls s starts) (nodeLinks ls s starts)
+  on-none starts = let fs = nodeFaces ls s starts in rw (zero-add (length fs), zero-add (degenerate fs), zero-add (nodeLinks ls s starts))
 
   module _ (f d n : ℕ) (starts : List ℕ) (i : ℕ) where
     module _ (h : i < length starts) {l : Line} (m : l ≡ ruleAt ls s (getD starts i 0)) where
       next : drop i starts ≡ getD starts i 0 ∷ drop (i + 1) starts
       next = rw (add-one i) (drop-cons starts i 0 h)
 
-      pub passed : {k : Kept} → k ≡ keptAt l s (getD starts i 0) b → k .fault ≡ Right →
-          onTop f d n ls s b (drop i starts) ≡ onTop (f + k .faces) (d + k .degenerate) (n + linkCount l) ls s b (drop (i + 1) starts)
+      pub passed : {k : Kept} → k ≡ keptAt (l .held) s (getD starts i 0) b → k .fault ≡ Right →
+          onTop f d n ls s b (drop i starts) ≡ onTop (f + k .faces) (d + k .degenerate) (n + linkCount (l .held)) ls s b (drop (i + 1) starts)
       unfolding onTop valued nodeFaces nodeLinks
       passed e r =
           let at = getD starts i 0 in
-          let fs = heldFaces l s at in
+          let fs = heldFaces (l .held) s at in
           let gs = nodeFaces ls s (drop (i + 1) starts) in
           let faces : f + length (fs ++ gs) ≡ f + length fs + length gs = omega (arith, length-append fs gs) in
           let degenerates : d + degenerate (fs ++ gs) ≡ d + degenerate fs + degenerate gs = omega (arith, degenerate-append fs gs) in
           let others = nodeLinks ls s (drop (i + 1) starts) in
-          let links : n + (linkCount l + others) ≡ n + linkCount l + others = omega arith in
-          rw (next, ← m, fault-kept l s at b e r, all-kept l s at b e r, faces, degenerates, links)
+          let links : n + (linkCount (l .held) + others) ≡ n + linkCount (l .held) + others = omega arith in
+          rw (next, ← m, fault-kept (l .held) s at b e r, all-kept (l .held) s at b e r, faces, degenerates, links)
 
-      pub stopped : {k : Kept} → k ≡ keptAt l s (getD starts i 0) b → {q : Fault} → k .fault ≡ q →
-          ((v : Refusal) → byFault q (getD starts i 0) v ≡ refusal 15 (24 + getD starts i 0)) →
+      pub stopped : {k : Kept} → k ≡ keptAt (l .held) s (getD starts i 0) b → {q : Fault} → k .fault ≡ q →
+          faultNumber q ≡ 15 →
           onTop f d n ls s b (drop i starts) ≡ refusedNode 15 (24 + getD starts i 0)
       unfolding onTop valued
       stopped e r w =
           let at = getD starts i 0 in
-          rw (next, ← m, fault-kept l s at b e r, w (valued ls s b (drop (i + 1) starts)))
+          rw (next, ← m, fault-kept (l .held) s at b e r, w)
 
     pub ended : length starts ≤ i →
-        onTop f d n ls s b (drop i starts) ≡ record { number = 0; at = 0; faces = record { 0 = f }; degenerate = d; links = n }
+        onTop f d n ls s b (drop i starts) ≡ acceptedNode f d n
     unfolding onTop valued nodeFaces nodeLinks degenerate
     ended h = rw (drop-of-length-le starts {i = i} h, add-zero f, add-zero d, add-zero n)
 
@@ -123,14 +121,14 @@ first-numbers l ns n e h = rw (e, sets-eq ns l 0 (omega (arith, e, h))) (take-ap
 
 module _ (kind : ℕ) (ls : List Line) (s starts : List ℕ) (bones : ℕ) where
   by-typed : (k : ℕ) (v w : Refusal) (fs : List Face) (n : ℕ) → (k ≡ 0 → ⊥) → v .number ≡ k →
-      refusedNode (v .number) (v .at) ≡ judgedBy (andThen k v w .number) (andThen k v w) fs n
+      refusedNode (v .number) (v .place) ≡ judgedBy (refusedOr k v w) fs n
   by-typed zero v w fs n h e = absurd (h refl)
   by-typed (suc k) v w fs n h e = rw e
 
   module _ {v : Refusal} (e : v ≡ typed ls s [] starts) where
-    pub mistyped : (v .number ≡ 0 → ⊥) → refusedNode (v .number) (v .at) ≡ judgedAt kind ls s starts bones
+    pub mistyped : (v .number ≡ 0 → ⊥) → refusedNode (v .number) (v .place) ≡ judgedAt kind ls s starts bones
     unfolding judgedAt verdictAt
-    mistyped h = rw (← e) (by-typed (v .number) v _ _ _ h refl)
+    mistyped h = rw (← e) (by-typed (v .number) v _ (nodeFaces ls s starts) (nodeLinks ls s starts) h refl)
 
     module _ (t : v .number ≡ 0) where
       pub lacking : lacks kind ls s starts ≡ true → refusedNode 14 0 ≡ judgedAt kind ls s starts bones

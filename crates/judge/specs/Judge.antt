@@ -30,11 +30,12 @@ verdictAt kind ls s starts bones =
 abbrev pub refusedNode : (number at : ℕ) → Judged
 refusedNode n at = record { number = n; at = at; faces = record { 0 = 0 }; degenerate = 0; links = 0 }
 
+abbrev pub acceptedNode : (faces degenerate links : ℕ) → Judged
+acceptedNode faces degenerate links = record { number = 0; at = 0; faces = record { 0 = faces }; degenerate = degenerate; links = links }
+
 -- what a node counts where nothing is refused
 abbrev pub judgedBy : Refusal → List Face → (links : ℕ) → Judged
-judgedBy v fs links =
-    refusedOr (v .number) (refusedNode (v .number) (v .place))
-    (record { number = 0; at = 0; faces = record { 0 = length fs }; degenerate = degenerate fs; links = links })
+judgedBy v fs links = refusedOr (v .number) (refusedNode (v .number) (v .place)) (acceptedNode (length fs) (degenerate fs) links)
 
 unfoldable pub judgedAt : (kind : ℕ) → List Line → (s starts : List ℕ) (bones : ℕ) → Judged
 judgedAt kind ls s starts bones = judgedBy (verdictAt kind ls s starts bones) (nodeFaces ls s starts) (nodeLinks ls s starts)

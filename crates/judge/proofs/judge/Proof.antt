@@ -31,10 +31,10 @@ module _ (c : tie.After-put-lines) where
   kind = c .before .before .before .before .before .args .kind
 
   lines-fit : c .put-lines .result ≤ length (c .put-lines .last .1 .0)
-  lines-fit = let p = c .put-lines .ensures in lines-room (linesOf kind) (replicate 14 (replicate 12 0)) (p .1 .1) (p .0) (p .1 .0)
+  lines-fit = let p = c .put-lines .ensures in lines-room kind (replicate 14 (replicate 12 0)) (p .1 .1) (p .0) (p .1 .0)
 
   lines-are : linesFrom (take (c .put-lines .result) (c .put-lines .last .1 .0)) ≡ linesOf kind
-  lines-are = let p = c .put-lines .ensures in lines-taken (linesOf kind) (replicate 14 (replicate 12 0)) (p .1 .1) (p .0) (p .1 .0)
+  lines-are = let p = c .put-lines .ensures in lines-taken kind (replicate 14 (replicate 12 0)) (p .1 .1) (p .0) (p .1 .0)
 
 array-share-prefix-lines : tie.Need-array-share-prefix-lines
 array-share-prefix-lines c = lines-fit (c .before)

@@ -12,7 +12,7 @@ use Rattle.judge.proofs.missing.is_missing.Tie as tie
 returns : tie.Need-returns
 returns c =
     let a = c .before .before .before .before .args in
-    not-missing (a .body .now) (a .starts .now) (a .l) (c .if1 .taken)
+    not-missing (a .body .now) (a .starts .now) (a .e) (c .if1 .taken)
 
 name-of-requires : tie.Need-name-of-requires
 name-of-requires c κs = search needs
@@ -32,7 +32,7 @@ returns-2 c =
     let e = n .before in
     let a = e .before .before .before .before .args in
     ap not (c .has .ensures ∙ ap (has (a .body .now) (a .starts .now)) (taken _ _ _ _ (n .name-of .ensures)))
-    ∙ may-miss (a .body .now) (a .starts .now) (a .l) (e .if1 .left)
+    ∙ may-miss (a .body .now) (a .starts .now) (a .e) (e .if1 .left)
 
 pub is-missing-spec : {M : Type 1} → statement M
 is-missing-spec =

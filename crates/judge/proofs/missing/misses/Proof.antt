@@ -26,7 +26,7 @@ line-in-requires c κs = search needs
 is-missing-requires : tie.Need-is-missing-requires Inv-loop μ-loop
 is-missing-requires c κs = search needs
 
--- what a line and those behind it say
+-- what a line and those after it say
 module _ (c : tie.After-is-missing Inv-loop μ-loop) where
   abbrev head : tie.At-loop Inv-loop μ-loop
   head = c .before .before .before
@@ -41,7 +41,7 @@ module _ (c : tie.After-is-missing Inv-loop μ-loop) where
   says e =
       let a = start .args in
       let ls = linesFrom (a .lines .now) in
-      let line = sym e ∙ c .is-missing .ensures ∙ ap (λ l. isMissing l (a .body .now) (a .starts .now)) (c .before .line-in .ensures) in
+      let line = sym e ∙ c .is-missing .ensures ∙ ap (λ l. isMissing l (a .body .now) (a .starts .now)) (c .before .line-in .ensures .1) in
       let inside : head .loop .k < length ls = omega (arith, length-map (a .lines .now) lineFrom, c .before .before .loop-test .taken) in
       ap (λ b. b || others) line ∙ sym (next (a .body .now) (a .starts .now) ls (head .loop .k) inside) ∙ head .loop .inv .1
 

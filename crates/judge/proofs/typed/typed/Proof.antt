@@ -1,4 +1,4 @@
--- `judge::typed::typed`: what the properties from i on say, behind those before, is what all say.
+-- `judge::typed::typed`: what the properties from i on say, after those before, is what all say.
 use Prim.Native.Nat.{_-_, _≤_}
 use native.Mathlib.Omega.{arith}
 use mathlib.Core.Path.{refl, sym}
@@ -31,8 +31,8 @@ name-at-requires c κs = search needs
 u64-at-requires : tie.Need-u64-at-requires Inv-loop μ-loop
 u64-at-requires c κs = search needs
 
-find-requires : tie.Need-find-requires Inv-loop μ-loop
-find-requires c κs = search needs
+line-named-requires : tie.Need-line-named-requires Inv-loop μ-loop
+line-named-requires c κs = search needs
 
 slice-aggregate-is-before : tie.Need-slice-aggregate-is-before Inv-loop μ-loop
 slice-aggregate-is-before c =
@@ -75,7 +75,7 @@ returns c =
     let f = i .before .before .before .before in
     let n = f .before .before in
     let l = n .before .before .before in (
-      refused (l .loop .inv) (omega arith) (n .name-at .ensures) (f .find .ensures) (i .line-in .ensures)
+      refused (l .loop .inv) (omega arith) (n .name-at .ensures) (f .line-named .ensures) (i .line-in .ensures .1)
           (i .before .is-before .ensures) (m .misfit .ensures) (c .if1 .taken),
       (λ z. absurd (omega (arith, z)), omega (arith, l .before .before .before .before .pre .2 (l .loop .i))),
     )
@@ -106,7 +106,7 @@ loop-again c =
     let f = i .before .before .before .before in
     let n = f .before .before in
     let l = n .before .before .before in
-    passed (l .loop .inv) (omega arith) (n .name-at .ensures) (f .find .ensures) (i .line-in .ensures)
+    passed (l .loop .inv) (omega arith) (n .name-at .ensures) (f .line-named .ensures) (i .line-in .ensures .1)
     (i .before .is-before .ensures) (m .misfit .ensures)
     (l .before .before .before .before .pre .0) (f .before .u64-at .ensures) (c .if1 .left)
 
@@ -129,7 +129,7 @@ typed-spec =
     shared-slice-read-at
     name-at-requires
     u64-at-requires
-    find-requires
+    line-named-requires
     slice-aggregate-is-before
     array-share-prefix-keys
     slice-aggregate-is-before-2

@@ -1,11 +1,13 @@
 -- `judge::valued::fault_of`: each arm by what the line holds the property to, and the last by none of them.
-use mathlib.Core.Path.{ap, _∙_}
+use mathlib.Core.Path.{sym, ap, _∙_}
 use mathlib.Core.Bool.{_&&_}
 use lib.Dec.{eqb, leb}
-use borrow.Author.Tests.{ne-eqb}
 use Rattle.props.specs.Step.{lengthAt}
+use Rattle.rules.specs.Packing.{stringsOf, typesFrom}
 use Rattle.rules.specs.Rules.{takes, isOneOf}
 use Rattle.judge.specs.Valued.{whole, sole, faultOf}
+use Rattle.judge.specs.Private.{besideFrom}
+use Rattle.judge.proofs.Faults.{unheld}
 use borrow.Author.Needs.{needs}
 use Rattle.judge.proofs.valued.fault_of.Statement.{statement}
 use Rattle.judge.proofs.valued.fault_of.Tie as tie
@@ -65,28 +67,28 @@ returns-2 c =
     let o = c .before in
     let a = o .before .before .before .before .before .args in
     rw (o .before .before .match .keys2)
-    (c .whole .ensures ∙ ap whole (o .one-of .ensures ∙ ap (isOneOf (a .l .set)) (o .before .rest-at .ensures)))
+    (c .whole .ensures ∙ ap whole (o .one-of .ensures ∙ ap (isOneOf (stringsOf (a .e .set))) (o .before .rest-at .ensures)))
 
 returns-3 : tie.Need-returns-3
 unfolding faultOf
 returns-3 c =
     let m = c .before .before in
     let a = m .before .before .before .args in
-    rw (m .match .keys3) (c .whole2 .ensures ∙ ap (λ n. whole (eqb n (a .b .vertices))) (m .before .length-at .ensures))
+    rw (m .match .keys3) (c .whole2 .ensures ∙ ap (λ n. whole (eqb n (a .m .vertices))) (m .before .length-at .ensures))
 
 returns-4 : tie.Need-returns-4
 unfolding faultOf
 returns-4 c =
     let m = c .before .before in
     let a = m .before .before .before .args in
-    rw (m .match .keys4) (c .whole3 .ensures ∙ ap (λ n. whole (eqb n (a .b .weights))) (m .before .length-at .ensures))
+    rw (m .match .keys4) (c .whole3 .ensures ∙ ap (λ n. whole (eqb n (a .m .weights))) (m .before .length-at .ensures))
 
 returns-5 : tie.Need-returns-5
 unfolding faultOf
 returns-5 c =
     let m = c .before .before in
     let a = m .before .before .before .args in
-    rw (m .match .keys5) (c .whole4 .ensures ∙ ap (λ n. whole (eqb n (a .b .indices))) (m .before .length-at .ensures))
+    rw (m .match .keys5) (c .whole4 .ensures ∙ ap (λ n. whole (eqb n (a .m .indices))) (m .before .length-at .ensures))
 
 returns-6 : tie.Need-returns-6
 unfolding faultOf
@@ -95,30 +97,22 @@ returns-6 c =
     let m = t .before .before .before in
     let a = m .before .before .before .args in
     rw (m .match .keys6)
-    (c .whole5 .ensures ∙ ap (λ n. whole (eqb n (a .b .keys) && t .takes .result)) (m .before .length-at .ensures)
-    ∙ ap (λ b. whole (eqb (lengthAt (a .body .now) (a .at)) (a .b .keys) && b))
-    (t .takes .ensures ∙ ap (takes (a .b .types)) (t .before .code-at .ensures)))
+    (c .whole5 .ensures ∙ ap (λ n. whole (eqb n (a .m .keys) && t .takes .result)) (m .before .length-at .ensures)
+    ∙ ap (λ b. whole (eqb (lengthAt (a .body .now) (a .at)) (a .m .keys) && b))
+    (t .takes .ensures ∙ ap (takes (typesFrom (a .m .types))) (t .before .code-at .ensures)))
 
 returns-7 : tie.Need-returns-7
 unfolding faultOf
 returns-7 c = rw (c .before .before .match .keys7) (c .sole2 .ensures ∙ ap sole (c .before .is-bone .ensures))
 
 returns-8 : tie.Need-returns-8
-unfolding faultOf
 returns-8 c =
-    let e = c .match .rest in
-    let d = e .0 .0 .0 in
-    let p = c .before .before .before .pre in
-    rw (
-      ne-eqb _ 1 (d .0 .0 .0 .1),
-      ne-eqb _ 2 (d .0 .0 .1),
-      ne-eqb _ 3 (d .0 .1),
-      ne-eqb _ 4 (d .1),
-      ne-eqb _ 5 p,
-      ne-eqb _ 6 (e .0 .0 .1),
-      ne-eqb _ 7 (e .0 .1),
-      ne-eqb _ 8 (e .1),
-    )
+    let r = c .match .rest in
+    let d = r .0 .0 .0 in
+    let s = c .before .before .before in
+    let a = s .args in
+    sym (unheld (a .e) (a .body .now) (a .at) (besideFrom (a .m))
+    (d .0 .0 .0 .1) (d .0 .0 .1) (d .0 .1) (d .1) (s .pre) (r .0 .0 .1) (r .0 .1) (r .1))
 
 pub fault-of-spec : {M : Type 1} → statement M
 fault-of-spec =

@@ -1,5 +1,6 @@
 -- `judge::valued::kept_at`: faces, or any other property.
 use native.Mathlib.Omega.{arith}
+use Rattle.judge.specs.Private.{besideFrom}
 use Rattle.judge.proofs.Faults.{held-faces, held-other}
 use borrow.Author.Needs.{needs}
 use Rattle.judge.proofs.valued.kept_at.Statement.{statement}
@@ -13,7 +14,7 @@ returns c =
     let t = c .before in
     let k = t .before .before in
     let a = k .before .args in
-    held-faces (a .l) (a .body .now) (a .at) (a .b) (t .if1 .taken) (λ i. omega (arith, k .shared-slice-known .given i)) (c .faces-at .ensures)
+    held-faces (a .e) (a .body .now) (a .at) (besideFrom (a .m)) (t .if1 .taken) (λ i. omega (arith, k .shared-slice-known .given i)) (c .faces-at .ensures)
 
 fault-of-requires : tie.Need-fault-of-requires
 fault-of-requires c κs = search needs
@@ -25,7 +26,7 @@ returns-2 : tie.Need-returns-2
 returns-2 c =
     let e = c .before .before in
     let a = e .before .before .before .args in
-    held-other (a .l) (a .body .now) (a .at) (a .b) (e .if1 .left) (c .before .fault-of .ensures) (c .broken .ensures)
+    held-other (a .e) (a .body .now) (a .at) (besideFrom (a .m)) (e .if1 .left) (c .before .fault-of .ensures) (c .broken .ensures)
 
 pub kept-at-spec : {M : Type 1} → statement M
 kept-at-spec =

@@ -6,8 +6,8 @@ use borrow.Author.Needs.{needs}
 use Rattle.judge.proofs.valued.read_named.Statement.{statement}
 use Rattle.judge.proofs.valued.read_named.Tie as tie
 
-find-requires : tie.Need-find-requires
-find-requires c κs = search needs
+first-named-requires : tie.Need-first-named-requires
+first-named-requires c κs = search needs
 
 mul-at : tie.Need-mul-at
 mul-at c = search needs
@@ -25,17 +25,17 @@ returns : tie.Need-returns
 unfolding lengthOf valueOf
 returns c =
     let t = c .before .before .before in
-    rw (c .before .length-at .ensures, c .value-at .ensures, ← t .before .find .ensures .0, lt-ltb _ _ (t .if1 .taken)) (refl, refl)
+    rw (c .before .length-at .ensures, c .value-at .ensures, ← t .before .first-named .ensures .0, lt-ltb _ _ (t .if1 .taken)) (refl, refl)
 
 returns-2 : tie.Need-returns-2
 unfolding lengthOf valueOf
-returns-2 c = rw (← c .before .find .ensures .0, le-ltb _ _ (c .if1 .left)) (refl, refl)
+returns-2 c = rw (← c .before .first-named .ensures .0, le-ltb _ _ (c .if1 .left)) (refl, refl)
 
 pub read-named-spec : {M : Type 1} → statement M
 read-named-spec =
     tie.close
     (tie.spec
-    find-requires
+    first-named-requires
     mul-at
     shared-slice-read-at
     length-at-requires

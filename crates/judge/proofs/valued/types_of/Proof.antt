@@ -7,15 +7,15 @@ use borrow.Author.Needs.{needs}
 use Rattle.judge.proofs.valued.types_of.Statement.{statement}
 use Rattle.judge.proofs.valued.types_of.Tie as tie
 
-slice-aggregate-find : tie.Need-slice-aggregate-find
-slice-aggregate-find c = search needs
+slice-aggregate-first-named : tie.Need-slice-aggregate-first-named
+slice-aggregate-first-named c = search needs
 
-find-requires : tie.Need-find-requires
-find-requires c κs = search needs
+first-named-requires : tie.Need-first-named-requires
+first-named-requires c κs = search needs
 
 returns : tie.Need-returns
 unfolding typesOf letters
-returns c = rw (← c .before .find .ensures .0, le-ltb _ _ (c .if1 .taken))
+returns c = rw (← c .before .first-named .ensures .0, le-ltb _ _ (c .if1 .taken))
 
 mul-rest-at : tie.Need-mul-rest-at
 mul-rest-at c = search needs
@@ -39,7 +39,7 @@ wanted : (c : tie.After-rest-at) →
 unfolding typesOf letters
 wanted c =
     let t = c .before .before in
-    rw (← t .before .find .ensures .0, lt-ltb _ _ (t .if1 .left)) (ap keyTypes (sym (c .rest-at .ensures)))
+    rw (← t .before .first-named .ensures .0, lt-ltb _ _ (t .if1 .left)) (ap keyTypes (sym (c .rest-at .ensures)))
 
 returns-2 : tie.Need-returns-2
 unfolding letters
@@ -71,8 +71,8 @@ pub types-of-spec : {M : Type 1} → statement M
 types-of-spec =
     tie.close
     (tie.spec
-    slice-aggregate-find
-    find-requires
+    slice-aggregate-first-named
+    first-named-requires
     returns
     mul-rest-at
     shared-slice-read-rest-at

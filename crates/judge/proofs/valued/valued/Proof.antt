@@ -6,31 +6,30 @@ use lib.ListN.{length, drop, getD}
 use borrow.Author.Needs.{needs}
 use mir.Syntax.{w64}
 use mir.Val.{Fits}
-use Rattle.rules.specs.Packing.{linesFrom}
+use Rattle.rules.specs.Packing.{lineOf, linesFrom}
 use Rattle.judge.specs.declared.valued.Fault.{Fault}
-use Rattle.base.specs.declared.Refusal.{Refusal}
 use Rattle.judge.specs.declared.Judged.{Judged}
 use Rattle.judge.specs.Properties.{ruleAt, besideOf}
-use Rattle.base.specs.Refusals.{refusal}
-use Rattle.judge.specs.Judge.{byFault, refusedNode, Bounded}
-use Rattle.judge.specs.Private.{valuedTo}
+use Rattle.judge.specs.Valued.{faultNumber}
+use Rattle.judge.specs.Judge.{refusedNode, Bounded}
+use Rattle.judge.specs.Private.{besideFrom, valuedTo}
 use Rattle.judge.proofs.Values.{as-many, line-found, one-most, onTop, on-none, passed, stopped, ended, refused-bounded}
 use Rattle.judge.proofs.valued.valued.Statement.{statement}
 use Rattle.judge.proofs.valued.valued.Tie as tie
 
 abbrev Inv-loop : tie.InvT-loop
-Inv-loop kind lines body starts numbers bones b faces₀ degenerate₀ links₀ i₀ faces degenerate links i =
+Inv-loop kind lines body starts numbers bones m faces₀ degenerate₀ links₀ i₀ faces degenerate links i =
     (i ≤ length starts)
     × (faces ≤ i * 4294967296)
     × (degenerate ≤ i * 4294967296)
     × (links ≤ i)
-    × (onTop faces degenerate links (linesFrom lines) body b (drop i starts) ≡ valuedTo (linesFrom lines) body (besideOf kind body starts bones) starts)
+    × (onTop faces degenerate links (linesFrom lines) body (besideFrom m) (drop i starts) ≡ valuedTo (linesFrom lines) body (besideOf kind body starts bones) starts)
 
 abbrev μ-loop : tie.MeasureT-loop
-μ-loop kind lines body starts numbers bones b faces₀ degenerate₀ links₀ i₀ faces degenerate links i = length starts - i
+μ-loop kind lines body starts numbers bones m faces₀ degenerate₀ links₀ i₀ faces degenerate links i = length starts - i
 
-beside-of-requires : tie.Need-beside-of-requires Inv-loop μ-loop
-beside-of-requires c κs = search needs
+measures-of-requires : tie.Need-measures-of-requires Inv-loop μ-loop
+measures-of-requires c κs = search needs
 
 loop-holds : tie.Need-loop-holds Inv-loop μ-loop
 loop-holds c =
@@ -39,7 +38,7 @@ loop-holds c =
       omega arith,
       omega arith,
       omega arith,
-      ap (λ b. onTop 0 0 0 (linesFrom (a .lines .now)) (a .body .now) b (a .starts .now)) (c .beside-of .ensures)
+      ap (λ b. onTop 0 0 0 (linesFrom (a .lines .now)) (a .body .now) b (a .starts .now)) (c .measures-of .ensures)
           ∙ on-none (linesFrom (a .lines .now)) (a .body .now) (besideOf (a .kind) (a .body .now) (a .starts .now) (a .bones)) (a .starts .now),
     )
 
@@ -81,20 +80,20 @@ module _ (c : tie.After-kept-at Inv-loop μ-loop) where
   within : Fits w64 (24 + at)
   within = omega (arith, start .good .1 .1 .0 .1, start .pre .1 .1 (head .loop .i))
 
-  line : c .before .line-in .result ≡ ruleAt (linesFrom (start .args .lines .now)) (start .args .body .now) at
+  line : lineOf (c .before .line-in .result) ≡ ruleAt (linesFrom (start .args .lines .now)) (start .args .body .now) at
   line =
       let a = start .args in
-      line-found (linesFrom (a .lines .now)) (a .body .now) (a .starts .now) (start .pre .1 .0) (head .loop .i) (omega arith) (c .before .line-in .ensures)
+      line-found (linesFrom (a .lines .now)) (a .body .now) (a .starts .now) (start .pre .1 .0) (head .loop .i) (omega arith) (c .before .line-in .ensures .1)
 
-  wrong : {q : Fault} → c .kept-at .result .fault ≡ q → ((v : Refusal) → byFault q at v ≡ refusal 15 (24 + at)) → refusedNode 15 (24 + at) ≡ all
+  wrong : {q : Fault} → c .kept-at .result .fault ≡ q → faultNumber q ≡ 15 → refusedNode 15 (24 + at) ≡ all
   wrong r w =
       let a = start .args in
       let p = head .loop in
-      sym (stopped (linesFrom (a .lines .now)) (a .body .now) (head .before .beside-of .result) (p .faces) (p .degenerate) (p .links) (a .starts .now) (p .i)
+      sym (stopped (linesFrom (a .lines .now)) (a .body .now) (besideFrom (head .before .measures-of .result)) (p .faces) (p .degenerate) (p .links) (a .starts .now) (p .i)
       (omega arith) line (c .kept-at .ensures .0) r w)
       ∙ p .inv .4
 
-  refuses : {q : Fault} → c .kept-at .result .fault ≡ q → ((v : Refusal) → byFault q at v ≡ refusal 15 (24 + at)) → {r : Judged} → r ≡ refusedNode 15 (24 + at)
+  refuses : {q : Fault} → c .kept-at .result .fault ≡ q → faultNumber q ≡ 15 → {r : Judged} → r ≡ refusedNode 15 (24 + at)
       → (r ≡ all) × Bounded r (length (start .args .body .now))
   refuses h w e = (e ∙ wrong h w, refused-bounded 15 (24 + at) (length (start .args .body .now)) (omega (arith, start .pre .1 .1 (head .loop .i))) e)
 
@@ -117,7 +116,7 @@ refused-requires : tie.Need-refused-requires Inv-loop μ-loop
 refused-requires c κs = search needs
 
 returns : tie.Need-returns Inv-loop μ-loop
-returns c = refuses (c .before .before .before) (c .before .enum-told2 .given .1) (λ v. refl) (c .refused .ensures)
+returns c = refuses (c .before .before .before) (c .before .enum-told2 .given .1) refl (c .refused .ensures)
 
 enum-told-3 : tie.Need-enum-told-3 Inv-loop μ-loop
 enum-told-3 c = search needs
@@ -129,7 +128,7 @@ refused-requires-2 : tie.Need-refused-requires-2 Inv-loop μ-loop
 refused-requires-2 c κs = search needs
 
 returns-2 : tie.Need-returns-2 Inv-loop μ-loop
-returns-2 c = refuses (c .before .before .before) (c .before .enum-told3 .given .1) (λ v. refl) (c .refused2 .ensures)
+returns-2 c = refuses (c .before .before .before) (c .before .enum-told3 .given .1) refl (c .refused2 .ensures)
 
 one-link-requires : tie.Need-one-link-requires Inv-loop μ-loop
 one-link-requires c κs = search needs
@@ -156,7 +155,7 @@ loop-again c =
     let a = l .before .before .before .before .before .args in
     let p = l .loop in
     let k = m .kept-at .result in
-    let b = l .before .beside-of .result in
+    let b = besideFrom (l .before .measures-of .result) in
     let one = one-most (m .before .line-in .result) in
     let rest = drop (p .i + 1) (a .starts .now) in (
       omega arith,
@@ -174,7 +173,7 @@ returns-3 c =
     let l = c .before in
     let a = l .before .before .before .before .before .args in
     let p = l .loop in
-    let b = l .before .beside-of .result in (
+    let b = besideFrom (l .before .measures-of .result) in (
       sym (ended (linesFrom (a .lines .now)) (a .body .now) b (p .faces) (p .degenerate) (p .links) (a .starts .now) (p .i) (c .loop-test .left))
           ∙ p .inv .4,
       record { place = omega arith; faces = omega arith; degenerates = omega arith; links = omega arith },
@@ -186,7 +185,7 @@ valued-spec =
     (tie.spec
     Inv-loop
     μ-loop
-    beside-of-requires
+    measures-of-requires
     loop-holds
     mul-at
     shared-slice-read-at
