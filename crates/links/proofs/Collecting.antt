@@ -12,7 +12,7 @@ use Rattle.base.proofs.Tests.{by-test}
 use Rattle.table.specs.declared.Row.{Row}
 use Rattle.table.specs.Table.{rowAt, rowsAt}
 use Rattle.format.specs.Rows.{hashOf}
-use Rattle.links.specs.Ascending.{hashesOf, Sorts}
+use Rattle.links.specs.Private.{hashesOf, Sorts}
 use Rattle.links.proofs.Counting.{occurrences-append}
 
 rowsAt-snoc : (t : List ℕ) (k n : ℕ) → rowsAt t k (suc n) ≡ rowsAt t k n ++ rowAt t (k + n) ∷ []

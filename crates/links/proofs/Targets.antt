@@ -2,21 +2,20 @@
 use Prim.Native.Nat.{ℕ, suc, min}
 use mathlib.Core.Path.{_≡_, refl, ap}
 use mathlib.Core.Logic.{⊎-elim}
-use mathlib.Core.Bool.{Bool, true, cond, _||_}
+use mathlib.Core.Bool.{Bool, true, _||_}
 use mathlib.Core.List.{List, [], _∷_}
 use lib.Dec.{eqb}
 use lib.ListN.{length}
-use borrow.Author.Tests.{eq-eqb, eqb-true}
+use borrow.Author.Tests.{eqb-true}
 use Rattle.base.proofs.Tests.{by-test}
 use Rattle.kinds.specs.Kinds.{mesh, bone, material, file}
 use Rattle.table.specs.declared.Row.{Row}
 use Rattle.rules.specs.Table.{Line, linkTo, lines}
-use Rattle.rules.specs.Rules.{ruleOf}
+use Rattle.rules.specs.Rules.{ruleOf, ifLink}
 use Rattle.rules.proofs.Laws.{all, ruled}
 use Rattle.format.specs.Rows.{hashOf}
-use Rattle.links.specs.Ascending.{hashesOf, occurrences}
+use Rattle.links.specs.Private.{hashesOf, occurrences, Count, hashesFor, countIn}
 use Rattle.links.specs.Links.{reached}
-use Rattle.links.specs.Contract.{Count, ofKind, countIn}
 
 pub reached-count : (kind hash i : ℕ) (rs : List Row) → length (reached kind hash i rs) ≡ occurrences hash (hashesOf kind rs)
 unfolding reached hashesOf occurrences
@@ -35,36 +34,31 @@ abbrev isTarget : ℕ → Bool
 isTarget kind = eqb kind material || (eqb kind mesh || (eqb kind bone || eqb kind file))
 
 abbrev aims : Line → Bool
-aims l = cond (eqb (l .held) (linkTo 0 .held)) (isTarget (l .target)) true
+aims l = ifLink (l .held) isTarget true
 
 lines-aim : all aims lines ≡ true
 unfolding all lines
 lines-aim = refl
 
 module _ (kind : ℕ) (name : List ℕ) where
-  target : ruleOf kind name .held ≡ linkTo 0 .held → isTarget (ruleOf kind name .target) ≡ true
-  target e = rw (eq-eqb _ _ e) at (⊎-elim (λ f. ap aims f) (λ l. l .0) (ruled aims kind name lines-aim))
+  target : (to : ℕ) → ruleOf kind name .held ≡ linkTo to → isTarget to ≡ true
+  target to e = rw e at (⊎-elim (λ f. ap aims f) (λ l. l .0) (ruled aims kind name lines-aim))
 
 -- ---- the counts of four lists that have the hashes of the four kinds
-pub record Reaches (count : Count) (rows : List Row) : Type 0 where
-  pub right : (kind : ℕ) (name : List ℕ) (hash : ℕ) → ruleOf kind name .held ≡ linkTo 0 .held
-      → count (ruleOf kind name .target) hash ≡ min (length (reached (ruleOf kind name .target) hash 0 rows)) 2
+pub record CountsReached (count : Count) (rows : List Row) : Type 0 where
+  pub right : (kind : ℕ) (name : List ℕ) (to hash : ℕ) → ruleOf kind name .held ≡ linkTo to → count to hash ≡ min (length (reached to hash 0 rows)) 2
 
 abbrev Same : List ℕ → (kind : ℕ) → List Row → Type 0
 Same xs kind rows = (x : ℕ) → occurrences x xs ≡ occurrences x (hashesOf kind rows)
 
 module _ (rows : List Row) (m e b f : List ℕ) (sm : Same m material rows) (se : Same e mesh rows) (sb : Same b bone rows)
     (sf : Same f file rows) where
-  same-kind : (kind : ℕ) → isTarget kind ≡ true → Same (ofKind m e b f kind) kind rows
+  same-kind : (kind : ℕ) → isTarget kind ≡ true → Same (hashesFor m e b f kind) kind rows
   same-kind kind h x =
       by-test (eqb kind material) (λ t. rw (t, eqb-true kind material t) (sm x))
       (λ t. by-test (eqb kind mesh) (λ u. rw (t, u, eqb-true kind mesh u) (se x))
       (λ u. by-test (eqb kind bone) (λ v. rw (t, u, v, eqb-true kind bone v) (sb x))
       (λ v. rw (t, u, v, eqb-true kind file (rw (t, u, v) at h)) (sf x))))
 
-  pub count-reaches : Reaches (countIn m e b f) rows
-  count-reaches = record {
-    right = λ kind name hash h.
-        let to : ℕ = ruleOf kind name .target in
-        rw (same-kind to (target kind name h) hash, reached-count to hash 0 rows);
-  }
+  pub counts-reached : CountsReached (countIn m e b f) rows
+  counts-reached = record { right = λ kind name to hash h. rw (same-kind to (target kind name to h) hash, reached-count to hash 0 rows) }

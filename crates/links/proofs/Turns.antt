@@ -7,7 +7,8 @@ use mathlib.Core.Bool.{true, false}
 use mathlib.Core.List.{List}
 use lib.ListN.{length, getD, take, drop, length-take, length-drop, drop-of-length-le}
 use lib.Seq.{drop-cons}
-use borrow.Author.Tests.{eq-eqb, ne-eqb}
+use Rattle.base.specs.Refusals.{refusedOr}
+use Rattle.base.proofs.Refusals.{goes-on, is-refused}
 use Rattle.le.specs.Le.{numberAt}
 use Rattle.kinds.specs.Kinds.{isKnown}
 use Rattle.table.specs.declared.Row.{Row}
@@ -16,15 +17,18 @@ use Rattle.props.specs.Step.{nameAt}
 use Rattle.body.specs.declared.Index.{Index}
 use Rattle.body.specs.Body.{properties, indexOf}
 use Rattle.body.proofs.Places.{properties-few, starts-within, starts-taken}
+use Rattle.rules.specs.declared.Entry.{Entry}
 use Rattle.rules.specs.Table.{Line, free}
+use Rattle.rules.specs.Packing.{lineOf}
 use Rattle.rules.specs.Rules.{findIn, linesOf}
 use Rattle.rules.proofs.Laws.{found}
+use Rattle.rules.proofs.Helds.{no-link}
 use Rattle.judge.specs.Properties.{ruleAt, restAt}
 use Rattle.format.specs.Rows.{bodyOf}
 use Rattle.links.specs.declared.Linked.{Linked}
-use Rattle.links.specs.Links.{refuse}
+use Rattle.links.specs.Links.{refusalOf, refusedLinks, acceptedLinks}
 use Rattle.judge.specs.Private.{StartsWithin}
-use Rattle.links.specs.Contract.{Count, byCount, nodeLinked, rowLinked, onBy, rowsLinked}
+use Rattle.links.specs.Private.{Count, nodeLinked, rowLinked, rowsLinked}
 
 -- the line of a property, as it is found
 pub ruled : (ls : List Line) (s : List ℕ) (at : ℕ) {name : List ℕ} {k : ℕ} {l : Line} → name ≡ nameAt s at → k ≡ findIn ls name
@@ -38,30 +42,30 @@ module _ (count : Count) (ls : List Line) (start : ℕ) (s starts : List ℕ) (n
   abbrev at : ℕ
   at = getD starts i 0
 
-  module _ (h : i < length starts) {l : Line} (e : l ≡ ruleAt ls s at) where
-    pub node-other : (l .held ≡ 9 → ⊥) → from n i ≡ from n (i + 1)
+  module _ (h : i < length starts) (e : Entry) (line : lineOf e ≡ ruleAt ls s at) where
+    pub node-other : (e .held ≡ 9 → ⊥) → from n i ≡ from n (i + 1)
     unfolding nodeLinked
-    node-other f = rw (add-one, drop-cons starts i 0 h, ← e, ne-eqb (l .held) 9 f)
+    node-other f = rw (add-one, drop-cons starts i 0 h, ← line) (no-link e _ _ f)
 
-    module _ (f : l .held ≡ 9) {r hash : ℕ} {bytes : List ℕ} (x : r ≡ count (l .target) hash) (y : hash ≡ numberAt 8 bytes 0)
+    module _ (f : e .held ≡ 9) {r hash : ℕ} {bytes : List ℕ} (x : r ≡ count (e .target) hash) (y : hash ≡ numberAt 8 bytes 0)
         (z : bytes ≡ restAt s at) where
       abbrev by : ℕ → Linked
-      by k = byCount k (start + at) (from (n + 1) (i + 1))
+      by k = refusedOr (refusalOf k) (refusedLinks (refusalOf k) (start + at)) (from (n + 1) (i + 1))
 
       linking : from n i ≡ by r
       unfolding nodeLinked
-      linking = rw (x, y, z, add-one n, add-one i, drop-cons starts i 0 h, ← e, eq-eqb (l .held) 9 f)
+      linking = rw (x, y, z, add-one n, add-one i, drop-cons starts i 0 h, ← line, f)
 
-      pub node-none : r ≡ 0 → from n i ≡ refuse 16 (start + at)
+      pub node-none : r ≡ 0 → from n i ≡ refusedLinks 16 (start + at)
       node-none g = linking ∙ ap by g
 
       pub node-one : r ≡ 1 → from n i ≡ from (n + 1) (i + 1)
       node-one g = linking ∙ ap by g
 
-      pub node-many : (r ≡ 0 → ⊥) → (r ≡ 1 → ⊥) → from n i ≡ refuse 17 (start + at)
+      pub node-many : (r ≡ 0 → ⊥) → (r ≡ 1 → ⊥) → from n i ≡ refusedLinks 17 (start + at)
       node-many g k = let m : r ≡ suc (suc (r - 2)) = omega (arith, g, k) in linking ∙ ap by m
 
-  pub node-ended : length starts ≤ i → from n i ≡ record { number = 0; place = 0; links = n }
+  pub node-ended : length starts ≤ i → from n i ≡ acceptedLinks n
   unfolding nodeLinked
   node-ended h = rw (drop-of-length-le starts h)
 
@@ -74,7 +78,7 @@ module _ (body : List ℕ) (k : ℕ) {index : Index} (e : index ≡ indexOf (pro
   index-within = rw (starts-taken body k e) (starts-within body k)
 
 module _ (count : Count) (s : List ℕ) (n : ℕ) (r : Row) where
-  pub row-unknown : isKnown (r .kind) ≡ false → record { number = 0; place = 0; links = n } ≡ rowLinked count s n r
+  pub row-unknown : isKnown (r .kind) ≡ false → acceptedLinks n ≡ rowLinked count s n r
   unfolding rowLinked
   row-unknown k = rw k
 
@@ -93,16 +97,16 @@ module _ (count : Count) (s t : List ℕ) (n i nodes : ℕ) where
   rest n i = rowsLinked count s n (rowsAt t i (nodes - i))
 
   module _ (h : i < nodes) {r : Row} {w : Linked} (e : r ≡ rowAt t i) (f : w ≡ rowLinked count s n r) where
-    next : rest n i ≡ onBy (w .number) w (λ m. rest m (i + 1))
+    next : rest n i ≡ refusedOr (w .number) w (rest (w .links) (i + 1))
     unfolding rowsLinked rowsAt
     next = let one : nodes - i ≡ suc (nodes - (i + 1)) = omega arith in rw (one, ← e, ← f, add-one i)
 
     pub rows-refused : (w .number ≡ 0 → ⊥) → rest n i ≡ w
-    rows-refused g = let more : w .number ≡ suc (w .number - 1) = omega (arith, g) in next ∙ ap (λ k. onBy k w (λ m. rest m (i + 1))) more
+    rows-refused g = next ∙ is-refused (w .number) w (rest (w .links) (i + 1)) g
 
     pub rows-passed : w .number ≡ 0 → rest n i ≡ rest (w .links) (i + 1)
-    rows-passed g = next ∙ ap (λ k. onBy k w (λ m. rest m (i + 1))) g
+    rows-passed g = next ∙ goes-on (w .number) w (rest (w .links) (i + 1)) g
 
-  pub rows-ended : nodes ≤ i → rest n i ≡ record { number = 0; place = 0; links = n }
+  pub rows-ended : nodes ≤ i → rest n i ≡ acceptedLinks n
   unfolding rowsLinked rowsAt
   rows-ended h = let none : nodes - i ≡ 0 = omega arith in rw none

@@ -12,7 +12,7 @@ use Rattle.base.specs.Letters.{letters}
 use Rattle.rules.specs.Table.{lines}
 use Rattle.rules.specs.Rules.{lists, ruleIn, ofKind, linesOf}
 use Rattle.links.specs.declared.Linked.{Linked}
-use Rattle.links.specs.Links.{refuse, reached, linksAt, linksFrom, resolved, linked}
+use Rattle.links.specs.Links.{refusedLinks, reached, linksAt, linksFrom, resolved, linked}
 
 unfoldable resolve : List ℕ → List Row → Linked
 unfolding val numberAt le bytesOk same readDigits number numbered parentsTable parentsIn parentsOf isKnown toZero nameAt stepAt pass properties letters lines lists ruleIn ofKind linesOf reached linksAt linksFrom resolved linked
@@ -36,13 +36,13 @@ one = record { number = 0; place = 0; links = 1 }
 -- one Material has the hash; none has; two have; "Zero is a hash like any other"
 resolves : (among 5 (row material 5 0 0 0 ∷ []) ∷ among 5 (row material 6 0 0 0 ∷ []) ∷
     among 5 (row material 5 0 0 0 ∷ row material 5 0 0 0 ∷ []) ∷ among 0 (row material 0 0 0 0 ∷ []) ∷ []) ≡
-    one ∷ refuse 16 0 ∷ refuse 17 0 ∷ one ∷ []
+    one ∷ refusedLinks 16 0 ∷ refusedLinks 17 0 ∷ one ∷ []
 unfolding resolve body
 resolves = refl
 
 -- all 64 bits count; and a node of another kind does not
 whole : (among 0x100000005 (row material 5 0 0 0 ∷ []) ∷ among 0x100000005 (row material 5 1 0 0 ∷ row material 5 2 0 0 ∷ []) ∷
     among 5 (row material 5 0 0 0 ∷ row bone 5 0 0 0 ∷ []) ∷ []) ≡
-    refuse 16 0 ∷ one ∷ one ∷ []
+    refusedLinks 16 0 ∷ one ∷ one ∷ []
 unfolding resolve body
 whole = refl

@@ -1,4 +1,3 @@
-pub mod Ascending
 pub mod Links
-pub mod Contract
+pub mod Private
 pub mod Examples

@@ -5,12 +5,14 @@ use Prim.Native.Nat.{ℕ, zero, suc, _+_}
 use mathlib.Core.Bool.{cond, _&&_}
 use mathlib.Core.List.{List, [], _∷_, _++_}
 use lib.Dec.{eqb}
+use lib.ListN.{length}
+use Rattle.base.specs.Refusals.{refusedOr}
 use Rattle.le.specs.Le.{numberAt}
 use Rattle.kinds.specs.Kinds.{isKnown}
 use Rattle.table.specs.declared.Row.{Row}
 use Rattle.body.specs.Body.{properties}
-use Rattle.rules.specs.Table.{Line, linkTo}
-use Rattle.rules.specs.Rules.{linesOf}
+use Rattle.rules.specs.Table.{Line}
+use Rattle.rules.specs.Rules.{linesOf, ifLink}
 use Rattle.judge.specs.Properties.{ruleAt, restAt}
 use Rattle.format.specs.Rows.{bodyOf, hashOf}
 use Rattle.links.specs.declared.Linked.{Linked}
@@ -27,14 +29,14 @@ pub record Link : Type 0 where
   pub property : ℕ
   pub targets : List ℕ
 
--- the links of a node among some rows: of its properties, those that "the node's kind lists ... as l". The lines of its kind
--- are given, its row, and its body s with the place where that starts.
+-- the links of a node among some rows: of its properties, those that "the node's kind lists ... as l", each to a kind. The lines
+-- of its kind are given, its row, and its body s with the place where that starts.
 unfoldable pub linksAt : List Row → List Line → (row start : ℕ) (s starts : List ℕ) → List Link
 linksAt all ls row start s [] = []
 linksAt all ls row start s (at ∷ more) =
-    let l = ruleAt ls s at in
-    let link : Link = record { row = row; property = start + at; targets = reached (l .target) (numberAt 8 (restAt s at) 0) 0 all } in
-    cond (eqb (l .held) (linkTo 0 .held)) (link ∷ linksAt all ls row start s more) (linksAt all ls row start s more)
+    let others = linksAt all ls row start s more in
+    let link : ℕ → Link = λ kind. record { row = row; property = start + at; targets = reached kind (numberAt 8 (restAt s at) 0) 0 all } in
+    ifLink (ruleAt ls s at .held) (λ kind. link kind ∷ others) others
 
 -- an unknown node has none
 abbrev pub rowLinks : (s : List ℕ) (all : List Row) (row : ℕ) → Row → List Link
@@ -50,23 +52,22 @@ linksFrom s all i (r ∷ rs) = rowLinks s all i r ++ linksFrom s all (suc i) rs
 abbrev pub linksOf : (s : List ℕ) → List Row → List Link
 linksOf s rows = linksFrom s rows 0 rows
 
--- 16, 17; 0 where it resolves
-abbrev pub refusalOf : List ℕ → ℕ
-refusalOf [] = 16
-refusalOf (target ∷ []) = 0
-refusalOf (target ∷ other ∷ more) = 17
+-- "link reaches no node; reaches two or more", by the number of nodes that it reaches: 16, 17; 0 where it resolves
+abbrev pub refusalOf : (targets : ℕ) → ℕ
+refusalOf zero = 16
+refusalOf (suc zero) = 0
+refusalOf (suc (suc n)) = 17
 
-abbrev pub refuse : (number place : ℕ) → Linked
-refuse n place = record { number = n; place = place; links = 0 }
+abbrev pub refusedLinks : (number place : ℕ) → Linked
+refusedLinks n place = record { number = n; place = place; links = 0 }
 
-abbrev pub unless : ℕ → (place : ℕ) → Linked → Linked
-unless zero place next = next
-unless (suc n) place next = refuse (suc n) place
+abbrev pub acceptedLinks : (links : ℕ) → Linked
+acceptedLinks n = record { number = 0; place = 0; links = n }
 
--- the first that does not resolve; or "links (one per link property present)", after so many
-unfoldable pub resolved : ℕ → List Link → Linked
-resolved n [] = record { number = 0; place = 0; links = n }
-resolved n (l ∷ ls) = unless (refusalOf (l .targets)) (l .property) (resolved (suc n) ls)
+-- the first that does not resolve; or "links (one per link property present)", with those before them
+unfoldable pub resolved : (before : ℕ) → List Link → Linked
+resolved n [] = acceptedLinks n
+resolved n (l ∷ ls) = let number = refusalOf (length (l .targets)) in refusedOr number (refusedLinks number (l .property)) (resolved (suc n) ls)
 
 unfoldable pub linked : (s : List ℕ) → List Row → Linked
 linked s rows = resolved 0 (linksOf s rows)

@@ -1,83 +1,33 @@
--- The rules as the reading goes by them are the rules in document 01's words: types, kv's type by kp, and signed numbers.
+-- The rules as the reading goes by them are the rules in document 01's words: kv's type by kp, and signed numbers.
 use Prim.Native.Nat.{ℕ, zero, suc, _+_, _-_, _≤_, _<_}
 use native.Mathlib.Omega.{arith}
 use mathlib.Core.Path.{_≡_, refl, sym, ap, _∙_}
 use mathlib.Core.Logic.{_⊎_, inl, inr, _↔_, ⊎-elim}
-use mathlib.Core.Bool.{Bool, true, false, cond, not, _||_, false≢true}
+use mathlib.Core.Bool.{Bool, true, false, cond, true≢false, false≢true}
 use mathlib.Core.List.{List, [], _∷_, _++_}
-use lib.Dec.{eqb, ltb}
+use lib.Dec.{ltb}
 use lib.IntN.{ℤ, pos, negsuc}
-use borrow.Author.Tests.{eq-eqb, eqb-true, eqb-false, not-true, ltb-true, ltb-false}
+use borrow.Author.Tests.{eq-eqb, eqb-true, ltb-true, ltb-false}
 use Rattle.base.proofs.Tests.{by-test}
 use Rattle.names.specs.Names.{same, bytesOk}
 use Rattle.names.proofs.Laws.{same-eq, same-refl}
 use Rattle.kinds.specs.Kinds.{curve}
-use Rattle.rules.specs.Table.{Line, lines, free, N, keyType, anyType}
+use Rattle.rules.specs.Table.{only, N, Line, free}
 use Rattle.base.specs.Letters.{letters}
-use Rattle.props.specs.Types.{byte, short, int, float, v4, string}
-use Rattle.rules.specs.Rules.{isN, takes, isText, ruleOf}
-use Rattle.rules.proofs.Laws.{all}
+use Rattle.props.specs.Types.{float, v4, string}
+use Rattle.rules.specs.Rules.{takes, isText, ruleOf}
 use Rattle.judge.specs.Valued.{signed}
 use Rattle.base.specs.Lists.{Each, Some}
 use Rattle.format.specs.Layout.{Property, EndsInZero, GoodProperty}
 use Rattle.base.proofs.Lists.{each-both, each-map}
-use Rattle.valid.specs.Lines.{ByLine, IsN, IsKeyType, Takes}
+use Rattle.valid.specs.Lines.{ByLine, IsN}
 use Rattle.valid.specs.Obeys.{Has, Distinct, FitsLine, ofNamed, KeyTyped, ReadSigned, BoneParent, Keeps, Obeys}
-use Rattle.valid.proofs.Ruled.{FitsRule, wanted, FitsRules, ObeysRules}
-use Rattle.valid.proofs.Says.{Says, says-eqb, says-or}
+use Rattle.valid.proofs.Ruled.{wanted, FitsRules, ObeysRules}
+use Rattle.valid.proofs.Says.{Says}
 use Rattle.valid.proofs.Lines.{key-text, rotation-letters, visible-letters}
-use Rattle.valid.proofs.Values.{takes-string}
+use Rattle.valid.proofs.Values.{says-N, takes-only}
 use Rattle.valid.proofs.Strings.{says-string}
-use Rattle.valid.proofs.Listed.{all-each, to-line, from-line}
-
--- ---- types
-pub turned : {A B C : Type 0} {b : Bool} → Says b ((A ⊎ B) ⊎ C) → Says b (A ⊎ (B ⊎ C))
-turned s = (
-  λ e. ⊎-elim (⊎-elim (λ a. inl a) (λ b. inr (inl b))) (λ c. inr (inr c)) (s .0 e),
-  λ h. s .1 (⊎-elim (λ a. inl (inl a)) (⊎-elim (λ b. inl (inr b)) (λ c. inr c)) h),
-)
-
-pub says-N : (code : ℕ) → Says (isN code) (IsN code)
-says-N code =
-    turned (says-or (eqb code byte || eqb code short) (eqb code int) (says-or (eqb code byte) (eqb code short) (says-eqb code byte) (says-eqb code short)) (says-eqb code int))
-
-says-key : (code : ℕ) → Says ((isN code || eqb code float) || eqb code v4) (IsKeyType code)
-says-key code = turned (says-or (isN code || eqb code float) (eqb code v4) (says-or (isN code) (eqb code float) (says-N code) (says-eqb code float)) (says-eqb code v4))
-
-pub says-takes : (types code : ℕ) → (types ≡ anyType → ⊥) → Says (takes types code) (Takes types code)
-says-takes types code n =
-    by-test (eqb types N)
-    (λ t.
-    let is : types ≡ N = eqb-true types N t in
-    rw t (λ e. record { number = λ k. says-N code .0 e; key = λ k. absurd (omega (arith, is, k)); own = λ k m. absurd (k is) }, λ h. says-N code .1 (h .number is)))
-    (λ t. by-test (eqb types keyType)
-    (λ u.
-    let is : types ≡ keyType = eqb-true types keyType u in
-    rw (t, u) (λ e. record { number = λ k. absurd (omega (arith, is, k)); key = λ k. says-key code .0 e; own = λ k m. absurd (m is) }, λ h. says-key code .1 (h .key is)))
-    (λ u. by-test (eqb types anyType) (λ v. absurd (n (eqb-true types anyType v)))
-    (λ v.
-    let a : types ≡ N → ⊥ = eqb-false types N t in
-    let b : types ≡ keyType → ⊥ = eqb-false types keyType u in
-    rw (t, u, v) (
-      λ e. record { number = λ k. absurd (a k); key = λ k. absurd (b k); own = λ k m. sym (eqb-true types code e) },
-      λ h. eq-eqb types code (sym (h .own a b)),
-    ))))
-
--- no line of the table takes any type
-tests-typed : all (λ l. not (eqb (l .types) anyType)) lines ≡ true
-unfolding all lines
-tests-typed = refl
-
-lines-typed : Each (λ l. l .types ≡ anyType → ⊥) lines
-lines-typed = each-map (λ l e k. false≢true (sym (not-true _ e) ∙ eq-eqb (l .types) anyType k)) lines (all-each (λ l. not (eqb (l .types) anyType)) lines tests-typed)
-
-pub fits-agree : (kind : ℕ) (p : Property) → FitsRule (ruleOf kind (p .name)) p ↔ ByLine kind (p .name) (λ l. FitsLine l p)
-fits-agree kind p =
-    let one : (l : Line) → (l .types ≡ anyType → ⊥) → Says (takes (l .types) (p .code)) (Takes (l .types) (p .code)) = λ l n. says-takes (l .types) (p .code) n in (
-      λ h. each-map (λ l b k m. let f = b .1 k m in (one l (b .0) .0 (f .0), f .1)) lines (each-both _ _ lines .0 (lines-typed, to-line kind (p .name) (λ l. FitsRule l p) h)),
-      λ h. from-line kind (p .name) (λ l. FitsRule l p) (refl, λ e. absurd (omega (arith, e)))
-          (each-map (λ l b k m. let f = b .1 k m in (one l (b .0) .1 (f .0), f .1)) lines (each-both _ _ lines .0 (lines-typed, h))),
-    )
+use Rattle.valid.proofs.Listed.{to-line, from-line}
 
 -- ---- kv's type by kp: by the first kp, as no name stands twice
 abbrev pub kp : List ℕ
@@ -87,7 +37,7 @@ unfoldable firstIs : (text : List ℕ) → List Property → Bool
 firstIs text [] = false
 firstIs text (p ∷ ps) = cond (same (p .name) kp) (isText (p .content) text) (firstIs text ps)
 
-wanted-by : (ps : List Property) → wanted ps ≡ cond (firstIs (letters "rq") ps) v4 (cond (firstIs (letters "vb") ps) N float)
+wanted-by : (ps : List Property) → wanted ps ≡ cond (firstIs (letters "rq") ps) (only v4) (cond (firstIs (letters "vb") ps) N (only float))
 unfolding ofNamed firstIs
 wanted-by [] = refl
 wanted-by (p ∷ ps) = by-test (same (p .name) kp) (λ t. rw t) (λ t. rw t (wanted-by ps))
@@ -132,7 +82,7 @@ not-both (p ∷ ps) d (inr r) (inl v) = none-named (letters "rq") ps (λ h. d .0
 not-both (p ∷ ps) d (inr r) (inr v) = not-both ps (d .1) r v
 
 key-by : {A B : Type 0} (r v : Bool) (code : ℕ) → Says r A → Says v B → (A → B → ⊥)
-    → (takes (cond r v4 (cond v N float)) code ≡ true) ↔ ((A → code ≡ v4) × (B → IsN code) × ((A → ⊥) → (B → ⊥) → code ≡ float))
+    → (takes (cond r (only v4) (cond v N (only float))) code ≡ true) ↔ ((A → code ≡ v4) × (B → IsN code) × ((A → ⊥) → (B → ⊥) → code ≡ float))
 key-by true v code r′ v′ n =
     let is = r′ .0 refl in
     (λ e. (λ k. sym (eqb-true v4 code e), λ k. absurd (n is k), λ k m. absurd (k is)), λ h. eq-eqb v4 code (sym (h .0 is)))
@@ -182,30 +132,21 @@ signed-agree v bones =
 pub ends : (kind : ℕ) (ps : List Property) → Each GoodProperty ps → FitsRules kind ps → kind ≡ curve → Ends ps
 ends kind ps good fits k =
     each-map (λ p b n.
-    let code : p .code ≡ string = takes-string _ (p .code) (rw (k, n) at (b .1 .0)) key-text in
+    let code : p .code ≡ string = takes-only (rw (k, n) at (b .1 .0)) key-text in
     (rw code at (b .0 .3)) .1) ps (each-both _ _ ps .0 (good, fits))
 
-free-keeps : (ps : List Property) (bones : ℕ) (p : Property) → Keeps free ps bones p
-free-keeps ps bones p = record {
-  isFlag = λ e. absurd (omega (arith, e));
-  isTaken = λ e. absurd (omega (arith, e));
-  perVertex = λ e. absurd (omega (arith, e));
-  perWeight = λ e. absurd (omega (arith, e));
-  areFaces = λ e. absurd (omega (arith, e));
-  perIndex = λ e. absurd (omega (arith, e));
-  perKey = λ e. absurd (omega (arith, e));
-  parentRight = λ e. absurd (omega (arith, e));
-}
+-- by the line that is found, or by the lines that list a name
+by-lines : (kind : ℕ) (P : Line → Property → Type 0) → ((p : Property) → P free p) → (ps : List Property)
+    → Each (λ p. P (ruleOf kind (p .name)) p) ps ↔ Each (λ p. ByLine kind (p .name) (λ l. P l p)) ps
+by-lines kind P f ps =
+    (each-map (λ p. to-line kind (p .name) (λ l. P l p)) ps, each-map (λ p. from-line kind (p .name) (λ l. P l p) (f p)) ps)
 
 pub fits-rules : (kind : ℕ) (ps : List Property) → FitsRules kind ps ↔ Each (λ p. ByLine kind (p .name) (λ l. FitsLine l p)) ps
-fits-rules kind ps = (each-map (λ p. fits-agree kind p .0) ps, each-map (λ p. fits-agree kind p .1) ps)
+fits-rules kind ps = by-lines kind FitsLine (λ p. (tt, λ e. absurd (true≢false e))) ps
 
 pub keeps-rules : (kind : ℕ) (all : List Property) (bones : ℕ) (ps : List Property)
-    → Each (λ p. Keeps (ruleOf kind (p .name)) all bones p) ps ↔ Each (λ p. ByLine kind (p .name) (λ l. Keeps l all bones p)) ps
-keeps-rules kind all bones ps = (
-  each-map (λ p. to-line kind (p .name) (λ l. Keeps l all bones p)) ps,
-  each-map (λ p. from-line kind (p .name) (λ l. Keeps l all bones p) (free-keeps all bones p)) ps,
-)
+    → Each (λ p. Keeps (ruleOf kind (p .name) .held) all bones p) ps ↔ Each (λ p. ByLine kind (p .name) (λ l. Keeps (l .held) all bones p)) ps
+keeps-rules kind all bones ps = by-lines kind (λ l p. Keeps (l .held) all bones p) (λ p. tt) ps
 
 pub obeys-agree : (kind : ℕ) (ps : List Property) (bones : ℕ) → ObeysRules kind ps bones ↔ Obeys kind ps bones
 obeys-agree kind ps bones =

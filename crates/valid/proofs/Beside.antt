@@ -8,17 +8,17 @@ use Rattle.kinds.specs.Kinds.{mesh, blendShape, curve}
 use Rattle.props.specs.Step.{lengthAt}
 use Rattle.base.specs.Letters.{letters}
 use Rattle.props.specs.Types.{float}
+use Rattle.rules.specs.Table.{only}
 use Rattle.rules.specs.Rules.{ruleOf}
 use Rattle.judge.specs.Properties.{Beside, restAt, valueAt, lengthOf, valueOf, keyTypes, typesOf, besideOf}
-use Rattle.base.specs.Lists.{Each}
 use Rattle.format.specs.Layout.{Property}
-use Rattle.valid.specs.Obeys.{value, elementsOf, firstValueOf, vertexCount}
-use Rattle.valid.proofs.Ruled.{FitsRule, wanted}
+use Rattle.valid.specs.Obeys.{FitsLine, value, elementsOf, firstValueOf, vertexCount}
+use Rattle.valid.proofs.Ruled.{FitsRules, wanted}
 use Rattle.valid.proofs.Described.{Described}
 use Rattle.base.proofs.Lists.{each-map}
 use Rattle.valid.proofs.Names.{read-named}
 use Rattle.valid.proofs.Lines.{weights-each, key-text}
-use Rattle.valid.proofs.Values.{takes-number, takes-string, value-read, string-ends}
+use Rattle.valid.proofs.Values.{takes-number, takes-only, value-read, string-ends}
 use Rattle.valid.proofs.Strings.{key-alone}
 
 -- what the rules of each kind ask for
@@ -31,11 +31,11 @@ pub record Beheld (kind : ℕ) (ps : List Property) (beside : ℕ) (b : Beside) 
   pub bones : b .bones ≡ beside
 
 -- a property of a name fits the line of that name
-fits-named : (kind : ℕ) (p : Property) {k : ℕ} {name : List ℕ} → kind ≡ k → p .name ≡ name → FitsRule (ruleOf kind (p .name)) p → FitsRule (ruleOf k name) p
+fits-named : (kind : ℕ) (p : Property) {k : ℕ} {name : List ℕ} → kind ≡ k → p .name ≡ name → FitsLine (ruleOf kind (p .name)) p → FitsLine (ruleOf k name) p
 fits-named kind p k e f = rw (k, e) at f
 
 module _ (kind : ℕ) (s : List ℕ) {starts : List ℕ} {ps : List Property} (d : Described s starts ps)
-    (fits : Each (λ p. FitsRule (ruleOf kind (p .name)) p) ps) where
+    (fits : FitsRules kind ps) where
   length-of : (name : List ℕ) → lengthOf s starts name ≡ elementsOf name ps
   unfolding lengthOf
   length-of name = read-named s name (lengthAt s) (λ p. p .elements) 0 d (each-map (λ p f at a e. a .elements) ps fits)
@@ -46,14 +46,14 @@ module _ (kind : ℕ) (s : List ℕ) {starts : List ℕ} {ps : List Property} (d
       read-named s (letters "mi") (valueAt s) (λ p. value p 0) 0 d
       (each-map (λ p f at a e.
       let g = fits-named kind p k e f in
-      value-read a (takes-number _ (p .code) (g .0) (weights-each .0)) (g .1 (weights-each .1))) ps fits)
+      value-read a (takes-number (p .code) (g .0) (weights-each .0)) (g .1 (weights-each .1))) ps fits)
 
   types-of : kind ≡ curve → typesOf s starts ≡ wanted ps
   unfolding typesOf
   types-of k =
-      read-named s (letters "kp") (λ at. keyTypes (restAt s at)) (λ p. keyTypes (p .content)) float d
+      read-named s (letters "kp") (λ at. keyTypes (restAt s at)) (λ p. keyTypes (p .content)) (only float) d
       (each-map (λ p f at a e.
-      rw (a .rest) (key-alone (string-ends a (takes-string _ (p .code) (fits-named kind p k e f .0) key-text)) (a .more))) ps fits)
+      rw (a .rest) (key-alone (string-ends a (takes-only (fits-named kind p k e f .0) key-text)) (a .more))) ps fits)
 
   pub beheld : (bones : ℕ) → Beheld kind ps bones (besideOf kind s starts bones)
   unfolding besideOf

@@ -29,23 +29,23 @@ pub data Described (s : List ℕ) : List ℕ → List Property → Type 0 where
   one : {at : ℕ} {p : Property} {starts : List ℕ} {ps : List Property} → At s at p → Described s starts ps → Described s (at ∷ starts) (p ∷ ps)
 
 module _ (pre l : List ℕ) (w k : ℕ) where
-  number-behind : numberAt w (pre ++ l) (length pre + k) ≡ numberAt w l k
+  number-after : numberAt w (pre ++ l) (length pre + k) ≡ numberAt w l k
   unfolding numberAt
-  number-behind = rw (drop-append-add pre l k)
+  number-after = rw (drop-append-add pre l k)
 
   number-start : numberAt w (pre ++ l) (length pre) ≡ numberAt w l 0
   unfolding numberAt
   number-start = rw (drop-append-seam pre l)
 
--- a good property behind some bytes is found there
+-- a good property after some bytes is found there
 found : (p : Property) (pre more : List ℕ) → GoodProperty p → At (pre ++ (propertyBytes p ++ more)) (length pre) p
 unfolding nameAt
 found p pre more good =
     let bytes : List ℕ = propertyBytes p ++ more in
-    let size : sizeAt (pre ++ bytes) (length pre) ≡ length (p .name) = number-behind pre bytes 2 2 ∙ size-read p pre more good in
+    let size : sizeAt (pre ++ bytes) (length pre) ≡ length (p .name) = number-after pre bytes 2 2 ∙ size-read p pre more good in
     record {
       code = number-start pre bytes 2 0 ∙ code-read p pre more good;
-      elements = number-behind pre bytes 4 4 ∙ elements-read p pre more good;
+      elements = number-after pre bytes 4 4 ∙ elements-read p pre more good;
       name = rw (size, drop-append-add pre bytes 8) (name-read p pre more good);
       more = more;
       rest = rw (size, add-assoc (length pre) 8 (length (p .name)), drop-append-add pre bytes (8 + length (p .name))) (content-read p pre more good);

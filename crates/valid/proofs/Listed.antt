@@ -5,40 +5,27 @@ use mathlib.Core.Logic.{inl, inr, _↔_}
 use mathlib.Core.Bool.{Bool, true, false, cond, not, _&&_, false≢true, and-eq-true-iff}
 use mathlib.Core.List.{List, [], _∷_, _++_}
 use lib.Dec.{eqb}
-use borrow.Author.Tests.{eq-eqb, eqb-true, eqb-false, not-true}
-use Rattle.le.specs.Le.{val, le, numberAt}
+use borrow.Author.Tests.{eq-eqb, eqb-true, not-true}
 use Rattle.base.proofs.Tests.{by-test}
 use Rattle.names.specs.Names.{same, readDigits, number}
 use Rattle.names.specs.Names.{numbered as numberIn}
-use Rattle.rules.specs.Table.{Line, numbered, lines, free}
+use Rattle.rules.specs.Table.{Line, lines, free}
 use Rattle.base.specs.Letters.{letters}
-use Rattle.rules.specs.Packing.{unpacked}
 use Rattle.rules.specs.Rules.{isNumber, lists, ruleIn, ofKind, linesOf, ruleOf}
 use Rattle.rules.proofs.Laws.{all}
 use Rattle.base.specs.Lists.{Each, Some}
-use Rattle.valid.specs.Lines.{Numbered, Lists, ByLine}
+use Rattle.valid.specs.Lines.{Numbered, Spells, Lists, ByLine}
 use Rattle.valid.proofs.Says.{Says, says-same}
 use Rattle.valid.proofs.Decimals.{says-numbered}
 use Rattle.base.proofs.Lists.{each-map}
 
+says-spelt : (numbered : Bool) (letters name : List ℕ) → Says (cond numbered (isNumber (numberIn name letters)) (same name letters)) (Spells numbered letters name)
+says-spelt true letters name = says-numbered name letters
+says-spelt false letters name = says-same name letters
+
 pub says-lists : (l : Line) (name : List ℕ) → Says (lists l name) (Lists l name)
 unfolding lists
-says-lists l name =
-    by-test (eqb (l .numbered) numbered)
-    (λ t.
-    let is = says-numbered name (l .name) in
-    rw t (λ e. inl (eqb-true (l .numbered) numbered t, is .0 e), by is (eqb-true (l .numbered) numbered t)))
-    (λ t.
-    let is = says-same name (l .name) in
-    rw t (λ e. inr (eqb-false (l .numbered) numbered t, is .0 e), other is (eqb-false (l .numbered) numbered t)))
-  where
-    by : {b : Bool} → Says b (Numbered (l .name) name) → l .numbered ≡ numbered → Lists l name → b ≡ true
-    by is n (inl h) = is .1 (h .1)
-    by is n (inr h) = absurd (h .0 n)
-
-    other : {b : Bool} → Says b (name ≡ l .name) → (l .numbered ≡ numbered → ⊥) → Lists l name → b ≡ true
-    other is n (inl h) = absurd (n (h .0))
-    other is n (inr h) = is .1 (h .1)
+says-lists l name = says-spelt (l .numbered) (l .name) name
 
 -- ---- two lines meet where one name may be listed by both
 unfoldable startAlike : (a b : List ℕ) → Bool
@@ -46,31 +33,29 @@ startAlike [] b = true
 startAlike (x ∷ a) [] = true
 startAlike (x ∷ a) (y ∷ b) = eqb x y
 
-unfoldable meet : Line → Line → Bool
-meet l m = cond (eqb (l .numbered) numbered)
-    (cond (eqb (m .numbered) numbered) (startAlike (l .name) (m .name)) (isNumber (numberIn (m .name) (l .name))))
-    (cond (eqb (m .numbered) numbered) (isNumber (numberIn (l .name) (m .name))) (same (l .name) (m .name)))
+abbrev alike : (numbered other : Bool) (a b : List ℕ) → Bool
+alike true true a b = startAlike a b
+alike true false a b = isNumber (numberIn b a)
+alike false true a b = isNumber (numberIn a b)
+alike false false a b = same a b
 
-alike : (a b c d : List ℕ) → a ++ b ≡ c ++ d → startAlike a c ≡ true
+abbrev meet : Line → Line → Bool
+meet l m = alike (l .numbered) (m .numbered) (l .name) (m .name)
+
+start-alike : (a b c d : List ℕ) → a ++ b ≡ c ++ d → startAlike a c ≡ true
 unfolding startAlike
-alike [] b c d e = refl
-alike (x ∷ a) b [] d e = refl
-alike (x ∷ a) b (y ∷ c) d e = let h : x ≡ y = cc in eq-eqb x y h
+start-alike [] b c d e = refl
+start-alike (x ∷ a) b [] d e = refl
+start-alike (x ∷ a) b (y ∷ c) d e = let h : x ≡ y = cc in eq-eqb x y h
+
+both-alike : (numbered other : Bool) (a b name : List ℕ) → Spells numbered a name → Spells other b name → alike numbered other a b ≡ true
+both-alike true true a b name h k = start-alike a _ b _ (sym (h .spelt) ∙ k .spelt)
+both-alike true false a b name h k = says-numbered b a .1 (subst (Numbered a) k h)
+both-alike false true a b name h k = says-numbered a b .1 (subst (Numbered b) h k)
+both-alike false false a b name h k = says-same a b .1 (sym h ∙ k)
 
 both-meet : (l m : Line) (name : List ℕ) → Lists l name → Lists m name → meet l m ≡ true
-unfolding meet
-both-meet l m name (inl h) (inl k) =
-    rw (eq-eqb _ _ (h .0), eq-eqb _ _ (k .0)) (alike (l .name) _ (m .name) _ (sym (h .1 .spelt) ∙ k .1 .spelt))
-both-meet l m name (inl h) (inr k) =
-    by-test (eqb (m .numbered) numbered) (λ t. absurd (k .0 (eqb-true _ _ t)))
-    (λ t. rw (eq-eqb _ _ (h .0), t) (says-numbered (m .name) (l .name) .1 (subst (Numbered (l .name)) (k .1) (h .1))))
-both-meet l m name (inr h) (inl k) =
-    by-test (eqb (l .numbered) numbered) (λ t. absurd (h .0 (eqb-true _ _ t)))
-    (λ t. rw (t, eq-eqb _ _ (k .0)) (says-numbered (l .name) (m .name) .1 (subst (Numbered (m .name)) (h .1) (k .1))))
-both-meet l m name (inr h) (inr k) =
-    by-test (eqb (l .numbered) numbered) (λ t. absurd (h .0 (eqb-true _ _ t)))
-    (λ t. by-test (eqb (m .numbered) numbered) (λ u. absurd (k .0 (eqb-true _ _ u)))
-    (λ u. rw (t, u) (says-same (l .name) (m .name) .1 (sym (h .1) ∙ k .1))))
+both-meet l m name = both-alike (l .numbered) (m .numbered) (l .name) (m .name) name
 
 -- ---- no line meets a later one of its kind
 abbrev clear : Line → Line → Bool
@@ -81,7 +66,7 @@ allClear [] = true
 allClear (l ∷ ls) = all (clear l) ls && allClear ls
 
 table-clear : allClear lines ≡ true
-unfolding allClear all meet startAlike numberIn number readDigits same letters lines unpacked le val numberAt
+unfolding allClear all startAlike numberIn number readDigits same letters lines
 table-clear = refl
 
 pub all-each : {A : Type 0} (test : A → Bool) (xs : List A) → all test xs ≡ true → Each (λ x. test x ≡ true) xs

@@ -4,12 +4,12 @@ use native.Mathlib.Omega.{arith}
 use native.Mathlib.Nat.{zero-mul, one-mul}
 use mathlib.Core.Path.{_≡_, refl, sym, ap, _∙_}
 use mathlib.Core.Logic.{inl, inr}
-use mathlib.Core.Bool.{Bool, true, false, not, _&&_, _||_, false≢true}
-use mathlib.Core.List.{List, [], _∷_, map, append-nil}
+use mathlib.Core.Bool.{Bool, true, false, true≢false, false≢true}
+use mathlib.Core.List.{List, [], _∷_, _++_, map, append-nil}
 use lib.Dec.{eqb}
 use lib.ListN.{drop}
-use borrow.Author.Tests.{eq-eqb, ne-eqb, eqb-true, eqb-false}
-use Rattle.le.specs.Le.{val, le, numberAt}
+use borrow.Author.Tests.{eqb-true, eqb-false}
+use Rattle.le.specs.Le.{numberAt}
 use Rattle.base.proofs.Tests.{by-test}
 use Rattle.names.specs.Names.{same, readDigits, number}
 use Rattle.names.specs.Names.{numbered as numberIn}
@@ -18,22 +18,20 @@ use Rattle.kinds.specs.Kinds.{mesh}
 use Rattle.body.specs.Body.{properties}
 use Rattle.faces.specs.declared.Face.{Face}
 use Rattle.faces.specs.Faces.{widthOf, facesIn}
-use Rattle.rules.specs.Table.{Line, lines, numbered, faces}
+use Rattle.rules.specs.Table.{faces, lines, plain}
 use Rattle.base.specs.Letters.{letters}
-use Rattle.rules.specs.Packing.{unpacked}
 use Rattle.rules.specs.Rules.{lists, ruleIn, ofKind, linesOf, ruleOf, isN}
-use Rattle.rules.proofs.Laws.{all}
 use Rattle.judge.specs.Properties.{restAt}
 use Rattle.judge.specs.Valued.{nodeFaces}
 use Rattle.format.specs.Layout.{Property, GoodBody}
 use Rattle.base.proofs.Lists.{each-map}
-use Rattle.valid.specs.Lines.{Lists}
+use Rattle.valid.specs.Lines.{Spells}
 use Rattle.valid.specs.Obeys.{Has, Distinct, value, ofNamed, elementsOf, Obeys}
 use Rattle.valid.specs.Nodes.{numbersFrom, meshFaces}
 use Rattle.valid.proofs.Ruled.{FitsRules}
 use Rattle.valid.proofs.Described.{Described, none, one, described}
-use Rattle.valid.proofs.Lines.{faces-line}
-use Rattle.valid.proofs.Listed.{all-each, from-line}
+use Rattle.valid.proofs.Lines.{faces-line, faces-named, by-faces}
+use Rattle.valid.proofs.Listed.{from-line}
 use Rattle.valid.proofs.Values.{takes-number, values-read}
 use Rattle.valid.proofs.Triples.{number-on}
 use Rattle.valid.proofs.Agree.{fits-rules}
@@ -57,24 +55,17 @@ module _ (w : ℕ) (v : ℕ → ℕ) where
 abbrev f : List ℕ
 f = letters "f"
 
-abbrev isF : Line → Bool
-isF l = not (eqb (l .held) (faces .held)) || (not (eqb (l .numbered) numbered) && same (l .name) f)
+one-f : (numbered : Bool) (letters name : List ℕ) → Spells numbered letters name → numbered ≡ plain → name ≡ letters
+one-f true letters name h e = absurd (true≢false e)
+one-f false letters name h e = h
 
-lines-f : all isF lines ≡ true
-unfolding all lines letters unpacked same le val numberAt
-lines-f = refl
-
-one-f : (l : Line) (name : List ℕ) → isF l ≡ true → Lists l name → l .held ≡ faces .held → name ≡ f
-one-f l name t (inl h) e = absurd (false≢true (rw (eq-eqb _ _ e, eq-eqb _ _ (h .0)) at t))
-one-f l name t (inr h) e = h .1 ∙ same-eq (l .name) f (rw (eq-eqb _ _ e, ne-eqb _ _ (h .0)) at t)
-
-held-f : (kind : ℕ) (name : List ℕ) → ruleOf kind name .held ≡ faces .held → name ≡ f
+held-f : (kind : ℕ) (name : List ℕ) → ruleOf kind name .held ≡ faces → name ≡ f
 held-f kind name =
-    from-line kind name (λ l. l .held ≡ faces .held → name ≡ f) (λ e. absurd (omega (arith, e)))
-    (each-map (λ l t k h e. one-f l name t h e) lines (all-each isF lines lines-f))
+    from-line kind name (λ l. l .held ≡ faces → name ≡ f) (λ e. absurd (false≢true cc))
+    (each-map (λ l n k h e. one-f (l .numbered) (l .name) name h (n e .0) ∙ n e .1) lines faces-named)
 
-f-held : ruleOf mesh f .held ≡ faces .held
-unfolding val numberAt le letters unpacked lines lists same numberIn readDigits number ruleIn ofKind linesOf
+f-held : ruleOf mesh f .held ≡ faces
+unfolding letters lines lists same numberIn readDigits number ruleIn ofKind linesOf
 f-held = refl
 
 -- ---- a node's faces
@@ -84,14 +75,9 @@ module _ (kind : ℕ) (s : List ℕ) where
   unfolding nodeFaces
   no-faces none n = refl
   no-faces (one {at} {p} {starts} {ps} a d) n =
-      let l = ruleOf kind (p .name) in
-      let rest = no-faces d (λ k h. n k (inr h)) in
-      rw (a .name, rest)
-      (by-test (eqb (l .held) (faces .held))
-      (λ t.
-      let e = eqb-true (l .held) (faces .held) t in
-      absurd (n (faces-line kind (p .name) e .0) (inl (held-f kind (p .name) e))))
-      (λ t. rw t))
+      rw (a .name, no-faces d (λ k h. n k (inr h)))
+      (by-faces (λ fs. fs ++ [] ≡ []) s at (ruleOf kind (p .name) .held)
+      (λ e. absurd (n (faces-line kind (p .name) e .0) (inl (held-f kind (p .name) e)))) refl)
 
 -- the faces of the f of some properties
 abbrev named : List Property → List Face
@@ -107,17 +93,18 @@ module _ (s : List ℕ) where
       by-test (same (p .name) f)
       (λ t.
       let is : p .name ≡ f = same-eq (p .name) f t in
-      let held : l .held ≡ faces .held = ap (λ n. ruleOf mesh n .held) is ∙ f-held in
-      let isNumber : isN (p .code) ≡ true = takes-number (l .types) (p .code) (fits .0 .0) (faces-line mesh (p .name) held .1) in
+      let held : l .held ≡ faces = ap (λ n. ruleOf mesh n .held) is ∙ f-held in
+      let isNumber : isN (p .code) ≡ true = takes-number (p .code) (fits .0 .0) (faces-line mesh (p .name) held .1) in
       let w : ℕ = widthOf (p .code) in
       let n : ℕ = p .elements / 3 in
       let here : facesIn w n (restAt s at) ≡ map (face w (value p)) (numbersFrom 0 n) =
       faces-by w (value p) n 0 (restAt s at) (λ k less. values-read a isNumber k (omega (arith, less)) ∙ ap (value p) (omega arith)) in
       let rest = no-faces mesh s more (λ k h. d .0 (rw is h)) in
-      rw (a .name, eq-eqb (l .held) (faces .held) held, a .code, a .elements, rest, here, t) (append-nil (map (face w (value p)) (numbersFrom 0 n))))
+      rw (a .name, held, a .code, a .elements, rest, here, t) (append-nil (map (face w (value p)) (numbersFrom 0 n))))
       (λ t.
-      let other : l .held ≡ faces .held → ⊥ = λ e. false≢true (sym t ∙ ap (λ n. same n f) (held-f mesh (p .name) e) ∙ same-refl f) in
-      rw (a .name, ne-eqb (l .held) (faces .held) other, t) (mesh-faces more (d .1) (fits .1)))
+      rw (a .name, t)
+      (by-faces (λ fs. fs ++ nodeFaces (linesOf mesh) s starts ≡ named ps) s at (l .held)
+      (λ e. absurd (false≢true (sym t ∙ ap (λ n. same n f) (held-f mesh (p .name) e) ∙ same-refl f))) (mesh-faces more (d .1) (fits .1))))
 
 pub node-faces : (kind hash n : ℕ) (s : List ℕ) (bones : ℕ) (good : GoodBody n s) → Obeys kind (good .properties) bones
     → nodeFaces (linesOf kind) s (properties s n .starts) ≡ meshFaces (record { kind = kind; hash = hash; properties = good .properties })

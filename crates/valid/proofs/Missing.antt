@@ -1,7 +1,7 @@
 -- 14 is not given exactly where the properties are complete and partnered.
 use Prim.Native.Nat.{ℕ}
 use mathlib.Core.Path.{_≡_, refl}
-use mathlib.Core.Logic.{_⊎_, inl, inr, ⊎-elim}
+use mathlib.Core.Logic.{_⊎_, inl, inr, ⊎-elim, Iff·rfl}
 use mathlib.Core.Bool.{Bool, true, false, _&&_, _||_, false≢true}
 use mathlib.Core.List.{List, [], _∷_}
 use lib.Dec.{eqb}
@@ -37,7 +37,7 @@ module _ (kind : ℕ) (s : List ℕ) {starts : List ℕ} {ps : List Property} (d
   none-missing [] = (λ e. tt, λ h. refl)
   none-missing (l ∷ ls) =
       let there = fails-not (has s starts (l .name)) (says-has s (l .name) d) in
-      let wanted = fails-and (eqb (l .required) required) _ (says-eqb (l .required) required) there in
+      let wanted = fails-and (l .required) _ Iff·rfl there in
       let here = fails-and (eqb (l .kind) kind) _ (says-eqb (l .kind) kind) wanted in
       rw (of-kind l ls) (fails-or (eqb (l .kind) kind && isMissing l s starts) _ here (none-missing ls))
 

@@ -20,8 +20,8 @@ use Rattle.valid.proofs.Says.{Says, says-same, says-or}
 use Rattle.valid.proofs.Described.{At, Described, none, one}
 
 module _ (s name : List ℕ) where
-  -- what is read of the property that has the name; a number where there is none
-  abbrev pub readOf : (read : ℕ → ℕ) (other : ℕ) → List ℕ → ℕ
+  -- what is read of the property that has the name; something else where there is none
+  abbrev pub readOf : {A : Type 0} → (read : ℕ → A) (other : A) → List ℕ → A
   readOf read other starts = cond (has s starts name) (read (placeOf s starts name)) other
 
   module _ (at : ℕ) (more : List ℕ) where
@@ -32,7 +32,7 @@ module _ (s name : List ℕ) where
         (λ e. rw e (lt-ltb 0 (suc (length more)) (omega arith)))
         (λ e. rw e (leb·suc-suc (suc (firstNamed s name more)) (length more)))
 
-    read-cons : (read : ℕ → ℕ) (other : ℕ) → readOf read other (at ∷ more) ≡ cond (same (nameAt s at) name) (read at) (readOf read other more)
+    read-cons : {A : Type 0} (read : ℕ → A) (other : A) → readOf read other (at ∷ more) ≡ cond (same (nameAt s at) name) (read at) (readOf read other more)
     unfolding firstNamed
     read-cons read other =
         by-test (same (nameAt s at) name)
@@ -45,7 +45,7 @@ module _ (s name : List ℕ) where
   says-has (one {at} {p} {starts} {ps} a d) =
       rw (has-cons at starts, a .name) (says-or (same (p .name) name) (has s starts name) (says-same (p .name) name) (says-has d))
 
-  -- one more behind them
+  -- one more after them
   pub has-snoc : (starts : List ℕ) (at : ℕ) → has s (starts ++ (at ∷ [])) name ≡ (has s starts name || same (nameAt s at) name)
   unfolding firstNamed
   has-snoc [] at = by-test (same (nameAt s at) name) (λ e. rw e) (λ e. rw e)
@@ -54,7 +54,7 @@ module _ (s name : List ℕ) where
       (by-test (same (nameAt s b) name) (λ e. rw e) (λ e. rw e))
 
 -- what is read of the property of a name is what is read at its place, where both agree
-pub read-named : (s name : List ℕ) (read : ℕ → ℕ) (say : Property → ℕ) (other : ℕ) {starts : List ℕ} {ps : List Property} → Described s starts ps →
+pub read-named : {A : Type 0} (s name : List ℕ) (read : ℕ → A) (say : Property → A) (other : A) {starts : List ℕ} {ps : List Property} → Described s starts ps →
     Each (λ p. (at : ℕ) → At s at p → p .name ≡ name → read at ≡ say p) ps → readOf s name read other starts ≡ ofNamed name say other ps
 unfolding ofNamed firstNamed
 read-named s name read say other none h = refl

@@ -1,5 +1,5 @@
 -- A node's refusals, each exactly: 13, 14 and 15 in turn.
-use Prim.Native.Nat.{ℕ, zero, suc}
+use Prim.Native.Nat.{ℕ, _+_}
 use native.Mathlib.Omega.{arith}
 use mathlib.Core.Path.{_≡_, refl, sym, _∙_}
 use mathlib.Core.Logic.{_↔_, _⊎_, inl, inr, ⊎-elim, Iff·trans}
@@ -7,18 +7,16 @@ use mathlib.Core.Bool.{Bool, true, false, cond, true≢false}
 use mathlib.Core.List.{List, [], _∷_, _++_}
 use Rattle.base.proofs.Tests.{by-test}
 use Rattle.body.specs.Body.{properties}
-use Rattle.faces.specs.declared.Face.{Face}
 use Rattle.rules.specs.Table.{Line}
 use Rattle.rules.specs.Rules.{linesOf}
 use Rattle.judge.specs.Properties.{Beside, ruleAt, besideOf}
-use Rattle.judge.specs.declared.valued.Fault.{Fault}
-use Rattle.judge.specs.declared.valued.Fault.the-variants.{Right, Whole, Element}
 use Rattle.base.specs.declared.Refusal.{Refusal}
 use Rattle.judge.specs.Typed.{isMistyped, typed}
 use Rattle.judge.specs.Missing.{lacks}
-use Rattle.judge.specs.Valued.{faultOf, valued, nodeFaces, nodeLinks}
-use Rattle.base.specs.Refusals.{refusal}
-use Rattle.judge.specs.Judge.{byFault, andThen, verdictAt, judgedBy, judgedAt, judged}
+use Rattle.judge.specs.Valued.{faultOf, faultNumber, valued, nodeFaces, nodeLinks}
+use Rattle.base.specs.Refusals.{refusal, refusedOr}
+use Rattle.base.proofs.Refusals.{by-refusal}
+use Rattle.judge.specs.Judge.{verdictAt, judgedAt, judged}
 use Rattle.base.proofs.Lists.{each-map}
 use Rattle.valid.specs.Statements.{WellTyped, AllKept, JudgedExactly}
 use Rattle.valid.proofs.Agree.{ends, fits-rules, keeps-rules}
@@ -27,7 +25,7 @@ use Rattle.valid.proofs.Types.{typed-right}
 use Rattle.valid.proofs.Missing.{lacks-none}
 use Rattle.valid.proofs.Beside.{beheld}
 use Rattle.valid.proofs.Held.{valued-right}
-use Rattle.valid.proofs.Rules.{none-before, obeyed, accepted}
+use Rattle.valid.proofs.Rules.{same-number, none-before, obeyed, accepted}
 
 -- ---- each stage gives its own number, or none
 abbrev Only : (k n : ℕ) → Type 0
@@ -39,25 +37,18 @@ typed-only ls s before [] = inl refl
 typed-only ls s before (at ∷ more) =
     by-test (isMistyped ls s before at) (λ t. rw t (inr refl)) (λ t. rw t (typed-only ls s (before ++ (at ∷ [])) more))
 
-fault-only : (f : Fault) (at : ℕ) (next : Refusal) → Only 15 (next .number) → Only 15 (byFault f at next .number)
-fault-only Right at next n = n
-fault-only Whole at next n = inr refl
-fault-only (Element k) at next n = inr refl
-
 valued-only : (ls : List Line) (s : List ℕ) (b : Beside) (starts : List ℕ) → Only 15 (valued ls s b starts .number)
 unfolding valued
 valued-only ls s b [] = inl refl
-valued-only ls s b (at ∷ more) = fault-only (faultOf (ruleAt ls s at) s at b) at (valued ls s b more) (valued-only ls s b more)
-
-same-number : (n : ℕ) (v : Refusal) (fs : List Face) (links : ℕ) → judgedBy n v fs links .number ≡ n
-same-number zero v fs links = refl
-same-number (suc n) v fs links = refl
+valued-only ls s b (at ∷ more) =
+    by-refusal (λ v. Only 15 (v .number)) (faultNumber (faultOf (ruleAt ls s at .held) s at b)) (refusal 15 (24 + at)) (valued ls s b more)
+    (λ h. inr refl) (λ h. valued-only ls s b more)
 
 -- ---- one after the other, where the first says T, the second C and the third, of what the first lets pass, K
 module _ {T C K : Type 0} (v w : Refusal) (b : Bool) (first : Only 13 (v .number)) (third : Only 15 (w .number))
     (t : (v .number ≡ 0) ↔ T) (c : (b ≡ false) ↔ C) (k : T → (w .number ≡ 0) ↔ K) where
   abbrev number : ℕ
-  number = andThen (v .number) v (cond b (refusal 14 0) w) .number
+  number = refusedOr (v .number) v (cond b (refusal 14 0) w) .number
 
   past : v .number ≡ 0 → number ≡ cond b (refusal 14 0) w .number
   past e = rw e
@@ -146,7 +137,7 @@ judgedExactly kind n s bones good =
     let k : WellTyped kind ps → (values .number ≡ 0) ↔ AllKept kind ps bones = λ h.
     let f = fits .1 (h .1) in
     Iff·trans (valued-right kind s ps bones (besideOf kind s starts bones) (beheld kind s d f bones) (h .0) (ends kind ps (good .good) f) d f) (keeps-rules kind ps bones ps) in
-    let same : judged kind n s bones .number ≡ verdict .number = same-number (verdict .number) verdict (nodeFaces (linesOf kind) s starts) (nodeLinks (linesOf kind) s starts) in
+    let same : judged kind n s bones .number ≡ verdict .number = same-number verdict (nodeFaces (linesOf kind) s starts) (nodeLinks (linesOf kind) s starts) in
     let ask = lacks kind (linesOf kind) s starts in
     let only = typed-only (linesOf kind) s [] starts in
     let last = valued-only (linesOf kind) s (besideOf kind s starts bones) starts in

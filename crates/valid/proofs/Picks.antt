@@ -11,8 +11,7 @@ use Rattle.base.specs.Lists.{Each, Some, Picks, none, taken, left}
 use Rattle.faces.specs.declared.Face.{Face}
 use Rattle.faces.specs.Faces.{isDegenerate, degenerate}
 use Rattle.valid.specs.Nodes.{TwoEqual}
-use Rattle.valid.proofs.Says.{Says, says-eqb, says-or, fails}
-use Rattle.valid.proofs.Agree.{turned}
+use Rattle.valid.proofs.Says.{Says, says-eqb, says-or, turned, fails}
 
 pub picks-append : {A : Type 0} {P : A → Type 0} {xs ys us vs : List A} → Picks P xs ys → Picks P us vs → Picks P (xs ++ us) (ys ++ vs)
 picks-append none q = q

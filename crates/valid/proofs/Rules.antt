@@ -1,20 +1,22 @@
 -- A node's verdict is no refusal exactly where its properties obey the rules.
 use Prim.Native.Nat.{ℕ, zero, suc}
 use native.Mathlib.Omega.{arith}
-use mathlib.Core.Path.{_≡_, refl}
-use mathlib.Core.Logic.{_↔_, Iff·trans}
+use mathlib.Core.Path.{_≡_, refl, sym, _∙_}
+use mathlib.Core.Logic.{_↔_}
 use mathlib.Core.Bool.{cond, false≢true}
 use mathlib.Core.List.{List, []}
+use lib.ListN.{length}
 use Rattle.body.specs.Body.{firstNamed, properties}
 use Rattle.faces.specs.declared.Face.{Face}
+use Rattle.faces.specs.Faces.{degenerate}
 use Rattle.rules.specs.Rules.{linesOf}
 use Rattle.base.specs.declared.Refusal.{Refusal}
 use Rattle.judge.specs.Properties.{has, besideOf}
 use Rattle.judge.specs.Typed.{typed}
 use Rattle.judge.specs.Missing.{lacks}
 use Rattle.judge.specs.Valued.{valued, nodeFaces, nodeLinks}
-use Rattle.base.specs.Refusals.{refusal}
-use Rattle.judge.specs.Judge.{andThen, verdictAt, judgedBy, judgedAt, judged}
+use Rattle.base.specs.Refusals.{refusal, refusedOr}
+use Rattle.judge.specs.Judge.{verdictAt, refusedNode, acceptedNode, judgedBy, judgedAt, judged}
 use Rattle.format.specs.Layout.{Property, GoodBody}
 use Rattle.valid.specs.Obeys.{Obeys}
 use Rattle.valid.proofs.Ruled.{ObeysRules}
@@ -27,13 +29,17 @@ use Rattle.valid.proofs.Missing.{lacks-none}
 use Rattle.valid.proofs.Beside.{beheld}
 use Rattle.valid.proofs.Held.{valued-right}
 
-both : (n : ℕ) (v w : Refusal) → v .number ≡ n → (andThen n v w .number ≡ 0) ↔ (n ≡ 0) × (w .number ≡ 0)
+both : (n : ℕ) (v w : Refusal) → v .number ≡ n → (refusedOr n v w .number ≡ 0) ↔ (n ≡ 0) × (w .number ≡ 0)
 both zero v w h = (λ e. (refl, e), λ p. p .1)
-both (suc n) v w h = (λ e. absurd (omega arith), λ p. absurd (omega (arith, p .0)))
+both (suc n) v w h = (λ e. absurd (omega (arith, h, e)), λ p. absurd (omega (arith, p .0)))
 
-counted : (n : ℕ) (v : Refusal) (fs : List Face) (links : ℕ) → (judgedBy n v fs links .number ≡ 0) ↔ (n ≡ 0)
-counted zero v fs links = (λ e. refl, λ e. refl)
-counted (suc n) v fs links = (λ e. e, λ e. e)
+-- a judgement has the number of its verdict
+pub same-number : (v : Refusal) (fs : List Face) (links : ℕ) → judgedBy v fs links .number ≡ v .number
+same-number v fs links = by (v .number)
+  where
+    by : (n : ℕ) → refusedOr n (refusedNode n (v .place)) (acceptedNode (length fs) (degenerate fs) links) .number ≡ n
+    by zero = refl
+    by (suc n) = refl
 
 pub none-before : (s name : List ℕ) → Says (has s [] name) ⊥
 unfolding firstNamed
@@ -69,7 +75,9 @@ module _ (kind : ℕ) (s : List ℕ) (bones : ℕ) where
   judged-right n good =
       let starts = properties s n .starts in
       let verdict = verdictAt kind (linesOf kind) s starts bones in
-      Iff·trans (counted (verdict .number) verdict (nodeFaces (linesOf kind) s starts) (nodeLinks (linesOf kind) s starts)) (verdict-right (described n s good))
+      let same = same-number verdict (nodeFaces (linesOf kind) s starts) (nodeLinks (linesOf kind) s starts) in
+      let right = verdict-right (described n s good) in
+      (λ e. right .0 (sym same ∙ e), λ o. same ∙ right .1 o)
 
 -- for callers: what is not refused obeys the rules, and what obeys them is not refused
 module _ (kind n : ℕ) (s : List ℕ) (bones : ℕ) (good : GoodBody n s) where

@@ -1,7 +1,7 @@
 -- A test says a proposition: it is true exactly where that holds; or it fails exactly there.
 use Prim.Native.Nat.{ℕ, _≤_, _<_}
 use mathlib.Core.Path.{_≡_, refl, sym}
-use mathlib.Core.Logic.{_↔_, _⊎_, inl, inr}
+use mathlib.Core.Logic.{_↔_, _⊎_, inl, inr, ⊎-elim}
 use mathlib.Core.Bool.{Bool, true, false, not, _&&_, _||_, true≢false, false≢true}
 use mathlib.Core.List.{List}
 use lib.Dec.{eqb, leb, ltb}
@@ -40,6 +40,16 @@ module _ {A B : Type 0} where
       back true b h k s = refl
       back false b h k (inl x) = absurd (false≢true (h .1 x))
       back false b h k (inr y) = k .1 y
+
+pub says-not : (a : Bool) → Says (not a) (a ≡ false)
+says-not true = (λ e. absurd (false≢true e), λ e. absurd (true≢false e))
+says-not false = (λ e. refl, λ e. refl)
+
+pub turned : {A B C : Type 0} {b : Bool} → Says b ((A ⊎ B) ⊎ C) → Says b (A ⊎ (B ⊎ C))
+turned s = (
+  λ e. ⊎-elim (⊎-elim (λ a. inl a) (λ b. inr (inl b))) (λ c. inr (inr c)) (s .0 e),
+  λ h. s .1 (⊎-elim (λ a. inl (inl a)) (⊎-elim (λ b. inl (inr b)) (λ c. inr c)) h),
+)
 
 -- two tests that say the same are the same
 pub says-equal : {A : Type 0} (a b : Bool) → Says a A → Says b A → a ≡ b

@@ -6,8 +6,7 @@ use Rattle.format.specs.Layout.{Property}
 use Rattle.format.proofs.OneBody.{oneBody}
 use Rattle.valid.specs.Nodes.{Node, nodesOf}
 use Rattle.valid.specs.Statements.{WidthIsSize, OneNodeList}
-use Rattle.valid.proofs.Values.{width-size}
-use Rattle.valid.proofs.Agree.{says-N}
+use Rattle.valid.proofs.Values.{says-N, width-size}
 
 pub widthIsSize : WidthIsSize
 widthIsSize code n = width-size code (says-N code .1 n)

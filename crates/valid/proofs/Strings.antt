@@ -2,23 +2,22 @@
 use Prim.Native.Nat.{ℕ}
 use mathlib.Core.Path.{_≡_, refl, sym}
 use mathlib.Core.Logic.{_↔_, Iff·trans}
-use mathlib.Core.Bool.{true, _&&_, and-eq-true-iff, and-assoc, false≢true}
+use mathlib.Core.Bool.{true, and-eq-true-iff, and-assoc, false≢true}
 use mathlib.Core.List.{List, [], _∷_, _++_, append-assoc, append-nil}
 use lib.Dec.{eqb}
 use lib.ListN.{length, take, getD}
 use borrow.Author.Tests.{ne-eqb}
 use Rattle.names.specs.Names.{same, bytesOk}
-use Rattle.rules.specs.declared.Text.{Text}
 use Rattle.base.specs.Letters.{letters}
-use Rattle.rules.specs.Table.{texts, stringOf}
-use Rattle.rules.specs.Rules.{isText, inSet, isOneOf}
+use Rattle.rules.specs.Rules.{isText, isOneOf}
+use Rattle.rules.proofs.Laws.{all}
 use Rattle.judge.specs.Properties.{keyTypes}
 use Rattle.base.specs.Lists.{Each, Some}
 use Rattle.format.specs.Layout.{EndsInZero}
 use Rattle.format.proofs.Stages.{bytes-sound}
 use Rattle.valid.proofs.Says.{Says, says-eqb, says-and, says-or, says-equal}
 use Rattle.base.proofs.Lists.{each-map}
-use Rattle.valid.proofs.Lines.{all-letters, texts-letters, rotation-letters, visible-letters}
+use Rattle.valid.proofs.Lines.{rotation-letters, visible-letters}
 
 abbrev Nonzero : ℕ → Type 0
 Nonzero b = b ≡ 0 → ⊥
@@ -45,20 +44,13 @@ module _ {content : List ℕ} (c : EndsInZero content) (more : List ℕ) where
       rw (c .ends, append-assoc (c .text) (0 ∷ []) more)
       (text-there (c .text) string more (c .nonzero) (each-map (λ b h. h .0) string (bytes-sound string e)))
 
-  set-there : (set : ℕ) (ts : List Text) → all-letters ts ≡ true →
-      Says (inSet ts set (content ++ more)) (Some (λ t. (t .set ≡ set) × (content ≡ stringOf t ++ (0 ∷ []))) ts)
-  unfolding inSet all-letters
-  set-there set [] e = (λ f. absurd (false≢true f), λ f. absurd f)
-  set-there set (t ∷ ts) e =
-      let both = and-eq-true-iff (bytesOk (stringOf t)) (all-letters ts) .0 e in
-      let test = isText (content ++ more) (stringOf t) in
-      says-or (eqb (t .set) set && test) (inSet ts set (content ++ more))
-      (says-and (eqb (t .set) set) test (says-eqb (t .set) set) (says-text (stringOf t) (both .0)))
-      (set-there set ts (both .1))
-
-  pub says-set : (set : ℕ) → Says (isOneOf set (content ++ more)) (Some (λ t. (t .set ≡ set) × (content ≡ stringOf t ++ (0 ∷ []))) texts)
-  unfolding isOneOf
-  says-set set = set-there set texts texts-letters
+  pub says-one-of : (strings : List (List ℕ)) → all bytesOk strings ≡ true
+      → Says (isOneOf strings (content ++ more)) (Some (λ string. content ≡ string ++ (0 ∷ [])) strings)
+  unfolding isOneOf all
+  says-one-of [] e = (λ f. absurd (false≢true f), λ f. absurd f)
+  says-one-of (string ∷ others) e =
+      let both = and-eq-true-iff (bytesOk string) (all bytesOk others) .0 e in
+      says-or (isText (content ++ more) string) (isOneOf others (content ++ more)) (says-text string (both .0)) (says-one-of others (both .1))
 
 -- alone
 pub says-string : {content : List ℕ} → EndsInZero content → (string : List ℕ) → bytesOk string ≡ true → Says (isText content string) (content ≡ string ++ (0 ∷ []))

@@ -2,12 +2,12 @@
 use Prim.Native.Nat.{ℕ, _+_}
 use native.Mathlib.Omega.{arith}
 use mathlib.Core.Path.{_≡_, refl, sym}
-use mathlib.Core.Logic.{_↔_, _⊎_, inl, inr, ⊎-elim, Iff·rfl}
+use mathlib.Core.Logic.{_↔_, _⊎_, inl, inr, ⊎-elim}
 use mathlib.Core.Bool.{Bool, true, false, cond, not, true≢false}
 use mathlib.Core.List.{List, [], _∷_, _++_}
 use lib.Dec.{eqb}
 use Rattle.names.specs.Names.{same}
-use Rattle.rules.specs.Table.{Line, single}
+use Rattle.rules.specs.Table.{Line}
 use Rattle.rules.specs.Rules.{takes, misfits, linesOf, ruleOf}
 use Rattle.judge.specs.Properties.{has}
 use Rattle.base.specs.declared.Refusal.{Refusal}
@@ -15,9 +15,10 @@ use Rattle.judge.specs.Typed.{isMistyped, typed}
 use Rattle.base.specs.Refusals.{refusal}
 use Rattle.base.specs.Lists.{Each}
 use Rattle.format.specs.Layout.{Property}
-use Rattle.valid.specs.Obeys.{Has, Distinct}
-use Rattle.valid.proofs.Ruled.{FitsRule}
-use Rattle.valid.proofs.Says.{Says, says-eqb, says-same, says-or, Fails, fails, fails-not, fails-and, fails-or}
+use Rattle.valid.specs.Obeys.{Has, Distinct, FitsLine}
+use Rattle.valid.proofs.Ruled.{FitsRules}
+use Rattle.valid.proofs.Values.{says-takes}
+use Rattle.valid.proofs.Says.{Says, says-eqb, says-same, says-or, says-not, Fails, fails, fails-not, fails-and, fails-or}
 use Rattle.valid.proofs.Described.{At, Described, none, one}
 use Rattle.valid.proofs.Names.{has-snoc}
 
@@ -26,11 +27,11 @@ refused true n at v h = (λ e. absurd (h e), λ p. absurd (true≢false (p .0)))
 refused false n at v h = (λ e. (refl, e), λ p. p .1)
 
 -- ---- a property fits its line
-fits : (l : Line) (p : Property) → Fails (misfits l (p .code) (p .elements)) (FitsRule l p)
+fits : (l : Line) (p : Property) → Fails (misfits l (p .code) (p .elements)) (FitsLine l p)
 fits l p =
     let one = fails-not (eqb (p .elements) 1) (says-eqb (p .elements) 1) in
-    fails-or (not (takes (l .types) (p .code))) _ (fails-not (takes (l .types) (p .code)) Iff·rfl)
-    (fails-and (eqb (l .array) single) _ (says-eqb (l .array) single) one)
+    fails-or (not (takes (l .types) (p .code))) _ (fails-not (takes (l .types) (p .code)) (says-takes (l .types) (p .code)))
+    (fails-and (not (l .array)) _ (says-not (l .array)) one)
 
 -- ---- no name stands twice
 -- a name is not among those of some properties, nor has one of them a name that was before
@@ -45,17 +46,17 @@ module _ (H : List ℕ → Type 0) (name : List ℕ) where
   together [] h n = tt
   together (p ∷ ps) h n = (⊎-elim (h .0) (λ e. n (inl (sym e))), together ps (h .1) (λ x. n (inr x)))
 
--- ---- all of 13, behind some properties that have the names H
+-- ---- all of 13, after some properties that have the names H
 module _ (kind : ℕ) (s : List ℕ) where
   mistyped : (H : List ℕ → Type 0) (before : List ℕ) → ((name : List ℕ) → Says (has s before name) (H name)) →
-      {at : ℕ} {p : Property} → At s at p → Fails (isMistyped (linesOf kind) s before at) ((H (p .name) → ⊥) × FitsRule (ruleOf kind (p .name)) p)
+      {at : ℕ} {p : Property} → At s at p → Fails (isMistyped (linesOf kind) s before at) ((H (p .name) → ⊥) × FitsLine (ruleOf kind (p .name)) p)
   mistyped H before h {at} {p} a =
       rw (a .name, a .code, a .elements)
       (fails-or (has s before (p .name)) _ (fails (has s before (p .name)) (h (p .name))) (fits (ruleOf kind (p .name)) p))
 
   pub typed-right : (H : List ℕ → Type 0) (before : List ℕ) → ((name : List ℕ) → Says (has s before name) (H name)) →
       {starts : List ℕ} {ps : List Property} → Described s starts ps →
-      (typed (linesOf kind) s before starts .number ≡ 0) ↔ Each (λ p. H (p .name) → ⊥) ps × Distinct ps × Each (λ p. FitsRule (ruleOf kind (p .name)) p) ps
+      (typed (linesOf kind) s before starts .number ≡ 0) ↔ Each (λ p. H (p .name) → ⊥) ps × Distinct ps × FitsRules kind ps
   unfolding typed
   typed-right H before h none = (λ e. (tt, tt, tt), λ p. refl)
   typed-right H before h (one {at} {p} {starts} {ps} a d) =

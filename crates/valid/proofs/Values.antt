@@ -2,48 +2,51 @@
 use Prim.Native.Nat.{ℕ, suc, _+_, _*_, _≤_, _<_}
 use native.Mathlib.Omega.{arith}
 use native.Mathlib.Nat.{zero-mul, suc-mul, mul-le-mul-right, le-mul-of-pos-right}
-use mathlib.Core.Path.{_≡_, refl, sym, ap, _∙_}
-use mathlib.Core.Bool.{true, false≢true}
+use mathlib.Core.Path.{_≡_, refl, sym, ap}
+use mathlib.Core.Bool.{true, _||_, false≢true}
 use mathlib.Core.List.{List, _++_}
 use lib.Dec.{eqb}
 use lib.ListN.{length, drop, length-drop}
 use lib.Seq.{take-append-le, drop-append-le, take-at}
-use borrow.Author.Tests.{eqb-true}
+use borrow.Author.Tests.{eq-eqb, eqb-true}
 use Rattle.le.specs.Le.{val, numberAt}
 use Rattle.base.proofs.Tests.{by-test}
 use Rattle.props.specs.declared.Size.the-variants.{Bytes}
-use Rattle.props.specs.Types.{elementSize, byte, int, long, string}
+use Rattle.props.specs.Types.{elementSize, byte, short, int, long, float, v4, string}
 use Rattle.faces.specs.Faces.{widthOf}
-use Rattle.rules.specs.Table.{N}
+use Rattle.rules.specs.Table.{Types, only, N, keyType, anyType}
 use Rattle.rules.specs.Rules.{isN, takes}
 use Rattle.judge.specs.Properties.{restAt, valueAt}
 use Rattle.format.specs.Layout.{Property, EndsInZero}
+use Rattle.valid.specs.Lines.{IsN, IsKeyType, Takes}
 use Rattle.valid.specs.Obeys.{value}
+use Rattle.valid.proofs.Says.{Says, says-eqb, says-or, turned}
 use Rattle.valid.proofs.Described.{At}
 
 number-front : (w : ℕ) (c more : List ℕ) (at : ℕ) → at + w ≤ length c → numberAt w (c ++ more) at ≡ numberAt w c at
 unfolding numberAt
 number-front w c more at h = rw (drop-append-le at c more (omega arith), take-append-le w (drop at c) more (simp length-drop (omega arith)))
 
--- ---- types: a line's types take a type
-module _ (types code : ℕ) (h : takes types code ≡ true) where
-  pub takes-number : types ≡ N → isN code ≡ true
-  takes-number e = rw e at h
+-- ---- types
+pub says-N : (code : ℕ) → Says (isN code) (IsN code)
+says-N code =
+    turned (says-or (eqb code byte || eqb code short) (eqb code int) (says-or (eqb code byte) (eqb code short) (says-eqb code byte) (says-eqb code short)) (says-eqb code int))
 
-  takes-one : (t : ℕ) → takes t code ≡ eqb t code → types ≡ t → code ≡ t
-  takes-one t only e = sym (eqb-true t code (sym only ∙ (rw e at h)))
+says-key : (code : ℕ) → Says ((isN code || eqb code float) || eqb code v4) (IsKeyType code)
+says-key code = turned (says-or (isN code || eqb code float) (eqb code v4) (says-or (isN code) (eqb code float) (says-N code) (says-eqb code float)) (says-eqb code v4))
 
-  pub takes-byte : types ≡ byte → code ≡ byte
-  takes-byte = takes-one byte refl
+pub says-takes : (types : Types) (code : ℕ) → Says (takes types code) (Takes types code)
+says-takes (only type) code = (λ e. sym (eqb-true type code e), λ e. eq-eqb type code (sym e))
+says-takes N code = says-N code
+says-takes keyType code = says-key code
+says-takes anyType code = (λ e. tt, λ e. refl)
 
-  pub takes-int : types ≡ int → code ≡ int
-  takes-int = takes-one int refl
+-- a property of a line of one type is of it, and one of N is a number
+pub takes-only : {types : Types} {code type : ℕ} → Takes types code → types ≡ only type → code ≡ type
+takes-only h e = rw e at h
 
-  pub takes-long : types ≡ long → code ≡ long
-  takes-long = takes-one long refl
-
-  pub takes-string : types ≡ string → code ≡ string
-  takes-string = takes-one string refl
+pub takes-number : {types : Types} (code : ℕ) → Takes types code → types ≡ N → isN code ≡ true
+takes-number code h e = says-N code .1 (rw e at h)
 
 -- ---- numbers of b h i
 pub width-size : (code : ℕ) → isN code ≡ true → elementSize code ≡ Bytes (widthOf code)

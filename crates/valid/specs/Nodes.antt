@@ -10,7 +10,7 @@ use Rattle.le.specs.Le.{val}
 use Rattle.kinds.specs.Kinds.{mesh}
 use Rattle.faces.specs.declared.Face.{Face}
 use Rattle.base.specs.Letters.{letters}
-use Rattle.rules.specs.Table.{lines, linkTo}
+use Rattle.rules.specs.Table.{Line, lines, linkTo}
 use Rattle.format.specs.Forest.{Forest, end, known, unknown}
 use Rattle.base.specs.Lists.{Each, Some, Picks}
 use Rattle.format.specs.Layout.{Property, propertyBytes, WellFormed}
@@ -83,9 +83,14 @@ abbrev pub propertiesFrom : (i : ℕ) → List Node → List NodeProperty
 propertiesFrom i [] = []
 propertiesFrom i (n ∷ ns) = map (λ p. record { node = i; kind = n .kind; property = p }) (n .properties) ++ propertiesFrom (suc i) ns
 
--- "Links, where the node's kind lists the name as l": its line has a target
+-- a line that makes its property a link, to a kind
+pub record LinkLine (l : Line) : Type 0 where
+  pub to : ℕ
+  pub held : l .held ≡ linkTo to
+
+-- "Links, where the node's kind lists the name as l"
 abbrev pub IsLink : NodeProperty → Type 0
-IsLink x = Some (λ l. (l .kind ≡ x .kind) × Lists l (x .property .name) × (l .held ≡ linkTo 0 .held)) lines
+IsLink x = Some (λ l. (l .kind ≡ x .kind) × Lists l (x .property .name) × LinkLine l) lines
 
 abbrev pub noNode : Node
 noNode = record { kind = 0; hash = 0; properties = [] }
@@ -105,7 +110,7 @@ pub record NodeLink : Type 0 where
 
 abbrev pub ReachesOne : List Node → NodeLink → Type 0
 ReachesOne ns x = ByLine (x .source .kind) (x .source .property .name)
-    (λ l. l .held ≡ linkTo 0 .held → IsOnly ns (l .target) (val (x .source .property .content)) (x .target))
+    (λ l. (to : ℕ) → l .held ≡ linkTo to → IsOnly ns to (val (x .source .property .content)) (x .target))
 
 -- the links of some nodes: "one per link property present", and each reaches its node
 pub record LinksAre (ns : List Node) (links : List NodeLink) : Type 0 where

@@ -10,7 +10,7 @@ use Rattle.le.specs.Le.{numberAt}
 use Rattle.names.specs.Names.{same}
 use Rattle.kinds.specs.Kinds.{mesh}
 use Rattle.faces.specs.Faces.{widthOf}
-use Rattle.rules.specs.Table.{Line, single, required, lines, texts, stringOf, flag, oneOf, vertices, weights, faces, indices, keys, boneNumber}
+use Rattle.rules.specs.Table.{Held, nothing, flag, oneOf, vertices, weights, faces, indices, keys, boneNumber, linkTo, Line, single, required, lines}
 use Rattle.base.specs.Letters.{letters}
 use Rattle.props.specs.Types.{float, v4}
 use Rattle.base.specs.Lists.{Each, Some}
@@ -46,8 +46,8 @@ Partnered ps = Has (letters "wb") ps ⊎ Has (letters "wv") ps → Has (letters 
 abbrev pub value : Property → ℕ → ℕ
 value p k = numberAt (widthOf (p .code)) (p .content) (k * widthOf (p .code))
 
--- what is read of the property of a name, where no name stands twice; another number where there is none
-unfoldable pub ofNamed : (name : List ℕ) (read : Property → ℕ) (other : ℕ) → List Property → ℕ
+-- what is read of the property of a name, where no name stands twice; something else where there is none
+unfoldable pub ofNamed : {A : Type 0} → (name : List ℕ) (read : Property → A) (other : A) → List Property → A
 ofNamed name read other [] = other
 ofNamed name read other (p ∷ ps) = cond (same (p .name) name) (read p) (ofNamed name read other ps)
 
@@ -90,22 +90,25 @@ BoneParent (negsuc zero) bones = Unit {0}
 BoneParent (negsuc (suc n)) bones = ⊥
 
 -- what its line holds the property p to, among the properties of its node
-pub record Keeps (l : Line) (ps : List Property) (bones : ℕ) (p : Property) : Type 0 where
-  -- "`B` a `b` that is 0 or 1"
-  pub isFlag : l .held ≡ flag .held → value p 0 ≤ 1
-  -- "strings in brackets are the only ones taken"
-  pub isTaken : l .held ≡ oneOf 0 .held → Some (λ t. (t .set ≡ l .set) × (p .content ≡ stringOf t ++ (0 ∷ []))) texts
-  -- "vn, vt, c%d and u%d have length V"
-  pub perVertex : l .held ≡ vertices .held → p .elements ≡ vertexCount ps
-  -- "each of length mi times V"
-  pub perWeight : l .held ≡ weights .held → p .elements ≡ firstValueOf (letters "mi") ps * vertexCount ps
-  pub areFaces : l .held ≡ faces .held → AreFaces (vertexCount ps) p
-  -- "BlendShape vi and vp have equal lengths"
-  pub perIndex : l .held ≡ indices .held → p .elements ≡ elementsOf (letters "vi") ps
-  -- "as have Curve kb and kv; kv is v4 for rq, N for vb, f for any other kp"
-  pub perKey : l .held ≡ keys .held → (p .elements ≡ elementsOf (letters "kb") ps) × KeyTyped ps (p .code)
-  -- "Bone p is read as signed": a number of 32 bits is read as one z
-  pub parentRight : l .held ≡ boneNumber .held → (z : ℤ) → ReadSigned (value p 0) z → BoneParent z bones
+abbrev pub Keeps : Held → (ps : List Property) (bones : ℕ) → Property → Type 0
+Keeps nothing ps bones p = Unit {0}
+-- "`B` a `b` that is 0 or 1"
+Keeps flag ps bones p = value p 0 ≤ 1
+-- "strings in brackets are the only ones taken"
+Keeps (oneOf strings) ps bones p = Some (λ string. p .content ≡ string ++ (0 ∷ [])) strings
+-- "vn, vt, c%d and u%d have length V"
+Keeps vertices ps bones p = p .elements ≡ vertexCount ps
+-- "each of length mi times V"
+Keeps weights ps bones p = p .elements ≡ firstValueOf (letters "mi") ps * vertexCount ps
+Keeps faces ps bones p = AreFaces (vertexCount ps) p
+-- "BlendShape vi and vp have equal lengths"
+Keeps indices ps bones p = p .elements ≡ elementsOf (letters "vi") ps
+-- "as have Curve kb and kv; kv is v4 for rq, N for vb, f for any other kp"
+Keeps keys ps bones p = (p .elements ≡ elementsOf (letters "kb") ps) × KeyTyped ps (p .code)
+-- "Bone p is read as signed": a number of 32 bits is read as one z
+Keeps boneNumber ps bones p = (z : ℤ) → ReadSigned (value p 0) z → BoneParent z bones
+-- a link is held to what it reaches among all nodes: `Links`
+Keeps (linkTo kind) ps bones p = Unit {0}
 
 -- all of it
 pub record Obeys (kind : ℕ) (ps : List Property) (bones : ℕ) : Type 0 where
@@ -113,4 +116,4 @@ pub record Obeys (kind : ℕ) (ps : List Property) (bones : ℕ) : Type 0 where
   pub fits : Each (λ p. ByLine kind (p .name) (λ l. FitsLine l p)) ps
   pub complete : HasRequired kind ps
   pub partnered : kind ≡ mesh → Partnered ps
-  pub keeps : Each (λ p. ByLine kind (p .name) (λ l. Keeps l ps bones p)) ps
+  pub keeps : Each (λ p. ByLine kind (p .name) (λ l. Keeps (l .held) ps bones p)) ps

@@ -35,7 +35,7 @@ NothingMissing kind ps = HasRequired kind ps × (kind ≡ mesh → Partnered ps)
 
 -- not 15: "any other property rule above broken"
 abbrev pub AllKept : (kind : ℕ) → List Property → (bones : ℕ) → Type 0
-AllKept kind ps bones = Each (λ p. ByLine kind (p .name) (λ l. Keeps l ps bones p)) ps
+AllKept kind ps bones = Each (λ p. ByLine kind (p .name) (λ l. Keeps (l .held) ps bones p)) ps
 
 -- each number is given exactly when none before it is, and what it says is so; `judged` is the contract of `judge::judge`
 pub record NodeAnswers (kind n : ℕ) (body : List ℕ) (bones : ℕ) (ps : List Property) : Type 0 where

@@ -48,7 +48,7 @@ reaches kind hash (unknown k h p c rest next) = cond (eqb k kind && eqb h hash) 
 
 -- a property that its line makes a link: "exactly one node of that kind in the file has that hash"
 abbrev pub Links : (file : Forest) (kind : ℕ) → Property → Type 0
-Links file kind p = ByLine kind (p .name) (λ l. l .held ≡ linkTo 0 .held → reaches (l .target) (val (p .content)) file ≡ 1)
+Links file kind p = ByLine kind (p .name) (λ l. (to : ℕ) → l .held ≡ linkTo to → reaches to (val (p .content)) file ≡ 1)
 
 abbrev pub NodeLinked : (file : Forest) (beside kind count : ℕ) (body : List ℕ) → Type 0
 NodeLinked file beside kind count body = (good : GoodBody count body) → Each (Links file kind) (good .properties)

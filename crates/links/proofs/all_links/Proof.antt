@@ -4,7 +4,7 @@ use native.Mathlib.Numerals.{unary-clauses}
 use native.Mathlib.Omega.{arith}
 use mathlib.Core.Path.{_≡_, sym, _∙_}
 use Rattle.table.specs.Table.{rowsAt}
-use Rattle.links.specs.Contract.{countIn, rowsLinked}
+use Rattle.links.specs.Private.{countIn, rowsLinked}
 use Rattle.links.proofs.Turns.{rows-refused, rows-passed, rows-ended}
 use borrow.Author.Needs.{needs}
 use Rattle.links.proofs.all_links.Statement.{statement}

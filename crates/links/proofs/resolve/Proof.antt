@@ -6,7 +6,7 @@ use mathlib.Core.Logic.{⊎-elim}
 use lib.Seq.{length-take-le}
 use Rattle.table.specs.Table.{rowsAt}
 use Rattle.links.specs.Links.{linked}
-use Rattle.links.proofs.Targets.{count-reaches}
+use Rattle.links.proofs.Targets.{counts-reached}
 use Rattle.links.proofs.Resolving.{linked-by}
 use borrow.Author.Needs.{needs}
 use Rattle.links.proofs.resolve.Statement.{statement}
@@ -94,9 +94,9 @@ returns c =
     let j = materials e .before .before in
     let a = j .before .before .before .args in
     let rows = rowsAt (a .table .now) 0 (j .if1 .n) in
-    let reaches = count-reaches rows _ _ _ _ (materials e .collect .ensures .1 .same) (meshes e .collect2 .ensures .1 .same)
+    let counts = counts-reached rows _ _ _ _ (materials e .collect .ensures .1 .same) (meshes e .collect2 .ensures .1 .same)
     (bones e .collect3 .ensures .1 .same) (files e .collect4 .ensures .1 .same) in
-    c .all-links .ensures ∙ linked-by _ rows reaches (a .file .now) ∙ ap (λ n. linked (a .file .now) (rowsAt (a .table .now) 0 n)) (capped j)
+    c .all-links .ensures ∙ linked-by _ rows counts (a .file .now) ∙ ap (λ n. linked (a .file .now) (rowsAt (a .table .now) 0 n)) (capped j)
 
 pub resolve-spec : {M : Type 1} → statement M
 resolve-spec =
