@@ -48,7 +48,7 @@ module _ (s t : List ℕ) (n : ℕ) where
   owns-rest zero h = rw (rest-all t n) (omega arith)
   owns-rest (suc j) h = omega (arith, owns-rest j (omega arith), ap (owns s) (rest-next t n j (omega arith)))
 
-  -- so much of the rest is too much of all
+  -- what is too much of the rest is too much of all
   pub rest-over : (j : ℕ) → j ≤ n → 16777216 < 16 + owns s (rest t n j) → 16777216 < 16 + length (nodesBytes s 0 (rowsAt t 0 n))
   rest-over j h o = omega (arith, owns-rest j h, length-nodesBytes s 0 (rowsAt t 0 n))
 

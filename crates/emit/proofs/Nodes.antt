@@ -39,8 +39,8 @@ part-put l at r size fits {part} e =
     let all : part ≡ headerOf r size
     = rw n at e ∙ sets-eq (headerOf r size) (midOf at 24 l) 0 (omega (arith, k, long))
     ∙ ap (λ z. headerOf r size ++ z) (drop-of-length-le (midOf at 24 l) {i = 0 + length (headerOf r size)} (omega (arith, k, long))) ∙ append-nil (headerOf r size) in
-    let behind : drop 24 (drop at l) ≡ drop (at + length (headerOf r size)) l = drop-drop 24 at l ∙ ap (λ m. drop (at + m) l) (sym k) in
-    rw (n, all, behind) (sym (sets-eq (headerOf r size) l at (omega (arith, k, fits)) ∙ append-assoc (take at l) (headerOf r size) (drop (at + length (headerOf r size)) l)))
+    let following : drop 24 (drop at l) ≡ drop (at + length (headerOf r size)) l = drop-drop 24 at l ∙ ap (λ m. drop (at + m) l) (sym k) in
+    rw (n, all, following) (sym (sets-eq (headerOf r size) l at (omega (arith, k, fits)) ∙ append-assoc (take at l) (headerOf r size) (drop (at + length (headerOf r size)) l)))
 
 module _ (s out : List ℕ) (at : ℕ) (r : Row) (size : ℕ) {head : List ℕ} (h : head ≡ sets out at (headerOf r size)) where
   pub node-put : {body last : List ℕ} → body ≡ bodyOf s r → last ≡ sets head (at + 24) body

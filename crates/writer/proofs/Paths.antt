@@ -73,9 +73,9 @@ module _ (k : ℕ) (path : List ℕ) (r : Row) (rs : List Row) (w : Right k path
   -- the path after it has no number twice, and none of the later rows
   pub distinct-onward : k < 1024 → Distinct path → Each (Older k) path → Distinct (onward k r (w .1))
   distinct-onward few d o =
-      let behind = apart d .0 in
+      let following = apart d .0 in
       let older = split (Older k) o .1 in
-      by-test (isKnown (r .kind)) (λ t. rw t (each-map (new few) rest older, behind)) (λ t. rw t behind)
+      by-test (isKnown (r .kind)) (λ t. rw t (each-map (new few) rest older, following)) (λ t. rw t following)
 
   pub older-onward : Each (Older k) path → Each (Older (suc k)) (onward k r (w .1))
   older-onward o =

@@ -79,10 +79,10 @@ under-append s k (x ∷ xs) ys a q =
     under-other s k x (xs ++ ys) q e ∙ ih q ∙ ap (λ f. graft f (nodesUnder s (k + suc (length xs)) ys q)) (sym (under-other s k x xs q e)))
 
 counts-append : (k : ℕ) (xs ys : List Row) → Apart k xs ys → Counts k xs → Counts (k + length xs) ys → Counts k (xs ++ ys)
-counts-append k [] ys a c d = rw (zero-behind k) at d
+counts-append k [] ys a c d = rw (zero-after k) at d
   where
-    zero-behind : (k : ℕ) → k + 0 ≡ k
-    zero-behind k = omega arith
+    zero-after : (k : ℕ) → k + 0 ≡ k
+    zero-after k = omega arith
 counts-append k (x ∷ xs) ys a c d =
     let n : k + suc (length xs) ≡ suc k + length xs = omega arith in
     let none : naming xs k + naming ys k ≡ naming xs k = omega (arith, a k (omega arith) (omega arith)) in
@@ -131,14 +131,14 @@ rebuilt s (known kind h ps body kids next) pre post p k at well e a o few =
     let apart : Apart (suc k) below beside
     = λ j b c. rows-none All next p (suc k + nodes kids) there j (λ q. omega (arith, o (omega (arith, q)), c, long, q, few)) (λ q. absurd (omega (arith, q, c, long))) in
     let numbered : suc k + length below ≡ suc k + nodes kids = omega (arith, long) in
-    let behind : (q : ℕ) → nodesUnder s (suc k) (below ++ beside) q ≡ graft (nodesUnder s (suc k) below q) (nodesUnder s (suc k + nodes kids) beside q)
+    let following : (q : ℕ) → nodesUnder s (suc k) (below ++ beside) q ≡ graft (nodesUnder s (suc k) below q) (nodesUnder s (suc k + nodes kids) beside q)
     = λ q. under-append s (suc k) below beside apart q ∙ ap (λ n. graft (nodesUnder s (suc k) below q) (nodesUnder s n beside q)) numbered in
     let no-k : naming beside k ≡ 0 = rows-none All next p (suc k + nodes kids) there k (λ q. omega (arith, o (omega (arith, q)), q, few)) (λ q. absurd (omega (arith, q))) in
     let no-p : naming below p ≡ 0 = rows-none All kids k (suc k) here p (λ q. omega (arith, o (omega (arith, q)), q, few)) (λ q. omega (arith, o (omega (arith, q)), few)) in
     let the-kids : nodesUnder s (suc k) (below ++ beside) k ≡ kids
-    = behind k ∙ ap (graft (nodesUnder s (suc k) below k)) (none-named s (suc k + nodes kids) beside k no-k) ∙ graft-end (nodesUnder s (suc k) below k) ∙ ih-kids .same in
+    = following k ∙ ap (graft (nodesUnder s (suc k) below k)) (none-named s (suc k + nodes kids) beside k no-k) ∙ graft-end (nodesUnder s (suc k) below k) ∙ ih-kids .same in
     let the-next : nodesUnder s (suc k) (below ++ beside) p ≡ next
-    = behind p ∙ ap (λ f. graft f (nodesUnder s (suc k + nodes kids) beside p)) (none-named s (suc k) below p no-p) ∙ graft-none _ ∙ ih-next .same in
+    = following p ∙ ap (λ f. graft f (nodesUnder s (suc k + nodes kids) beside p)) (none-named s (suc k) below p no-p) ∙ graft-none _ ∙ ih-next .same in
     let node : nodeOf s r kids next ≡ known kind h ps body kids next = rw (well .0, is, hash-back h) in
     let all : naming (below ++ beside) k ≡ count kids
     = counted-append All below beside k ∙ (let own = sym (count-under s (suc k) below k) ∙ ap count (ih-kids .same) in omega (arith, own, no-k)) in

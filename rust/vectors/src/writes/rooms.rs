@@ -88,7 +88,7 @@ fn add_lengths(writes: &mut Writes) {
         writes.follow(&mut longer, base.rows.len(), more);
         let written = writes.add_whole(&longer, &base.source, length);
         assert_eq!(written, refusal(20, 0));
-        // 20 is told before a wrong row.
+        // 20 is reported before a wrong row.
         longer[3] = 0;
         let written = writes.add_whole(&longer, b"", 0);
         assert_eq!(written, refusal(20, 0));
