@@ -15,9 +15,6 @@ refusal-requires c κs = search needs
 cast-two : tie.Need-cast-two
 cast-two c = search needs
 
-cast-two-2 : tie.Need-cast-two-2
-cast-two-2 c = search needs
-
 two-requires : tie.Need-two-requires
 two-requires c κs = search needs
 
@@ -31,7 +28,7 @@ returns : tie.Need-returns
 unfolding partsNumbers partsOutput
 returns c =
     let at-two = c .before .before .before .before in
-    rw (← at-two .before .before .before .refusal .ensures .0, ne-eqb _ _ (c .before .before .if1 .taken))
+    rw (← at-two .before .before .refusal .ensures .0, ne-eqb _ _ (c .before .before .if1 .taken))
     (put-after (0 ∷ []) (c .push .ensures) (put-after (0 ∷ 0 ∷ []) (c .before .push-two .ensures) (at-two .two .ensures)), refl)
 
 emit-requires : tie.Need-emit-requires
@@ -48,7 +45,7 @@ unfolding partsNumbers partsOutput
 returns-2 c =
     let at-emit = c .before .before .before in
     let at-two = at-emit .before .before .before .before in
-    let at-refusal = at-two .before .before .before in
+    let at-refusal = at-two .before .before in
     let j = at-refusal .refusal .result in
     let e = at-emit .emit .ensures in
     rw (← at-refusal .refusal .ensures .0, eq-eqb _ _ (at-emit .before .before .if1 .left)) (
@@ -63,7 +60,6 @@ parts-spec =
     (tie.spec
     refusal-requires
     cast-two
-    cast-two-2
     two-requires
     push-two-requires
     push-requires
