@@ -24,3 +24,7 @@ module _ {A : Type 0} (P : A → Type 0) where
 
 pub link-none : {A : Type 0} (h : Held) (f : ℕ → A) (x : A) → NoLink h → ifLink h f x ≡ x
 link-none h f x n = by-link (λ y. y ≡ x) h f x (λ kind e. absurd (n kind e)) (λ m. refl)
+
+-- a link is to one kind
+pub one-kind : {a b : ℕ} → linkTo a ≡ linkTo b → a ≡ b
+one-kind e = cc

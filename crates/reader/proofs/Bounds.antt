@@ -1,23 +1,23 @@
 -- Numbers of a file's reading are bounded by its length: the places of its links, and its faces.
-use Prim.Native.Nat.{ℕ, zero, suc, _+_, _-_, _≤_}
+use Prim.Native.Nat.{ℕ, suc, _+_, _≤_}
 use native.Mathlib.Omega.{arith}
 use mathlib.Core.List.{List, [], _∷_}
-use lib.Dec.{eqb}
 use lib.ListN.{length, getD}
 use Rattle.base.proofs.Tests.{by-test}
 use Rattle.kinds.specs.Kinds.{isKnown}
 use Rattle.table.specs.declared.Row.{Row}
 use Rattle.body.specs.Body.{properties}
 use Rattle.body.proofs.Places.{starts-within}
-use Rattle.rules.specs.Table.{Line, linkTo}
+use Rattle.rules.specs.Table.{Line}
 use Rattle.rules.specs.Rules.{linesOf}
 use Rattle.judge.specs.Properties.{ruleAt}
 use Rattle.format.specs.Rows.{bodyOf}
 use Rattle.base.specs.Lists.{Each}
 use Rattle.base.proofs.Lists.{each-append}
+use Rattle.base.proofs.Refusals.{by-refusal}
 use Rattle.format.proofs.Rows.{body-length}
-use Rattle.links.specs.declared.Linked.{Linked}
-use Rattle.links.specs.Links.{Link, linksAt, linksFrom, refusalOf, unless, resolved}
+use Rattle.links.specs.Links.{Link, linksAt, linksFrom, refusalOf, refusedLinks, resolved}
+use Rattle.links.proofs.Splits.{by-link}
 use Rattle.reader.specs.Private.{RowOk}
 
 -- ---- links lie in the file
@@ -34,7 +34,7 @@ unfolding linksAt
 at-lie all ls row start size s [] fits h = tt
 at-lie all ls row start size s (at ∷ more) fits h =
     let ih = at-lie all ls row start size s more fits (h .1) in
-    by-test (eqb (ruleAt ls s at .held) (linkTo 0 .held)) (λ t. rw t (omega (arith, h .0), ih)) (λ t. rw t ih)
+    by-link (Each (Lies size)) (ruleAt ls s at .held) _ _ (λ to e. (omega (arith, h .0), ih)) (λ other. ih)
 
 pub links-lie : (s : List ℕ) (all : List Row) (size n i : ℕ) (rs : List Row) → Each (RowOk size n) rs → Each (Lies size) (linksFrom s all i rs)
 unfolding linksFrom
@@ -46,11 +46,9 @@ links-lie s all size n i (r ∷ rs) h =
     let here = at-lie all (linesOf (r .kind)) i (r .start) size body (properties body (r .properties) .starts) fits (each-at (length body) (properties body (r .properties) .starts) (starts-within body (r .properties))) in
     by-test (isKnown (r .kind)) (λ t. rw t (each-append (Lies size) (linksAt all (linesOf (r .kind)) i (r .start) body (properties body (r .properties) .starts)) (linksFrom s all (suc i) rs) .1 (here, ih))) (λ t. rw t ih)
 
-unless-lies : (k place size : ℕ) (w : Linked) → place ≤ size → w .place ≤ size → unless k place w .place ≤ size
-unless-lies zero place size w a b = b
-unless-lies (suc k) place size w a b = a
-
 pub resolved-lies : (n size : ℕ) (ls : List Link) → Each (Lies size) ls → resolved n ls .place ≤ size
 unfolding resolved
 resolved-lies n size [] h = omega arith
-resolved-lies n size (l ∷ ls) h = unless-lies (refusalOf (l .targets)) (l .property) size (resolved (suc n) ls) (h .0) (resolved-lies (suc n) size ls (h .1))
+resolved-lies n size (l ∷ ls) h =
+    let k = refusalOf (length (l .targets)) in
+    by-refusal (λ w. w .place ≤ size) k (refusedLinks k (l .property)) (resolved (suc n) ls) (λ e. h .0) (λ e. resolved-lies (suc n) size ls (h .1))

@@ -12,8 +12,9 @@ use Rattle.faces.specs.Faces.{degenerate}
 use Rattle.judge.proofs.Counted.{degenerate-append, judged-counts}
 use Rattle.format.specs.Rows.{bodyOf, allOwnBytes}
 use Rattle.base.specs.Lists.{Each}
+use Rattle.base.specs.Refusals.{refusedOr}
 use Rattle.links.specs.declared.Linked.{Linked}
-use Rattle.links.specs.Links.{Link, refusalOf, unless, resolved}
+use Rattle.links.specs.Links.{Link, refusalOf, refusedLinks, resolved}
 use Rattle.reader.specs.Reading.{bonesUnder, judgedWith, judgedRow, ruled, ownKnown, ownUnknown}
 use Rattle.reader.proofs.Judging.{ruled-on}
 use Rattle.reader.specs.Acceptance.{rowFaces, facesOf}
@@ -46,12 +47,12 @@ ruled-counts s all (r ∷ rs) e =
     )
 
 -- ---- links
-one : (ts : List ℕ) → refusalOf ts ≡ 0 → length ts ≡ 1
-one [] e = absurd (omega (arith, e))
-one (t ∷ []) e = refl
-one (t ∷ u ∷ ts) e = absurd (omega (arith, e))
+one : (n : ℕ) → refusalOf n ≡ 0 → n ≡ 1
+one zero e = absurd (omega (arith, e))
+one (suc zero) e = refl
+one (suc (suc n)) e = absurd (omega (arith, e))
 
-next : (k place : ℕ) (w : Linked) → unless k place w .number ≡ 0 → (k ≡ 0) × (w .number ≡ 0) × (unless k place w .links ≡ w .links)
+next : (k place : ℕ) (w : Linked) → (let v = refusedOr k (refusedLinks k place) w in v .number ≡ 0 → (k ≡ 0) × (w .number ≡ 0) × (v .links ≡ w .links))
 next zero place w e = (refl, e, refl)
 next (suc k) place w e = absurd (omega (arith, e))
 
@@ -59,6 +60,6 @@ pub resolved-counts : (n : ℕ) (ls : List Link) → resolved n ls .number ≡ 0
 unfolding resolved
 resolved-counts n [] e = (omega arith, tt)
 resolved-counts n (l ∷ ls) e =
-    let here = next (refusalOf (l .targets)) (l .property) (resolved (suc n) ls) e in
+    let here = next (refusalOf (length (l .targets))) (l .property) (resolved (suc n) ls) e in
     let ih = resolved-counts (suc n) ls (here .1) in
-    (here .2 ∙ ih .0 ∙ omega arith, (one (l .targets) (here .0), ih .1))
+    (here .2 ∙ ih .0 ∙ omega arith, (one (length (l .targets)) (here .0), ih .1))

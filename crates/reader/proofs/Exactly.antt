@@ -80,8 +80,8 @@ module _ (s : List ℕ) (f : Forest) where
 
   reach-nodes : (kind : ℕ) (p : Property) → RowReached all kind p ↔ Links f kind p
   reach-nodes kind p = (
-    each-map (λ l h k n e. sym (reach-here (l .target) p) ∙ h k n e) lines,
-    each-map (λ l h k n e. reach-here (l .target) p ∙ h k n e) lines,
+    each-map (λ l h k n to e. sym (reach-here to p) ∙ h k n to e) lines,
+    each-map (λ l h k n to e. reach-here to p ∙ h k n to e) lines,
   )
 
   known-row : KnownRow s all Q P

@@ -1,25 +1,25 @@
 -- A row judged, by its kind being known or not; and its links, of which the rules count one for each.
-use Prim.Native.Nat.{ℕ, zero, suc}
+use Prim.Native.Nat.{ℕ, zero, suc, _+_}
 use native.Mathlib.Omega.{arith}
 use mathlib.Core.Path.{_≡_, refl, ap, sym, _∙_}
 use mathlib.Core.Bool.{true, false}
 use mathlib.Core.List.{List, [], _∷_}
-use lib.Dec.{eqb}
 use lib.ListN.{length, length-append}
 use Rattle.base.specs.Refusals.{refusedOr}
 use Rattle.base.proofs.Tests.{by-test}
 use Rattle.kinds.specs.Kinds.{isKnown}
 use Rattle.table.specs.declared.Row.{Row}
 use Rattle.body.specs.Body.{properties}
-use Rattle.rules.specs.Table.{Line, linkTo}
+use Rattle.rules.specs.Table.{Line}
 use Rattle.rules.specs.Rules.{linesOf}
 use Rattle.judge.specs.declared.Judged.{Judged}
 use Rattle.judge.specs.Properties.{ruleAt}
-use Rattle.judge.specs.Valued.{nodeLinks}
+use Rattle.judge.specs.Valued.{linkCount, nodeLinks}
 use Rattle.judge.specs.Judge.{judged, Bounded}
 use Rattle.judge.proofs.Counted.{judged-links}
 use Rattle.format.specs.Rows.{bodyOf}
-use Rattle.links.specs.Links.{Link, linksAt, rowLinks, linksFrom, linksOf, resolved, linked}
+use Rattle.links.specs.Links.{Link, linksAt, rowLinks, linksFrom, linksOf, acceptedLinks, resolved, linked}
+use Rattle.links.proofs.Splits.{by-link, link-none}
 use Rattle.reader.specs.declared.Ruled.{Ruled}
 use Rattle.reader.specs.Reading.{bonesUnder, unjudged, judgedWith, judgedRow, counted, uncounted, ruled}
 
@@ -41,7 +41,10 @@ unfolding linksAt nodeLinks
 node-count all ls row start s [] = refl
 node-count all ls row start s (at ∷ more) =
     let ih = node-count all ls row start s more in
-    by-test (eqb (ruleAt ls s at .held) (linkTo 0 .held)) (λ t. rw (t, ih) (omega arith)) (λ t. rw (t, ih) (omega arith))
+    let held = ruleAt ls s at .held in
+    by-link (λ (links : List Link). length links ≡ linkCount held + nodeLinks ls s more) held _ _
+    (λ to e. let one : suc (length (linksAt all ls row start s more)) ≡ linkCount held + nodeLinks ls s more = rw (e, ih) (omega arith) in one)
+    (λ other. let none : linkCount held ≡ 0 = link-none held _ _ other in ih ∙ omega (arith, none))
 
 row-count : (s : List ℕ) (all : List Row) (i : ℕ) (r : Row) → judgedRow s all r .number ≡ 0 → judgedRow s all r .links ≡ length (rowLinks s all i r)
 row-count s all i r e =
@@ -68,12 +71,12 @@ links-counted s all i (r ∷ rs) e =
     let here = ruled-on (judgedRow s all r .number) _ (judgedRow s all r) (ruled s all rs) e in
     ap (λ u. u .links) (here .2) ∙ rw (row-count s all i r (here .0), links-counted s all (suc i) rs (here .1)) (sym (length-append (rowLinks s all i r) (linksFrom s all (suc i) rs)))
 
-none : (ls : List Link) → 0 ≡ length ls → record { number = 0; place = 0; links = 0 } ≡ resolved 0 ls
+none : (ls : List Link) → 0 ≡ length ls → acceptedLinks 0 ≡ resolved 0 ls
 unfolding resolved
 none [] e = refl
 none (l ∷ ls) e = absurd (omega (arith, e))
 
 -- and where there are none, that is the answer
-pub no-links : (s : List ℕ) (rows : List Row) → 0 ≡ length (linksOf s rows) → record { number = 0; place = 0; links = 0 } ≡ linked s rows
+pub no-links : (s : List ℕ) (rows : List Row) → 0 ≡ length (linksOf s rows) → acceptedLinks 0 ≡ linked s rows
 unfolding linked
 no-links s rows e = none (linksOf s rows) e

@@ -7,25 +7,28 @@ use mathlib.Core.Bool.{true, false, _&&_, and-eq-true-iff, false≢true}
 use mathlib.Core.List.{List, [], _∷_, _++_, map, map-append}
 use lib.Dec.{eqb}
 use lib.ListN.{length, getD}
-use borrow.Author.Tests.{eq-eqb, eqb-true, eqb-false}
-use Rattle.le.specs.Le.{val}
+use borrow.Author.Tests.{eq-eqb, eqb-true}
+use Rattle.le.specs.Le.{val, numberAt}
 use Rattle.base.proofs.Tests.{by-test}
 use Rattle.table.specs.declared.Row.{Row}
 use Rattle.body.specs.Body.{properties}
 use Rattle.rules.specs.Table.{linkTo}
 use Rattle.rules.specs.Rules.{linesOf, ruleOf}
+use Rattle.rules.specs.Rules.{isLink as isLinkTo}
+use Rattle.judge.specs.Properties.{restAt}
 use Rattle.format.specs.Rows.{hashOf}
 use Rattle.base.specs.Lists.{Each, Picks, none, taken, left}
 use Rattle.format.specs.Layout.{Property}
 use Rattle.base.proofs.Lists.{each-append}
 use Rattle.links.specs.Links.{Link, reached, linksAt, rowLinks, linksFrom, linksOf}
-use Rattle.valid.specs.Nodes.{Node, NodeProperty, propertiesFrom, IsLink, IsNode, IsOnly, NodeLink, ReachesOne, LinksAre}
+use Rattle.links.proofs.Splits.{by-link, one-kind}
+use Rattle.valid.specs.Nodes.{Node, NodeProperty, propertiesFrom, LinkLine, IsLink, IsNode, IsOnly, NodeLink, ReachesOne, LinksAre}
 use Rattle.valid.proofs.Described.{Described, described}
 use Rattle.valid.proofs.Described as Found
 use Rattle.valid.proofs.Ruled.{FitsRules}
 use Rattle.valid.proofs.Agree.{fits-rules}
 use Rattle.valid.proofs.Lines.{link-line}
-use Rattle.valid.proofs.Values.{takes-long, hash-read}
+use Rattle.valid.proofs.Values.{takes-only, hash-read}
 use Rattle.valid.proofs.Listed.{to-line, some-line}
 use Rattle.valid.proofs.Picks.{picks-append}
 use Rattle.reader.specs.Acceptance.{rowsOfLink, nodesOfLink}
@@ -133,40 +136,40 @@ module _ {s : List ℕ} {all : List Row} {nodes : List Node} (whole : InStep s a
     node-links : {starts : List ℕ} {ps : List Property} → Described body starts ps → FitsRules kind ps
         → Each One (linksAt all (linesOf kind) row start body starts) → Same nodes (map with ps) (linksAt all (linesOf kind) row start body starts)
     unfolding linksAt
-    node-links Found.none fits h = same-none nodes
-    node-links (Found.one {at} {p} {starts} {ps} a more) fits h =
-        let l = ruleOf kind (p .name) in
-        let test = eqb (l .held) (linkTo 0 .held) in
-        let isLink = some-line kind (p .name) (λ l. l .held ≡ linkTo 0 .held) (λ e. omega (arith, e)) in
-        by-test test
-        (λ t.
-        let held = eqb-true (l .held) (linkTo 0 .held) t in
-        let line = link-line kind (p .name) held in
-        let hash = hash-read a (takes-long _ (p .code) (fits .0 .0) (line .0)) (fits .0 .1 (line .1)) in
-        let targets = reached (l .target) (val (p .content)) 0 all in
+    node-links Found.none fits = λ h. same-none nodes
+    node-links (Found.one {at} {p} {starts} {ps} a more) fits =
+        let held = ruleOf kind (p .name) .held in
+        let isLink = some-line kind (p .name) LinkLine (λ l. false≢true (ap isLinkTo (l .held))) in
+        let split : List Link → Type 0 = λ ls. Each One ls → Same nodes (map with (p ∷ ps)) ls in
+        rw (a .name) (by-link split held _ _
+        (λ to link each.
+        let line = link-line kind (p .name) to link in
+        let hash = hash-read a (takes-only (fits .0 .0) (line .0)) (fits .0 .1 (line .1)) in
+        let targets = reached to (numberAt 8 (restAt body at) 0) 0 all in
         let rest = linksAt all (linesOf kind) row start body starts in
-        let first : List ℕ → Link = λ ts. record { row = row; property = start + at; targets = ts } in
-        let split : linksAt all (linesOf kind) row start body (at ∷ starts) ≡ first targets ∷ rest = rw (a .name, t, hash) in
-        let each = subst (Each One) split h in
         let ih = node-links more (fits .1) (each .1) in
         let lone = alone targets (each .0) in
-        let here = only-reached (l .target) (val (p .content)) 0 (getD targets 0 0) whole lone in
-        let link : NodeLink = record { source = with p; target = here .place } in
+        let here = only-reached to (numberAt 8 (restAt body at) 0) 0 (getD targets 0 0) whole lone in
+        let only : IsOnly nodes to (val (p .content)) (here .place) = subst (λ h. IsOnly nodes to h (here .place)) hash (here .only) in
         let target : targets ≡ here .place ∷ [] = lone ∙ ap (λ m. m ∷ []) (here .there ∙ omega arith) in
         record {
-          links = link ∷ ih .links;
-          sources = taken (isLink .0 held) (ih .sources);
-          targets = (to-line kind (p .name) (λ l. l .held ≡ linkTo 0 .held → IsOnly nodes (l .target) (val (p .content)) (here .place)) (λ e. here .only), ih .targets);
-          tied = ap (map rowsOfLink) split ∙ ap (λ ts. (row, ts) ∷ map rowsOfLink rest) target ∙ ap (λ r. (row, here .place ∷ []) ∷ r) (ih .tied);
+          links = record { source = with p; target = here .place } ∷ ih .links;
+          sources = taken (isLink .0 (record { to = to; held = link })) (ih .sources);
+          targets = (
+            to-line kind (p .name) (λ l. (k : ℕ) → l .held ≡ linkTo k → IsOnly nodes k (val (p .content)) (here .place))
+                (λ k e. subst (λ k. IsOnly nodes k (val (p .content)) (here .place)) (one-kind (sym link ∙ e)) only),
+            ih .targets,
+          );
+          tied = ap (λ ts. (row, ts) ∷ map rowsOfLink rest) target ∙ ap (λ r. (row, here .place ∷ []) ∷ r) (ih .tied);
         })
-        (λ t.
-        let ih = node-links more (fits .1) (rw (a .name, t) at h) in
+        (λ other each.
+        let ih = node-links more (fits .1) each in
         record {
           links = ih .links;
-          sources = left (λ i. eqb-false (l .held) (linkTo 0 .held) t (isLink .1 i)) (ih .sources);
+          sources = left (λ i. let l = isLink .1 i in other (l .to) (l .held)) (ih .sources);
           targets = ih .targets;
-          tied = rw (a .name, t) (ih .tied);
-        })
+          tied = ih .tied;
+        }))
 
   -- a row's
   row-links : (i : ℕ) {r : Row} {n : Node} → SameAs s r n → Each One (rowLinks s all i r)

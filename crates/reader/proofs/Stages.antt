@@ -5,21 +5,22 @@ use mathlib.Core.Path.{_≡_, refl, sym, _∙_}
 use mathlib.Core.Logic.{_↔_}
 use mathlib.Core.Bool.{true}
 use mathlib.Core.List.{List, [], _∷_, _++_}
-use lib.Dec.{eqb}
+use lib.ListN.{length}
 use Rattle.le.specs.Le.{numberAt}
 use Rattle.base.specs.Refusals.{refusedOr}
 use Rattle.base.proofs.Tests.{by-test}
 use Rattle.kinds.specs.Kinds.{isKnown}
 use Rattle.table.specs.declared.Row.{Row}
 use Rattle.body.specs.Body.{properties}
-use Rattle.rules.specs.Table.{Line, linkTo}
+use Rattle.rules.specs.Table.{Line}
 use Rattle.rules.specs.Rules.{linesOf}
 use Rattle.judge.specs.declared.Judged.{Judged}
 use Rattle.judge.specs.Properties.{ruleAt, restAt}
 use Rattle.format.specs.Rows.{bodyOf}
 use Rattle.base.specs.Lists.{Each}
 use Rattle.links.specs.declared.Linked.{Linked}
-use Rattle.links.specs.Links.{Link, reached, linksAt, rowLinks, linksFrom, refusalOf, unless, resolved}
+use Rattle.links.specs.Links.{Link, reached, linksAt, rowLinks, linksFrom, refusalOf, refusedLinks, resolved}
+use Rattle.links.proofs.Splits.{by-link, link-none}
 use Rattle.reader.specs.declared.Ruled.{Ruled}
 use Rattle.reader.specs.Reading.{judgedRow, counted, uncounted, ruled}
 
@@ -40,13 +41,16 @@ ruled-each s all (r ∷ rs) =
     (λ e. let b = both .0 e in (b .0, ih .0 (b .1)), λ e. both .1 (e .0, ih .1 (e .1)))
 
 -- ---- links
-unless-same : (k place : ℕ) (a b : Linked) → a .number ≡ b .number → unless k place a .number ≡ unless k place b .number
-unless-same zero place a b e = e
-unless-same (suc k) place a b e = refl
+abbrev after : (k place : ℕ) → Linked → Linked
+after k place next = refusedOr k (refusedLinks k place) next
 
-unless-zero : (k place : ℕ) (a : Linked) → (unless k place a .number ≡ 0) ↔ ((k ≡ 0) × (a .number ≡ 0))
-unless-zero zero place a = (λ e. (refl, e), λ e. e .1)
-unless-zero (suc k) place a = (λ e. absurd (omega (arith, e)), λ e. absurd (omega (arith, e .0)))
+after-same : (k place : ℕ) (a b : Linked) → a .number ≡ b .number → after k place a .number ≡ after k place b .number
+after-same zero place a b e = e
+after-same (suc k) place a b e = refl
+
+after-zero : (k place : ℕ) (a : Linked) → (after k place a .number ≡ 0) ↔ ((k ≡ 0) × (a .number ≡ 0))
+after-zero zero place a = (λ e. (refl, e), λ e. e .1)
+after-zero (suc k) place a = (λ e. absurd (omega (arith, e)), λ e. absurd (omega (arith, e .0)))
 
 resolved-none : (n : ℕ) → resolved n [] .number ≡ 0
 unfolding resolved
@@ -56,15 +60,15 @@ resolved-none n = refl
 resolved-any : (n m : ℕ) (ls : List Link) → resolved n ls .number ≡ resolved m ls .number
 unfolding resolved
 resolved-any n m [] = refl
-resolved-any n m (l ∷ ls) = unless-same (refusalOf (l .targets)) (l .property) (resolved (suc n) ls) (resolved (suc m) ls) (resolved-any (suc n) (suc m) ls)
+resolved-any n m (l ∷ ls) = after-same (refusalOf (length (l .targets))) (l .property) (resolved (suc n) ls) (resolved (suc m) ls) (resolved-any (suc n) (suc m) ls)
 
 resolved-append : (n : ℕ) (xs ys : List Link) → (resolved n (xs ++ ys) .number ≡ 0) ↔ ((resolved n xs .number ≡ 0) × (resolved n ys .number ≡ 0))
 unfolding resolved
 resolved-append n [] ys = (λ e. (refl, e), λ e. e .1)
 resolved-append n (x ∷ xs) ys =
-    let k = refusalOf (x .targets) in
-    let whole = unless-zero k (x .property) (resolved (suc n) (xs ++ ys)) in
-    let first = unless-zero k (x .property) (resolved (suc n) xs) in
+    let k = refusalOf (length (x .targets)) in
+    let whole = after-zero k (x .property) (resolved (suc n) (xs ++ ys)) in
+    let first = after-zero k (x .property) (resolved (suc n) xs) in
     let ih = resolved-append (suc n) xs ys in
     let any = resolved-any (suc n) n ys in (
       λ e. let w = whole .0 e in let r = ih .0 (w .1) in (first .1 (w .0, r .0), sym any ∙ r .1),
@@ -77,13 +81,12 @@ resolved-row : (all : List Row) (ls : List Line) (row row′ start n : ℕ) (s s
 unfolding resolved linksAt
 resolved-row all ls row row′ start n s [] = refl
 resolved-row all ls row row′ start n s (at ∷ more) =
-    let l = ruleAt ls s at in
-    let targets = reached (l .target) (numberAt 8 (restAt s at) 0) 0 all in
-    by-test (eqb (l .held) (linkTo 0 .held))
-    (λ t. rw t
-    (unless-same (refusalOf targets) (start + at) (resolved (suc n) (linksAt all ls row start s more)) (resolved (suc n) (linksAt all ls row′ start s more))
-    (resolved-row all ls row row′ start (suc n) s more)))
-    (λ t. rw t (resolved-row all ls row row′ start n s more))
+    let held = ruleAt ls s at .held in
+    by-link (λ links. resolved n links .number ≡ resolved n (linksAt all ls row′ start s (at ∷ more)) .number) held _ _
+    (λ to e. rw e
+    (after-same (refusalOf (length (reached to (numberAt 8 (restAt s at) 0) 0 all))) (start + at)
+    (resolved (suc n) (linksAt all ls row start s more)) (resolved (suc n) (linksAt all ls row′ start s more)) (resolved-row all ls row row′ start (suc n) s more)))
+    (λ other. rw (link-none held _ _ other) (resolved-row all ls row row′ start n s more))
 
 abbrev pub LinkedRow : (s : List ℕ) (all : List Row) → Row → Type 0
 LinkedRow s all r =

@@ -6,7 +6,6 @@ use mathlib.Core.Bool.{Bool, true, false, _&&_, true≢false}
 use mathlib.Core.List.{List, [], _∷_, map, map-append, flatMap}
 use lib.Dec.{eqb}
 use lib.ListN.{getD, drop}
-use borrow.Author.Tests.{eqb-true}
 use Rattle.le.specs.Le.{numberAt}
 use Rattle.base.proofs.Tests.{by-test}
 use Rattle.kinds.specs.Kinds.{isKnown}
@@ -15,10 +14,10 @@ use Rattle.table.specs.Table.{blank}
 use Rattle.format.specs.Rows.{bodyOf, ownBytes, hashOf}
 use Rattle.base.specs.Lists.{Each}
 use Rattle.base.proofs.Lists.{each-append}
-use Rattle.rules.specs.Table.{linkTo}
 use Rattle.rules.specs.Rules.{linesOf}
 use Rattle.judge.specs.Properties.{ruleAt, restAt}
 use Rattle.links.specs.Links.{reached, linksAt, rowLinks, linksFrom, linksOf}
+use Rattle.links.proofs.Splits.{by-link, link-none}
 use Rattle.reader.specs.Reading.{ownKnown, ownUnknown}
 use Rattle.reader.specs.Acceptance.{rowFaces, facesOf}
 use Rattle.removal.specs.Tally.{sumOverMarked}
@@ -139,13 +138,9 @@ module _ (s s′ : List ℕ) (ms : List Bool) where
     unfolding linksAt
     links-stay-at kind i start body [] h = tt
     links-stay-at kind i start body (at ∷ more) h =
-        let l = ruleAt (linesOf kind) body at in
         let later = links-stay-at kind i start body more h in
-        by-test (eqb (l .held) (linkTo 0 .held))
-        (λ t.
-        let known = target-at kind body at (eqb-true (l .held) (linkTo 0 .held) t) in
-        rw t ((h, reached-stay (l .target) (numberAt 8 (restAt body at) 0) known 0 refl whole), later))
-        (λ t. rw t later)
+        by-link (Each (LinkStays ms)) (ruleAt (linesOf kind) body at .held) _ _
+        (λ to e. ((h, reached-stay to (numberAt 8 (restAt body at) 0) (target-at kind body at to e) 0 refl whole), later)) (λ other. later)
 
     links-stay : (i : ℕ) {rs : List Row} {rest : List Bool} {rs′ : List Row} → drop i ms ≡ rest → Left s s′ rs rest rs′
         → Each (LinkStays ms) (linksFrom s rows i rs)
@@ -167,14 +162,13 @@ module _ (s s′ : List ℕ) (ms : List Bool) where
       unfolding linksAt unmarked
       links-at [] = refl
       links-at (at ∷ more) =
-          let l = ruleAt (linesOf kind) body at in
-          by-test (eqb (l .held) (linkTo 0 .held))
-          (λ t.
-          let known = target-at kind body at (eqb-true (l .held) (linkTo 0 .held) t) in
-          let targets = reached-from (l .target) (numberAt 8 (restAt body at) 0) known 0 refl whole in
+          let held = ruleAt (linesOf kind) body at .held in
+          by-link (λ links. links ≡ map (movedLink rows ms) (linksAt rows (linesOf kind) i (r .start) body (at ∷ more))) held _ _
+          (λ k e.
+          let targets = reached-from k (numberAt 8 (restAt body at) 0) (target-at kind body at k e) 0 refl whole in
           let place : at ≡ (r .start + at) - r .start = omega arith in
-          rw (t, ← laid, to, from, ← place, links-at more, targets))
-          (λ t. rw t (links-at more))
+          rw (e, ← laid, to, from, ← place, links-at more, targets))
+          (λ other. rw (link-none held _ _ other) (links-at more))
 
     -- the links of the rows from row i on
     links-from : (i : ℕ) {rs : List Row} {rest : List Bool} {rs′ : List Row}

@@ -8,7 +8,7 @@ use mathlib.Core.List.{List, [], _∷_, _++_, map, map-append, map-map, flatMap}
 use lib.ListN.{drop}
 use Rattle.le.specs.Le.{val}
 use Rattle.kinds.specs.Kinds.{isKnown}
-use Rattle.rules.specs.Table.{Line, lines, linkTo}
+use Rattle.rules.specs.Table.{lines}
 use Rattle.base.specs.Lists.{Each}
 use Rattle.format.specs.Layout.{Property, WellFormed}
 use Rattle.base.proofs.Lists.{each-append, each-both, each-map}
@@ -18,7 +18,7 @@ use Rattle.reader.proofs.InStep.{bare-faces}
 use Rattle.removal.specs.Left.{unmarked, newNumber, Stays, unmarkedOf, NodeLinkStays, movedSource, movedNodeLink}
 use Rattle.removal.proofs.Marked.{Marked, mend, mkn, mun, bare, kept, marks}
 use Rattle.removal.proofs.StillValid.{well-kept}
-use Rattle.removal.proofs.Targets.{targets-known}
+use Rattle.removal.proofs.Targets.{ToKnown, targets-known}
 use Rattle.removal.proofs.LeftLinks.{here, onward, number-gone, number-same}
 
 -- of some nodes, those that are left: what goes is of an unknown kind, and its properties are not read
@@ -132,20 +132,18 @@ each-of-map Q g [] h = tt
 each-of-map Q g (x ∷ xs) h = (h .0, each-of-map Q g xs (h .1))
 
 module _ {ns : List Node} {ms : List Bool} {ns′ : List Node} (l : LeftNodes ns ms ns′) where
-  -- a line that makes the property a link has a known target
-  abbrev Known : Line → Type 0
-  Known r = r .held ≡ linkTo 0 .held → isKnown (r .target) ≡ true
-
   link-moves : (x : NodeLink) → ReachesOne ns x → ReachesOne ns′ (movedNodeLink ms x)
   link-moves x h =
-      each-map (λ r b k n e. only-stays (r .target) (val (x .source .property .content)) (b .0 e) l (x .target) (b .1 k n e) .0) lines
-      (each-both Known _ lines .0 (targets-known, h))
+      each-map (λ r b k n to e. only-stays to (val (x .source .property .content)) (b .0 to e) l (x .target) (b .1 k n to e) .0) lines
+      (each-both ToKnown _ lines .0 (targets-known, h))
 
   target-stays : (x : NodeLink) → ReachesOne ns x → IsLink (x .source) → Stays ms (x .target)
   target-stays x h i =
       each-some _ _ lines
-      (λ r b k. only-stays (r .target) (val (x .source .property .content)) (b .0 (k .2)) l (x .target) (b .1 (k .0) (k .1) (k .2)) .1)
-      (each-both Known _ lines .0 (targets-known, h)) i
+      (λ r b k.
+      let link = k .2 in
+      only-stays (link .to) (val (x .source .property .content)) (b .0 (link .to) (link .held)) l (x .target) (b .1 (k .0) (k .1) (link .to) (link .held)) .1)
+      (each-both ToKnown _ lines .0 (targets-known, h)) i
 
   module _ (links : List NodeLink) (are : LinksAre ns links) where
     abbrev source : NodeLink → NodeProperty

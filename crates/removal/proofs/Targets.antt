@@ -1,15 +1,15 @@
 -- What a link reaches is of a known kind, computed over the table.
 use Prim.Native.Nat.{ℕ}
 use native.Mathlib.Omega.{arith}
-use mathlib.Core.Path.{_≡_, refl, ap, sym, _∙_}
+use mathlib.Core.Path.{_≡_, refl, ap}
 use mathlib.Core.Logic.{⊎-elim}
-use mathlib.Core.Bool.{Bool, true, false, cond}
+use mathlib.Core.Bool.{Bool, true, false}
 use mathlib.Core.List.{List}
 use lib.Dec.{eqb}
 use borrow.Author.Tests.{ne-eqb}
 use Rattle.kinds.specs.Kinds.{isKnown, parentsOf, parentsIn, parentsTable}
 use Rattle.rules.specs.Table.{Line, lines, linkTo}
-use Rattle.rules.specs.Rules.{linesOf, ruleOf}
+use Rattle.rules.specs.Rules.{linesOf, ifLink}
 use Rattle.rules.proofs.Laws.{all, ruled}
 use Rattle.base.specs.Lists.{Each}
 use Rattle.base.proofs.Lists.{each-map}
@@ -17,31 +17,23 @@ use Rattle.valid.proofs.Listed.{all-each}
 use Rattle.props.specs.Step.{nameAt}
 use Rattle.judge.specs.Properties.{ruleAt}
 
--- what is said of a line: where it is a link's, its target is of a known kind
-abbrev told : (held target : ℕ) → Bool
-told held target = cond (eqb held (linkTo 0 .held)) (isKnown target) true
-
+-- where a line is a link's, its target is of a known kind
 abbrev tells : Line → Bool
-tells l = told (l .held) (l .target)
+tells l = ifLink (l .held) isKnown true
 
 lines-tell : all tells lines ≡ true
 unfolding all lines isKnown parentsOf parentsIn parentsTable
 lines-tell = refl
 
-pub targets-known : Each (λ l. l .held ≡ linkTo 0 .held → isKnown (l .target) ≡ true) lines
-targets-known = each-map (λ l t e. ap (λ h. told h (l .target)) (sym e) ∙ t) lines (all-each tells lines lines-tell)
+abbrev pub ToKnown : Line → Type 0
+ToKnown l = (to : ℕ) → l .held ≡ linkTo to → isKnown to ≡ true
 
-pub target-known : (kind : ℕ) (name : List ℕ) → ruleOf kind name .held ≡ linkTo 0 .held → isKnown (ruleOf kind name .target) ≡ true
-target-known kind name e =
-    let l = ruleOf kind name in
-    ⊎-elim (λ f. let z : _≡_ {A = ℕ} 0 9 = sym (ap (λ l. l .held) f) ∙ e in absurd (omega arith))
-    (λ t. ap (λ h. told h (l .target)) (sym e) ∙ t .0)
-    (ruled tells kind name lines-tell)
+pub targets-known : Each ToKnown lines
+targets-known = each-map (λ l t to e. rw e at t) lines (all-each tells lines lines-tell)
 
 -- of the property at a place
-pub target-at : (kind : ℕ) (s : List ℕ) (at : ℕ) → ruleAt (linesOf kind) s at .held ≡ linkTo 0 .held
-    → isKnown (ruleAt (linesOf kind) s at .target) ≡ true
-target-at kind s at = target-known kind (nameAt s at)
+pub target-at : (kind : ℕ) (s : List ℕ) (at to : ℕ) → ruleAt (linesOf kind) s at .held ≡ linkTo to → isKnown to ≡ true
+target-at kind s at to e = rw e at (⊎-elim (λ f. ap tells f) (λ t. t .0) (ruled tells kind (nameAt s at) lines-tell))
 
 -- an unknown kind is no known one
 pub unlike : (a b : ℕ) → isKnown a ≡ false → isKnown b ≡ true → eqb a b ≡ false

@@ -17,7 +17,7 @@ use Rattle.format.specs.Layout.{Property, GoodBody}
 use Rattle.base.proofs.Lists.{each-map}
 use Rattle.links.specs.declared.Linked.{Linked}
 use Rattle.links.specs.Links.{reached, linksAt, refusalOf, refusedLinks, resolved}
-use Rattle.links.proofs.Splits.{by-link}
+use Rattle.links.proofs.Splits.{by-link, one-kind}
 use Rattle.valid.specs.Lines.{ByLine}
 use Rattle.valid.specs.Obeys.{FitsLine}
 use Rattle.valid.proofs.Ruled.{FitsRules}
@@ -31,10 +31,6 @@ one-target : (n place : ℕ) (next : Linked) → (refusedOr (refusalOf n) (refus
 one-target zero place next = (λ e. absurd (omega arith), λ h. absurd (omega (arith, h .0)))
 one-target (suc zero) place next = (λ e. (refl, e), λ h. h .1)
 one-target (suc (suc n)) place next = (λ e. absurd (omega arith), λ h. absurd (omega (arith, h .0)))
-
--- a link is to one kind
-linkTo-one : {a b : ℕ} → linkTo a ≡ linkTo b → a ≡ b
-linkTo-one e = cc
 
 -- where its line makes it a link, it reaches one row
 abbrev ReachedBy : (all : List Row) → Property → Line → Type 0
@@ -63,7 +59,7 @@ module _ (all : List Row) (kind row start : ℕ) (s : List ℕ) where
       let here = one-target targets (start + at) (resolved (suc m) (linksAt all (linesOf kind) row start s starts)) in
       let ih = resolved-right d (fits .1) (suc m) in
       rw hash (
-        λ e. (λ k j. subst (λ k. length (reached k (val (p .content)) 0 all) ≡ 1) (linkTo-one (sym link ∙ j)) (here .0 e .0), ih .0 (here .0 e .1)),
+        λ e. (λ k j. subst (λ k. length (reached k (val (p .content)) 0 all) ≡ 1) (one-kind (sym link ∙ j)) (here .0 e .0), ih .0 (here .0 e .1)),
         λ h. here .1 (h .0 to link, ih .1 (h .1)),
       ))
       (λ other.
