@@ -56,7 +56,7 @@ rowsBy (Accepted a) rows = rows
 rowsBy (Refused n place) rows = []
 
 unfoldable pub computed : List ℕ → Answer
-unfolding val numberAt bytesOk same readDigits number numbered parentsTable parentsIn parentsOf isKnown standsAtTop standsUnder mayStand toZero nameAt stepAt pass properties firstNamed widthOf facesIn below degenerate letters lines lists ruleIn ofKind linesOf isText isOneOf le lengthOf valueOf typesOf besideOf typed misses lacks faultOf valued nodeFaces nodeLinks verdictAt judgedAt judged reached linksAt linksFrom resolved linked headerAt nodeRefusal andThen children node childrenAt walkOf limited countUnder judgedWith ruled ownKnown ownUnknown checked verdict glyph digits sizeIn parentText wordsOf textOf nodeLines fileLines flatMap printed listingOf header fileHeader hasRoom readingOf sizesUnder nodesBytes roots fileBytes emitLeft withoutFrom newFile trimmedOf trimmedOutput
+unfolding val numberAt bytesOk same readDigits number numbered parentsTable parentsIn parentsOf isKnown standsAtTop standsUnder mayStand toZero nameAt stepAt pass properties firstNamed widthOf facesIn below degenerate letters lines lists ruleIn ofKind linesOf isText isOneOf le lengthOf valueOf typesOf besideOf typed misses lacks faultOf valued nodeFaces nodeLinks verdictAt judgedAt judged reached linksAt linksFrom resolved linked headerAt nodeRefusal andThen children node childrenAt walkOf limited countUnder judgedWith ruled ownKnown ownUnknown checked verdict glyph digits digitCount parentText wordsOf textOf nodeLines fileLines flatMap printed listingOf header fileHeader hasRoom readingOf sizesUnder nodesBytes roots fileBytes emitLeft withoutFrom newFile trimmedOf trimmedOutput
 computed s = record {
   numbers = numbersOf (verdict s);
   rows = rowsBy (verdict s) (limited s .rows);
