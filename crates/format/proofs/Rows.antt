@@ -14,6 +14,7 @@ use Rattle.table.specs.declared.Row.{Row}
 use Rattle.table.specs.Table.{noParent}
 use Rattle.format.specs.Forest.{Forest, end, known, unknown, count, nodes, encode, fileHeader, fileOf}
 use Rattle.format.specs.Rows.{nodeRow, rows, bodyOf, outside, allOwnBytes}
+use Rattle.format.specs.Layout.{InBytes}
 use Rattle.format.specs.Laws.{OwnBytesAddUp}
 use Rattle.format.proofs.Headers.{length-header, length-fileHeader}
 
@@ -31,14 +32,14 @@ pub body-length : (s : List ℕ) (r : Row) → length (bodyOf s r) ≤ r .end - 
 body-length s r = rw (length-take (r .end - r .start) (drop (r .start) s)) (min-le-left _ _)
 
 -- a body that does not lie outside some bytes, and one of which the bytes have all
-pub not-outside : (size : ℕ) (r : Row) → outside size r ≡ false → (r .start ≤ r .end) × (r .end ≤ size)
-not-outside size r e =
+pub not-outside : (s : List ℕ) (r : Row) → outside (length s) r ≡ false → InBytes s r
+not-outside s r e =
     by-test (ltb (r .end) (r .start))
     (λ t. absurd (true≢false (rw t at e)))
-    (λ t. (ltb-false (r .end) (r .start) t, ltb-false size (r .end) (rw t at e)))
+    (λ t. (ltb-false (r .end) (r .start) t, ltb-false (length s) (r .end) (rw t at e)))
 
-pub is-inside : (size : ℕ) (r : Row) → (r .start ≤ r .end) × (r .end ≤ size) → outside size r ≡ false
-is-inside size r i = rw (le-ltb (r .end) (r .start) (i .0), le-ltb size (r .end) (i .1))
+pub is-inside : (s : List ℕ) (r : Row) → InBytes s r → outside (length s) r ≡ false
+is-inside s r i = rw (le-ltb (r .end) (r .start) (i .0), le-ltb (length s) (r .end) (i .1))
 
 pub length-body : (s : List ℕ) (r : Row) → r .end ≤ length s → length (bodyOf s r) ≡ r .end - r .start
 length-body s r h = length-take-le (r .end - r .start) (drop (r .start) s) (rw length-drop (omega (arith, h)))

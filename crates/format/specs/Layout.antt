@@ -10,6 +10,7 @@ use Rattle.le.specs.Le.{le, AreBytes}
 use Rattle.kinds.specs.declared.Parent.{Parent}
 use Rattle.kinds.specs.declared.Parent.the-variants.{Kind}
 use Rattle.kinds.specs.Kinds.{isKnown, mayStand}
+use Rattle.table.specs.declared.Row.{Row}
 use Rattle.props.specs.declared.Size.{Size}
 use Rattle.props.specs.declared.Size.the-variants.{Bytes, Text, NoSuch}
 use Rattle.props.specs.Types.{elementSize}
@@ -59,6 +60,10 @@ pub record GoodBody (n : ℕ) (body : List ℕ) : Type 0 where
   pub counted : length properties ≡ n
   pub most : n ≤ mostProperties
   pub bytes : body ≡ flatMap propertyBytes properties
+
+-- a row's body lies in some bytes: not 22, "body end before its start or past the source", and not 41, "as 22"
+abbrev pub InBytes : (s : List ℕ) → Row → Type 0
+InBytes s r = (r .start ≤ r .end) × (r .end ≤ length s)
 
 -- ---- nodes
 

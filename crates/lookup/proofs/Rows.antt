@@ -39,7 +39,7 @@ module _ (bs t : List ℕ) (row : ℕ) (name : List ℕ) where
   within-by r false true e = tt
   within-by r false false e =
       let body = bodyOf bs r in
-      let in-order = not-outside (length bs) r e in
+      let in-order = not-outside bs r e in
       let fits : r .start + length body ≤ length bs = omega (arith, length-body bs r (in-order .1), in-order .0, in-order .1) in
       shifted-within (length bs) (r .start) (length body) fits (inBody body (r .properties) name) (body-within body name (r .properties))
 

@@ -15,13 +15,13 @@ use Rattle.table.specs.declared.Row.{Row}
 use Rattle.table.specs.Table.{rowFrom, hasRow, rowAt}
 use Rattle.body.specs.Body.{properties, exactly}
 use Rattle.format.specs.Rows.{bodyOf, outside}
-use Rattle.format.specs.Layout.{Property}
+use Rattle.format.specs.Layout.{Property, InBytes}
 use Rattle.format.proofs.Rows.{not-outside, is-inside, length-body}
 use Rattle.format.proofs.Bodies.{good-exactly, exactly-good}
 use Rattle.lookup.specs.declared.Found.{Found}
 use Rattle.lookup.specs.declared.Found.the-variants.{At, Refused}
 use Rattle.lookup.specs.Lookup.{inBody, shifted, lookupOf, numberOf, partOf, FoundWithin}
-use Rattle.lookup.specs.Statements.{IsRow, LiesIn, IsBody, NoneNamed, FirstNamed, dataFrom, Finds, Answers, LooksUp}
+use Rattle.lookup.specs.Statements.{IsRow, IsBody, NoneNamed, FirstNamed, dataFrom, Finds, Answers, LooksUp}
 use Rattle.lookup.proofs.Laws.{body-within}
 use Rattle.lookup.proofs.Rows.{no-row, beyond, inside}
 use Rattle.lookup.proofs.Among.{there-or-not, none-in, first-in}
@@ -73,9 +73,9 @@ module _ (bs t : List ℕ) (row : ℕ) (name : List ℕ) (bytes : AreBytes bs) w
 
   -- ---- the body
   module _ (i : IsRow t row) where
-    module _ (l : LiesIn bs r) where
+    module _ (l : InBytes bs r) where
       in-body : shifted (r .start) (inBody body (r .properties) name) ≡ found
-      in-body = inside bs t row name (has i) (the-row (has i)) (is-inside (length bs) r l)
+      in-body = inside bs t row name (has i) (the-row (has i)) (is-inside bs r l)
 
       number-is : n ≡ numberOf (inBody body (r .properties) name)
       number-is = ap numberOf (sym in-body) ∙ shifted-number (r .start) (inBody body (r .properties) name)
@@ -127,11 +127,11 @@ module _ (bs t : List ℕ) (row : ℕ) (name : List ℕ) (bytes : AreBytes bs) w
   abbrev Outcome : Type 0
   Outcome =
       ((IsRow t row → ⊥) × (n ≡ 40))
-      ⊎ ((IsRow t row × (LiesIn bs r → ⊥) × (n ≡ 41))
-      ⊎ ((IsRow t row × LiesIn bs r × (IsBody bs r → ⊥) × (n ≡ 42))
-      ⊎ (IsRow t row × LiesIn bs r × IsBody bs r × ((n ≡ 43) ⊎ (n ≡ 0)))))
+      ⊎ ((IsRow t row × (InBytes bs r → ⊥) × (n ≡ 41))
+      ⊎ ((IsRow t row × InBytes bs r × (IsBody bs r → ⊥) × (n ≡ 42))
+      ⊎ (IsRow t row × InBytes bs r × IsBody bs r × ((n ≡ 43) ⊎ (n ≡ 0)))))
 
-  by-body : (i : IsRow t row) (l : LiesIn bs r) → Outcome
+  by-body : (i : IsRow t row) (l : InBytes bs r) → Outcome
   by-body i l =
       by-test (exactly body (r .properties))
       (λ e.
@@ -153,8 +153,8 @@ module _ (bs t : List ℕ) (row : ℕ) (name : List ℕ) (bytes : AreBytes bs) w
       by-test (hasRow t row)
       (λ e.
       by-test (outside (length bs) r)
-      (λ f. inr (inl (is e, λ l. true≢false (sym f ∙ is-inside (length bs) r l), ap numberOf (sym (beyond bs t row name e (the-row e) f)))))
-      (λ f. by-body (is e) (not-outside (length bs) r f)))
+      (λ f. inr (inl (is e, λ l. true≢false (sym f ∙ is-inside bs r l), ap numberOf (sym (beyond bs t row name e (the-row e) f)))))
+      (λ f. by-body (is e) (not-outside bs r f)))
       (λ e. inl (is-not e, ap numberOf (sym (no-row bs t row name e))))
 
   empty-part : (f : Found) → (numberOf f ≡ 0 → ⊥) → partOf bs f ≡ []

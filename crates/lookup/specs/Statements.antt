@@ -12,7 +12,7 @@ use Rattle.table.specs.declared.Row.{Row}
 use Rattle.table.specs.Table.{rowFrom}
 use Rattle.format.specs.Rows.{bodyOf}
 use Rattle.base.specs.Lists.{Each}
-use Rattle.format.specs.Layout.{Property, propertyBytes, GoodBody}
+use Rattle.format.specs.Layout.{Property, propertyBytes, GoodBody, InBytes}
 use Rattle.lookup.specs.declared.Found.the-variants.{At}
 use Rattle.lookup.specs.Lookup.{lookupOf, numberOf, partOf}
 
@@ -20,11 +20,7 @@ use Rattle.lookup.specs.Lookup.{lookupOf, numberOf, partOf}
 abbrev pub IsRow : (t : List ℕ) (row : ℕ) → Type 0
 IsRow t row = 8 * row + 8 ≤ length t
 
--- not 41, "as 22", "body end before its start or past the source"
-abbrev pub LiesIn : (bs : List ℕ) → Row → Type 0
-LiesIn bs r = (r .start ≤ r .end) × (r .end ≤ length bs)
-
--- not 42, "as 23", "not exactly its count (at most 64) of properties"
+-- not 41 is `InBytes`; not 42, "as 23", "not exactly its count (at most 64) of properties"
 abbrev pub IsBody : (bs : List ℕ) → Row → Type 0
 IsBody bs r = GoodBody (r .properties) (bodyOf bs r)
 
@@ -55,9 +51,9 @@ pub record Finds (bs t : List ℕ) (row : ℕ) (name : List ℕ) (ps : List Prop
 
 pub record Answers (bs t : List ℕ) (row : ℕ) (name : List ℕ) (r : Row) : Type 0 where
   pub noRow : (numberOf (lookupOf bs t row name) ≡ 40) ↔ (IsRow t row → ⊥)
-  pub outside : (numberOf (lookupOf bs t row name) ≡ 41) ↔ (IsRow t row × (LiesIn bs r → ⊥))
-  pub noBody : (numberOf (lookupOf bs t row name) ≡ 42) ↔ (IsRow t row × LiesIn bs r × (IsBody bs r → ⊥))
-  pub inBody : IsRow t row → LiesIn bs r → (body : IsBody bs r) → Finds bs t row name (body .properties)
+  pub outside : (numberOf (lookupOf bs t row name) ≡ 41) ↔ (IsRow t row × (InBytes bs r → ⊥))
+  pub noBody : (numberOf (lookupOf bs t row name) ≡ 42) ↔ (IsRow t row × InBytes bs r × (IsBody bs r → ⊥))
+  pub inBody : IsRow t row → InBytes bs r → (body : IsBody bs r) → Finds bs t row name (body .properties)
   -- "an empty part on refusal"
   pub empty : (numberOf (lookupOf bs t row name) ≡ 0 → ⊥) → partOf bs (lookupOf bs t row name) ≡ []
 

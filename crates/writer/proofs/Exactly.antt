@@ -20,7 +20,7 @@ use Rattle.emit.specs.declared.Written.{Written}
 use Rattle.emit.specs.Emission.{refusedWriting, writingDone, byLength, fileBytes, emission}
 use Rattle.writer.specs.Writer.{planRows, writtenOf}
 use Rattle.writer.specs.Answers.{IsPlan, Reaches, AllRight, WriterAnswers, AnswersExactly}
-use Rattle.writer.proofs.Plans.{Inside}
+use Rattle.format.specs.Layout.{InBytes}
 use Rattle.writer.proofs.Writing.{count-few, goes-on}
 use Rattle.writer.proofs.Written.{number, rows-few}
 use Rattle.writer.proofs.First.{Told, told-range, told-wrong, told-21, told-22, told-23, told-24, told-first, First, first-wrong}
@@ -62,7 +62,7 @@ module _ (plan s : List ℕ) (flags room : ℕ) (source : AreBytes s) where
   by-rows : (t : isPlan plan ≡ true) → First s rs (rows-few plan t) source (planRefusal s rs) → Outcome
   unfolding writtenOf emission
   by-rows t (inl x) =
-      let long-is : length (fileBytes flags s rs) ≡ size = file-long flags s rs (at-each (Inside s) rs (λ k b. x .1 k b .within)) in
+      let long-is : length (fileBytes flags s rs) ≡ size = file-long flags s rs (at-each (InBytes s) rs (λ k b. x .1 k b .within)) in
       let none : planRefusal s rs .number ≡ 0 = ap (λ (j : Refusal). j .number) (x .0) in
       by-size (record { whole = is-a-plan plan t; right = x .1 }) (goes-on plan s flags room t none ∙ ap (λ n. byLength n room) long-is)
   by-rows t (inr (k, n, e, b, h, told)) =

@@ -19,7 +19,8 @@ use Rattle.format.specs.Rows.{bodyOf, outside}
 use Rattle.base.specs.declared.Refusal.{Refusal}
 use Rattle.plan.specs.Plan.{pathOf, rightParent, naming, rowRefusal, planRefusalFrom, planRefusal}
 use Rattle.writer.specs.Writable.{nthRow, RightParent, RightRow}
-use Rattle.writer.specs.Answers.{InSource, RightBody, RightChildren}
+use Rattle.format.specs.Layout.{InBytes}
+use Rattle.writer.specs.Answers.{RightBody, RightChildren}
 use Rattle.format.proofs.Rows.{not-outside, is-inside}
 use Rattle.format.proofs.Bodies.{good-exactly, exactly-good}
 use Rattle.writer.proofs.Ancestors.{first-row, PathAt, right-parent, parent-right, path-next}
@@ -31,9 +32,9 @@ module _ (s : List ℕ) (all : List Row) where
   abbrev pub Told : (k n : ℕ) → Type 0
   Told k n =
       ((n ≡ 21) × (RightParent all k → ⊥))
-      ⊎ (((n ≡ 22) × RightParent all k × (InSource s (nthRow all k) → ⊥))
-      ⊎ (((n ≡ 23) × RightParent all k × InSource s (nthRow all k) × (RightBody s (nthRow all k) → ⊥))
-      ⊎ ((n ≡ 24) × RightParent all k × InSource s (nthRow all k) × RightBody s (nthRow all k) × (RightChildren all k → ⊥))))
+      ⊎ (((n ≡ 22) × RightParent all k × (InBytes s (nthRow all k) → ⊥))
+      ⊎ (((n ≡ 23) × RightParent all k × InBytes s (nthRow all k) × (RightBody s (nthRow all k) → ⊥))
+      ⊎ ((n ≡ 24) × RightParent all k × InBytes s (nthRow all k) × RightBody s (nthRow all k) × (RightChildren all k → ⊥))))
 
   module _ (k : ℕ) where
     pub told-range : (n : ℕ) → Told k n → (21 ≤ n) × (n ≤ 24)
@@ -74,19 +75,19 @@ module _ (s : List ℕ) (all : List Row) where
     told-21 (inr (inr (inl a))) = absurd (omega (arith, a .0))
     told-21 (inr (inr (inr a))) = absurd (omega (arith, a .0))
 
-    pub told-22 : Told k 22 → RightParent all k × (InSource s (nthRow all k) → ⊥)
+    pub told-22 : Told k 22 → RightParent all k × (InBytes s (nthRow all k) → ⊥)
     told-22 (inl a) = absurd (omega (arith, a .0))
     told-22 (inr (inl a)) = (a .1, a .2)
     told-22 (inr (inr (inl a))) = absurd (omega (arith, a .0))
     told-22 (inr (inr (inr a))) = absurd (omega (arith, a .0))
 
-    pub told-23 : Told k 23 → RightParent all k × InSource s (nthRow all k) × (RightBody s (nthRow all k) → ⊥)
+    pub told-23 : Told k 23 → RightParent all k × InBytes s (nthRow all k) × (RightBody s (nthRow all k) → ⊥)
     told-23 (inl a) = absurd (omega (arith, a .0))
     told-23 (inr (inl a)) = absurd (omega (arith, a .0))
     told-23 (inr (inr (inl a))) = (a .1, a .2, a .3)
     told-23 (inr (inr (inr a))) = absurd (omega (arith, a .0))
 
-    pub told-24 : Told k 24 → RightParent all k × InSource s (nthRow all k) × RightBody s (nthRow all k) × (RightChildren all k → ⊥)
+    pub told-24 : Told k 24 → RightParent all k × InBytes s (nthRow all k) × RightBody s (nthRow all k) × (RightChildren all k → ⊥)
     told-24 (inl a) = absurd (omega (arith, a .0))
     told-24 (inr (inl a)) = absurd (omega (arith, a .0))
     told-24 (inr (inr (inl a))) = absurd (omega (arith, a .0))
@@ -119,9 +120,9 @@ module _ (s : List ℕ) (all : List Row) (few : length all ≤ 1024) (source : A
       (λ p.
       let parent = right-parent all few k path b c p in
       by-test (outside (length s) r)
-      (λ o. inr (22, rw (p, o), inr (inl (refl, parent, λ w. true≢false (sym o ∙ is-inside (length s) r w)))))
+      (λ o. inr (22, rw (p, o), inr (inl (refl, parent, λ w. true≢false (sym o ∙ is-inside s r w)))))
       (λ o.
-      let within = not-outside (length s) r o in
+      let within = not-outside s r o in
       by-test (isKnown (r .kind))
       (λ t.
       by-test (exactly (bodyOf s r) (r .properties))

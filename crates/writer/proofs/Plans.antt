@@ -19,7 +19,7 @@ use Rattle.format.proofs.Bodies.{exactly-good}
 use Rattle.format.specs.Forest.{end, count, header, encode, fileHeader, fileOf}
 use Rattle.format.specs.Rows.{rowsOf, hashOf, bodyOf, ownBytes}
 use Rattle.base.specs.Lists.{Each}
-use Rattle.format.specs.Layout.{WellFormed, WellFormedFile, Few}
+use Rattle.format.specs.Layout.{WellFormed, WellFormedFile, Few, InBytes}
 use Rattle.base.proofs.Lists.{each-both, each-map}
 use Rattle.format.proofs.Headers.{length-header, length-fileHeader}
 use Rattle.plan.specs.Plan.{planRefusal}
@@ -107,13 +107,10 @@ length-laid at [] = refl
 length-laid at (r ∷ rs) = ap suc (length-laid (at + ownBytes r) rs)
 
 -- a row that is not outside has all of its body
-abbrev pub Inside : (s : List ℕ) → Row → Type 0
-Inside s r = (r .start ≤ r .end) × (r .end ≤ length s)
+pub fitting-inside : (s : List ℕ) (r : Row) → Fitting s r → InBytes s r
+fitting-inside s r f = not-outside s r (f .0)
 
-pub fitting-inside : (s : List ℕ) (r : Row) → Fitting s r → Inside s r
-fitting-inside s r f = not-outside (length s) r (f .0)
-
-pub whole-body : (s : List ℕ) (r : Row) → Inside s r → Whole s r
+pub whole-body : (s : List ℕ) (r : Row) → InBytes s r → Whole s r
 whole-body s r inside = length-body s r (inside .1)
 
 roots-few : (rs : List Row) → roots rs ≤ length rs

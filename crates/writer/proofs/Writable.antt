@@ -32,7 +32,8 @@ use Rattle.writer.proofs.Judged.{Fitting, Named, judged-parts, each-jud
 use Rattle.format.proofs.Rows.{is-inside}
 use Rattle.format.proofs.Bodies.{good-exactly, exactly-good}
 use Rattle.writer.proofs.Ancestors.{parents-are}
-use Rattle.writer.proofs.Plans.{bytes-body, Inside, fitting-inside, whole-body, plan-bytes, plan-rows, plan-few, plan-wellFormed}
+use Rattle.format.specs.Layout.{InBytes}
+use Rattle.writer.proofs.Plans.{bytes-body, fitting-inside, whole-body, plan-bytes, plan-rows, plan-few, plan-wellFormed}
 use Rattle.writer.proofs.Writing.{count-few, goes-on, emission-done}
 use Rattle.writer.proofs.Written.{number, written-right, rows-few, wide-rows}
 
@@ -74,12 +75,12 @@ unfolding owns
 owns-all s [] h = refl
 owns-all s (r ∷ rs) h = omega (arith, h .0, owns-all s rs (h .1))
 
-pub file-long : (flags : ℕ) (s : List ℕ) (rs : List Row) → Each (Inside s) rs → length (fileBytes flags s rs) ≡ 16 + allOwnBytes rs
+pub file-long : (flags : ℕ) (s : List ℕ) (rs : List Row) → Each (InBytes s) rs → length (fileBytes flags s rs) ≡ 16 + allOwnBytes rs
 file-long flags s rs h =
     omega (arith, length-fileBytes flags s rs, length-nodesBytes s 0 rs, owns-all s rs (each-map (whole-body s) rs h))
 
-inside-fitting : (s : List ℕ) (r : Row) → Inside s r → (IsKnown r → exactly (bodyOf s r) (r .properties) ≡ true) → Fitting s r
-inside-fitting s r i b = (is-inside (length s) r i, b)
+inside-fitting : (s : List ℕ) (r : Row) → InBytes s r → (IsKnown r → exactly (bodyOf s r) (r .properties) ≡ true) → Fitting s r
+inside-fitting s r i b = (is-inside s r i, b)
 
 -- ---- 20
 pub whole-plan : (plan : List ℕ) → isPlan plan ≡ true → length plan ≡ 8 * rowCount plan
@@ -133,8 +134,8 @@ module _ (plan s : List ℕ) (flags room : ℕ) (source : AreBytes s) where
     at : (k : ℕ) → k < length rs → RightRow s rs k
     at k b = w .right k (omega (arith, b, rows-counted))
 
-    inside : Each (Inside s) rs
-    inside = at-each (Inside s) rs (λ k b. at k b .within)
+    inside : Each (InBytes s) rs
+    inside = at-each (InBytes s) rs (λ k b. at k b .within)
 
     fitting : Each (Fitting s) rs
     fitting = at-each (Fitting s) rs (λ k b. inside-fitting s (nthRow rs k) (at k b .within) (λ t. good-exactly (nthRow rs k .properties) (bodyOf s (nthRow rs k)) (at k b .body t)))

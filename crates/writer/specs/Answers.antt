@@ -11,7 +11,7 @@ use Rattle.le.specs.Le.{AreBytes}
 use Rattle.table.specs.declared.Row.{Row}
 use Rattle.format.specs.Forest.{fileOf}
 use Rattle.format.specs.Rows.{bodyOf, allOwnBytes}
-use Rattle.format.specs.Layout.{GoodBody}
+use Rattle.format.specs.Layout.{GoodBody, InBytes}
 use Rattle.emit.specs.Emission.{refusedWriting, writingDone}
 use Rattle.writer.specs.Writer.{planRows, writtenOf, outputAfter}
 use Rattle.writer.specs.Forest.{forestOf}
@@ -39,10 +39,7 @@ pub record IsPlan (plan : List ℕ) : Type 0 where
   pub whole : length plan ≡ 8 * count
   pub few : count ≤ mostRows
 
--- not 22, not 23 and not 24, each as a field of `RightRow` has it; not 21 is `RightParent`
-abbrev pub InSource : (s : List ℕ) → Row → Type 0
-InSource s r = (r .start ≤ r .end) × (r .end ≤ length s)
-
+-- not 23 and not 24, each as a field of `RightRow` has it; not 21 is `RightParent`, not 22 `InBytes`
 abbrev pub RightBody : (s : List ℕ) → Row → Type 0
 RightBody s r = IsKnown r → GoodBody (r .properties) (bodyOf s r)
 
@@ -67,13 +64,13 @@ pub record WriterAnswers (plan s : List ℕ) (flags room : ℕ) (rows : List Row
   pub noPlan : (writtenOf plan s flags room ≡ refusedWriting 20 0) ↔ (IsPlan plan → ⊥)
   -- 21 to 24: "The place is the row for these."
   pub parent : (k : ℕ) → (writtenOf plan s flags room ≡ refusedWriting 21 k) ↔ (Reaches plan s k × (RightParent rows k → ⊥))
-  pub outside : (k : ℕ) → (writtenOf plan s flags room ≡ refusedWriting 22 k) ↔ (Reaches plan s k × RightParent rows k × (InSource s (nthRow rows k) → ⊥))
+  pub outside : (k : ℕ) → (writtenOf plan s flags room ≡ refusedWriting 22 k) ↔ (Reaches plan s k × RightParent rows k × (InBytes s (nthRow rows k) → ⊥))
   pub body : (k : ℕ)
       → (writtenOf plan s flags room ≡ refusedWriting 23 k)
-      ↔ (Reaches plan s k × RightParent rows k × InSource s (nthRow rows k) × (RightBody s (nthRow rows k) → ⊥))
+      ↔ (Reaches plan s k × RightParent rows k × InBytes s (nthRow rows k) × (RightBody s (nthRow rows k) → ⊥))
   pub children : (k : ℕ)
       → (writtenOf plan s flags room ≡ refusedWriting 24 k)
-      ↔ (Reaches plan s k × RightParent rows k × InSource s (nthRow rows k) × RightBody s (nthRow rows k) × (RightChildren rows k → ⊥))
+      ↔ (Reaches plan s k × RightParent rows k × InBytes s (nthRow rows k) × RightBody s (nthRow rows k) × (RightChildren rows k → ⊥))
   -- "then 25 length over 16,777,216, 26 output too short"
   pub tooLong : (writtenOf plan s flags room ≡ refusedWriting 25 0) ↔ (AllRight plan s × (mostBytes < size))
   pub noRoom : (writtenOf plan s flags room ≡ refusedWriting 26 0) ↔ (AllRight plan s × (size ≤ mostBytes) × (room < size))

@@ -18,7 +18,7 @@ use Rattle.table.specs.declared.Row.{Row}
 use Rattle.table.specs.Table.{noParent, blank, flat}
 use Rattle.format.specs.Forest.{fileOf}
 use Rattle.format.specs.Rows.{rowsOf, bodyOf, allOwnBytes}
-use Rattle.format.specs.Layout.{GoodBody, WellFormedFile, Few}
+use Rattle.format.specs.Layout.{GoodBody, InBytes, WellFormedFile, Few}
 use Rattle.writer.specs.Writer.{planRows, writtenOf}
 use Rattle.writer.specs.Forest.{forestOf, laidOut}
 use Rattle.writer.specs.RoundTrip.{AreNumbers}
@@ -63,7 +63,7 @@ pub record RightRow (s : List ℕ) (rows : List Row) (k : ℕ) : Type 0 where
   -- not 21: "parent wrong"
   pub parent : RightParent rows k
   -- not 22: "body end before its start or past the source"
-  pub within : (nthRow rows k .start ≤ nthRow rows k .end) × (nthRow rows k .end ≤ length s)
+  pub within : InBytes s (nthRow rows k)
   -- not 23: "a known row's body is not exactly its count (at most 64) of properties"
   pub body : IsKnown (nthRow rows k) → GoodBody (nthRow rows k .properties) (bodyOf s (nthRow rows k))
   -- not 24: "a known row's child count is not the rows naming it"

@@ -94,7 +94,7 @@ taken c =
     let d = c .before .before .before in
     let body = bodyOf (bytes d) (r d) in
     let p = subst (FoundWithin (length body)) (sym (in-body d) ∙ c .before .found .given .1) (body-within body (start (at-row d) .args .name .now) (r d .properties)) in
-    (p .0, omega (arith, p .1, length-body (bytes d) (r d) (not-outside (length (bytes d)) (r d) (within d) .1)))
+    (p .0, omega (arith, p .1, length-body (bytes d) (r d) (not-outside (bytes d) (r d) (within d) .1)))
 
 returns-3 : tie.Need-returns-3
 returns-3 c =
