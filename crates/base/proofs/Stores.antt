@@ -21,12 +21,12 @@ module _ {A : Type 0} where
   sets-append l i [] vs = ap (λ k. sets l k vs) (omega arith)
   sets-append l i (u ∷ us) vs = sets-append (set l i u) (suc i) us vs ∙ ap (λ k. sets (sets (set l i u) (suc i) us) k vs) (omega arith)
 
-  -- one more is stored, behind those that were
+  -- one more is stored, after those that were
   pub sets-next : (old : List A) (at : ℕ) (so : List A) {i : ℕ} (v : A) {new : List A} → length so ≡ i → new ≡ sets old at so → set new (at + i) v ≡ sets old at (so ++ (v ∷ []))
   sets-next old at so {i} v here e =
       ap (λ m. set m (at + i) v) e ∙ ap (λ k. set (sets old at so) (at + k) v) (sym here) ∙ sym (sets-append old at so (v ∷ []))
 
-  -- one more of a list is stored behind those that were
+  -- one more of a list is stored after those that were
   pub copy-next : (old : List A) (at : ℕ) (bytes : List A) (i : ℕ) (d : A) → i < length bytes → {new : List A} → new ≡ sets old at (take i bytes)
       → set new (at + i) (getD bytes i d) ≡ sets old at (take (i + 1) bytes)
   copy-next old at bytes i d h e =
@@ -54,7 +54,7 @@ module _ {A : Type 0} where
       ∙ sets-rest a vs (set l (a + j) v) (suc j)
       ∙ ap (λ k. sets (set l (a + j) v) k vs) (omega arith)
 
-  -- what stands before the stores, or behind them
+  -- what stands before the stores, or after them
   pub getD-sets-other : (l : List A) (i : ℕ) (vs : List A) (j : ℕ) (d : A) → (i ≤ j → i + length vs ≤ j) → getD (sets l i vs) j d ≡ getD l j d
   getD-sets-other l i [] j d h = refl
   getD-sets-other l i (v ∷ vs) j d h =
@@ -75,7 +75,7 @@ module _ {A : Type 0} where
   drop-sets n l i [] h = refl
   drop-sets n l i (v ∷ vs) h = drop-sets n (set l i v) (suc i) vs (omega arith) ∙ drop-set-lt n l i v (omega arith)
 
--- one more of a list is stored from the start on, behind what was stored of it before
+-- one more of a list is stored from the start on, after what was stored of it before
 pub sets-more : {A B : Type 0} (f : A → B) (l : List A) (i : ℕ) (d : A) → i < length l → {v : B} → v ≡ f (getD l i d) →
     (old : List B) {new : List B} → new ≡ sets old 0 (map f (take i l)) → set new i v ≡ sets old 0 (map f (take (i + 1) l))
 sets-more f l i d h {v} e old {new} n =

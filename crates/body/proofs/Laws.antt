@@ -10,11 +10,11 @@ use lib.Seq.{drop-cons, sets}
 use borrow.Author.Tests.{lt-ltb, le-ltb}
 use Rattle.names.specs.Names.{same}
 use Rattle.props.specs.declared.Cursor.{Cursor}
-use Rattle.props.specs.declared.Property.{Property}
+use Rattle.props.specs.declared.Offsets.{Offsets}
 use Rattle.props.specs.declared.Step.the-variants.{Past, Refused}
 use Rattle.props.specs.Step.{stepAt, nameAt}
 use Rattle.body.specs.declared.Index.{Index}
-use Rattle.body.specs.Body.{Walked, stop, after, byStep, pass, properties, places, indexOf, firstNamed}
+use Rattle.body.specs.Body.{PropertyWalk, stop, after, byStep, pass, properties, places, indexOf, firstNamed}
 
 -- ---- the walk
 module _ (s : List ℕ) where
@@ -35,7 +35,7 @@ module _ (s : List ℕ) where
     unfolding pass
     one = let next : k ≡ suc (k - 1) = omega arith in ap (λ n. pass s n at) next
 
-    pub passed : {p : Property} {next : Cursor} → stepAt s at ≡ Past p next → pass s k at ≡ after at (pass s (k - 1) (next .at))
+    pub passed : {p : Offsets} {next : Cursor} → stepAt s at ≡ Past p next → pass s k at ≡ after at (pass s (k - 1) (next .at))
     passed e = one ∙ ap (byStep at (pass s (k - 1))) e
 
     pub refused : {n : ℕ} → stepAt s at ≡ Refused n → pass s k at ≡ stop n at
@@ -67,14 +67,14 @@ first-most s name (at ∷ more) = by (same (nameAt s at) name) (first-most s nam
 
 -- ---- the index
 -- the index of a walk, the first of whose starts is put at a place of an array
-abbrev pub indexFrom : List ℕ → ℕ → Walked → Index
+abbrev pub indexFrom : List ℕ → ℕ → PropertyWalk → Index
 indexFrom l i w = record { number = w .number; count = i + length (w .starts); starts = sets l i (places w) }
 
-pub index-whole : (w : Walked) → indexFrom (replicate 65 0) 0 w ≡ indexOf w
+pub index-whole : (w : PropertyWalk) → indexFrom (replicate 65 0) 0 w ≡ indexOf w
 index-whole w = let none : 0 + length (w .starts) ≡ length (w .starts) = omega arith in rw none
 
 module _ (l : List ℕ) (i : ℕ) where
-  pub index-after : (at : ℕ) (w : Walked) → indexFrom l i (after at w) ≡ indexFrom (set l i at) (i + 1) w
+  pub index-after : (at : ℕ) (w : PropertyWalk) → indexFrom l i (after at w) ≡ indexFrom (set l i at) (i + 1) w
   index-after at w =
       let one : i + suc (length (w .starts)) ≡ i + 1 + length (w .starts) = omega arith in
       rw (one, add-one)

@@ -15,11 +15,11 @@ use Rattle.props.specs.declared.Step.the-variants.{Past, Refused}
 use Rattle.props.specs.Step.{stepAt, dataAt}
 use Rattle.props.proofs.Within.{StepWithin, within}
 use Rattle.body.specs.declared.Index.{Index}
-use Rattle.body.specs.Body.{Walked, stop, byStep, pass, properties, places, indexOf}
+use Rattle.body.specs.Body.{PropertyWalk, stop, byStep, pass, properties, places, indexOf}
 
 module _ (s : List ℕ) where
   -- what holds of a walk from the next property on holds of one from this property on
-  module _ (at : ℕ) (on : ℕ → Walked) where
+  module _ (at : ℕ) (on : ℕ → PropertyWalk) where
     step-few : (k : ℕ) → ((a : ℕ) → length (on a .starts) ≤ k) → (w : Step) → length (byStep at on w .starts) ≤ suc k
     step-few k h (Past q next) = omega (arith, h (next .at))
     step-few k h (Refused n) = omega arith
@@ -66,7 +66,7 @@ module _ (s : List ℕ) where
   pass-data (suc k) at j h = step-data at (pass s k) (pass-first k) (pass-data k) (stepAt s at) (within s at) j h
 
   -- ---- the same of the properties of a body
-  by-count : (P : Walked → Type 0) (k : ℕ) → P (stop 9 0) → (k ≤ 64 → P (pass s k 0)) → P (properties s k)
+  by-count : (P : PropertyWalk → Type 0) (k : ℕ) → P (stop 9 0) → (k ≤ 64 → P (pass s k 0)) → P (properties s k)
   unfolding properties
   by-count P k p q = by (ltb 64 k) refl
     where
@@ -100,7 +100,7 @@ starts-within s k i =
     (λ t. rw (List·getD-eq-default (w .starts) 0 {n = i} (ltb-false i _ t)) (omega arith))
 
 -- ---- the index of a walk over at most 64 properties
-module _ (w : Walked) (few : length (w .starts) ≤ 64) where
+module _ (w : PropertyWalk) (few : length (w .starts) ≤ 64) where
   long : length (places w) ≤ 65
   long = omega (arith, length-append (w .starts) (w .at ∷ []), few)
 

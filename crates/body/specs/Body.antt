@@ -1,4 +1,4 @@
--- So many properties from the start of some bytes on: for document 01's 9 to 11 in the reader, all that is left of the
+-- A given number of properties from the start of some bytes on: for document 01's 9 to 11 in the reader, all that is left of the
 -- node; for its 23 in the writer and its 42 in the lookup, the body.
 use Prim.Native.Nat.{ℕ, zero, suc}
 use mathlib.Core.Bool.{Bool, cond, _&&_}
@@ -16,29 +16,29 @@ use Rattle.body.specs.declared.Index.{Index}
 
 -- how a walk over properties ended: the refusal's number, 0 for none; the place, which is just past the last property,
 -- or the refused property's, and 0 for 9, whose place is the node's; and where the properties start that were passed
-pub record Walked : Type 0 where
+pub record PropertyWalk : Type 0 where
   pub number : ℕ
   pub at : ℕ
   pub starts : List ℕ
 
-abbrev pub stop : ℕ → ℕ → Walked
+abbrev pub stop : ℕ → ℕ → PropertyWalk
 stop n at = record { number = n; at = at; starts = [] }
 
-abbrev pub after : ℕ → Walked → Walked
+abbrev pub after : ℕ → PropertyWalk → PropertyWalk
 after at w = record { number = w .number; at = w .at; starts = at ∷ w .starts }
 
 -- past the property at a place, and on from there; or refused there
-abbrev pub byStep : ℕ → (ℕ → Walked) → Step → Walked
+abbrev pub byStep : ℕ → (ℕ → PropertyWalk) → Step → PropertyWalk
 byStep at on (Past p next) = after at (on (next .at))
 byStep at on (Refused n) = stop n at
 
--- so many properties from a place on
-unfoldable pub pass : List ℕ → ℕ → ℕ → Walked
+-- k properties from a place on
+unfoldable pub pass : List ℕ → ℕ → ℕ → PropertyWalk
 pass s zero at = stop 0 at
 pass s (suc k) at = byStep at (pass s k) (stepAt s at)
 
 -- 9, "over 64 properties"; or what the first property that is refused is refused with
-unfoldable pub properties : List ℕ → ℕ → Walked
+unfoldable pub properties : List ℕ → ℕ → PropertyWalk
 properties s k = cond (ltb mostProperties k) (stop 9 0) (pass s k 0)
 
 -- "exactly its count (at most 64) of properties by the rules of 9 to 11": none is refused, and they end with the bytes
@@ -46,15 +46,15 @@ unfoldable pub exactly : List ℕ → ℕ → Bool
 exactly s k = eqb (properties s k .number) 0 && eqb (properties s k .at) (length s)
 
 -- the walk's end alone
-abbrev pub answerOf : Walked → Passed
-answerOf w = record { number = w .number; at = w .at }
+abbrev pub endOf : PropertyWalk → Passed
+endOf w = record { number = w .number; at = w .at }
 
 -- where each property starts, and then where the walk ended: one that was passed lies from its place to the next
-abbrev pub places : Walked → List ℕ
+abbrev pub places : PropertyWalk → List ℕ
 places w = w .starts ++ (w .at ∷ [])
 
 -- the walk's end with the places, in 65 numbers, zeros after them
-abbrev pub indexOf : Walked → Index
+abbrev pub indexOf : PropertyWalk → Index
 indexOf w = record { number = w .number; count = length (w .starts); starts = sets (replicate 65 0) 0 (places w) }
 
 -- the first of the properties at these places that has the name; their number where none has

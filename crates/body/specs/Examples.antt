@@ -5,15 +5,15 @@ use mathlib.Core.Bool.{Bool, true, false}
 use mathlib.Core.List.{List, [], _∷_, _++_}
 use Rattle.le.specs.Le.{val, numberAt}
 use Rattle.names.specs.Names.{bytesOk, same}
-use Rattle.props.specs.Step.{headerRefusal, dataRefusal, toZero, dataOf, nameAt, stepAt}
-use Rattle.body.specs.Body.{Walked, pass, properties, exactly, firstNamed}
+use Rattle.props.specs.Step.{toZero, nameAt, stepAt}
+use Rattle.body.specs.Body.{PropertyWalk, pass, properties, exactly, firstNamed}
 
-unfoldable walk : List ℕ → ℕ → Walked
-unfolding val numberAt bytesOk headerRefusal dataRefusal toZero dataOf nameAt stepAt pass properties
+unfoldable walk : List ℕ → ℕ → PropertyWalk
+unfolding val numberAt bytesOk toZero nameAt stepAt pass properties
 walk s k = properties s k
 
 unfoldable exact : List ℕ → ℕ → Bool
-unfolding val numberAt bytesOk headerRefusal dataRefusal toZero dataOf nameAt stepAt pass properties exactly
+unfolding val numberAt bytesOk toZero nameAt stepAt pass properties exactly
 exact s k = exactly s k
 
 unfoldable first : List ℕ → List ℕ → List ℕ → ℕ
@@ -29,7 +29,9 @@ abbrev three : List ℕ
 three = one 97 5 ++ (one 98 6 ++ one 97 7)
 
 -- all three, two of them, and one too many
-walked : (walk three 3 ≡ record { number = 0; at = 30; starts = 0 ∷ 10 ∷ 20 ∷ [] }) × (walk three 2 ≡ record { number = 0; at = 20; starts = 0 ∷ 10 ∷ [] }) × (walk three 4 ≡ record { number = 10; at = 30; starts = 0 ∷ 10 ∷ 20 ∷ [] })
+walked : (walk three 3 ≡ record { number = 0; at = 30; starts = 0 ∷ 10 ∷ 20 ∷ [] })
+    × (walk three 2 ≡ record { number = 0; at = 20; starts = 0 ∷ 10 ∷ [] })
+    × (walk three 4 ≡ record { number = 10; at = 30; starts = 0 ∷ 10 ∷ 20 ∷ [] })
 unfolding walk
 walked = (refl, refl, refl)
 
@@ -48,6 +50,7 @@ unfolding exact
 exact-counts = (refl, refl, refl, refl)
 
 -- the first `a`, `b`, and no `c`
-named : (first three (97 ∷ []) (0 ∷ 10 ∷ 20 ∷ []) ≡ 0) × (first three (98 ∷ []) (0 ∷ 10 ∷ 20 ∷ []) ≡ 1) × (first three (99 ∷ []) (0 ∷ 10 ∷ 20 ∷ []) ≡ 3)
+named : (first three (97 ∷ []) (0 ∷ 10 ∷ 20 ∷ []) ≡ 0) × (first three (98 ∷ []) (0 ∷ 10 ∷ 20 ∷ []) ≡ 1)
+    × (first three (99 ∷ []) (0 ∷ 10 ∷ 20 ∷ []) ≡ 3)
 unfolding first
 named = (refl, refl, refl)

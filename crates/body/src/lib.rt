@@ -1,9 +1,9 @@
-// The properties of a body: so many from its start on, where each starts, and the first of a name.
+// The properties of a body: a given number of them from its start on, where each starts, and the first of a name.
 ghost use mathlib.Core.Path.{_≡_};
 ghost use Prim.Native.Nat.{_≤_};
 ghost use lib.ListN.{length};
 ghost use Rattle.base.specs.Limits.{mostProperties};
-ghost use Rattle.body.specs.Body.{pass, properties, exactly, answerOf, indexOf, firstNamed};
+ghost use Rattle.body.specs.Body.{pass, properties, exactly, endOf, indexOf, firstNamed};
 
 // How a walk over properties ended: with number 0 just past the last, with another refused at a property.
 pub struct Passed {
@@ -11,9 +11,9 @@ pub struct Passed {
     pub at: usize,
 }
 
-// Walks over so many properties, at most 64.
+// Walks over `count` properties, at most 64.
 pub fn pass(body: &[u8], count: u32) -> Passed
-    ensures { λ r. ⌜ r ≡ answerOf (properties (now (body .entry)) count) ⌝ }
+    ensures { λ r. ⌜ r ≡ endOf (properties (now (body .entry)) count) ⌝ }
 {
     if base::MOST_PROPERTIES < count {
         return Passed { number: 9, at: 0 };
@@ -23,7 +23,7 @@ pub fn pass(body: &[u8], count: u32) -> Passed
     while 0 < left {
         let cursor = props::Cursor { at };
         match cursor.step(body) {
-            props::Step::Past { property: _, next } => {
+            props::Step::Past { offsets: _, next } => {
                 at = next.at;
                 left -= 1;
             }
@@ -35,7 +35,7 @@ pub fn pass(body: &[u8], count: u32) -> Passed
     Passed { number: 0, at }
 }
 
-// Whether the body is exactly so many properties, at most 64.
+// Whether the body is exactly `count` properties, at most 64.
 pub fn exact(body: &[u8], count: u32) -> bool
     ensures { λ r. ⌜ r ≡ exactly (now (body .entry)) count ⌝ }
 {
@@ -52,7 +52,7 @@ pub struct Index {
     pub starts: [usize; 65],
 }
 
-// Walks over so many properties, at most 64, and notes where they start.
+// Walks over `count` properties, at most 64, and notes where they start.
 pub fn index_of(body: &[u8], count: u32) -> Index
     ensures result { λ r. ⌜ r ≡ indexOf (properties (now (body .entry)) count) ⌝ }
     ensures bound { λ r. ⌜ r .count ≤ mostProperties ⌝ }
@@ -72,7 +72,7 @@ pub fn index_of(body: &[u8], count: u32) -> Index
         starts[i] = at;
         let cursor = props::Cursor { at };
         match cursor.step(body) {
-            props::Step::Past { property: _, next } => {
+            props::Step::Past { offsets: _, next } => {
                 at = next.at;
                 i += 1;
                 left -= 1;

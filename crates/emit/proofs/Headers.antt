@@ -12,7 +12,7 @@ use Rattle.table.specs.declared.Row.{Row}
 use Rattle.format.specs.Forest.{header, fileHeader}
 use Rattle.format.specs.Rows.{hashOf}
 
--- a number of 4 bytes stored behind bytes that were
+-- a number of 4 bytes stored after bytes that were
 put-next : (l : List ℕ) (at : ℕ) (bs : List ℕ) (x : ℕ) {a : ℕ} {before after : List ℕ} → length bs ≡ a → before ≡ sets l at bs
     → after ≡ sets before (at + a) (le 4 x) → after ≡ sets l at (bs ++ le 4 x)
 put-next l at bs x {a} e p q =

@@ -12,16 +12,16 @@ use Rattle.base.proofs.Tests.{by-test}
 use Rattle.kinds.specs.Kinds.{root}
 use Rattle.table.specs.declared.Row.{Row}
 use Rattle.table.specs.Table.{rowAt, rowsAt}
-use Rattle.emit.specs.Emission.{sizeOf, nodesBytes, roots}
-use Rattle.emit.specs.Contract.{Sized}
+use Rattle.emit.specs.Emission.{sizesUnder, nodeSize, nodesBytes, roots}
+use Rattle.emit.specs.Private.{Sized}
 use Rattle.table.proofs.Rests.{rest, rest-all, rest-next, rest-none}
-use Rattle.emit.proofs.Sizes.{own, owns, length-nodesBytes, sizesUnder, sized-none, sized-own, sized-other, under-owns, size-owns}
+use Rattle.emit.proofs.Sizes.{own, owns, length-nodesBytes, sized-none, sized-own, sized-other, under-owns, size-owns}
 
 -- an earlier row's number tells the sizes under it so far, and a passed row's its size
 abbrev pub Measuring : (zs s t : List ℕ) (n i : ℕ) → Type 0
 Measuring zs s t n i =
     ((p : ℕ) → p < i → getD zs p 0 ≡ sizesUnder s p i (rest t n i))
-    × ((p : ℕ) → i ≤ p → p < n → getD zs p 0 ≡ sizeOf s p (rowAt t p) (rest t n (suc p)))
+    × ((p : ℕ) → i ≤ p → p < n → getD zs p 0 ≡ nodeSize s p (rowAt t p) (rest t n (suc p)))
 
 -- ---- begun
 module _ (s t : List ℕ) (n : ℕ) where
@@ -48,13 +48,13 @@ module _ (s t : List ℕ) (n : ℕ) where
   owns-rest zero h = rw (rest-all t n) (omega arith)
   owns-rest (suc j) h = omega (arith, owns-rest j (omega arith), ap (owns s) (rest-next t n j (omega arith)))
 
-  -- so much of the rest is too much of all
+  -- what is too much of the rest is too much of all
   pub rest-over : (j : ℕ) → j ≤ n → 16777216 < 16 + owns s (rest t n j) → 16777216 < 16 + length (nodesBytes s 0 (rowsAt t 0 n))
   rest-over j h o = omega (arith, owns-rest j h, length-nodesBytes s 0 (rowsAt t 0 n))
 
 -- ---- the row in turn
 
--- it is row j of n, and has so many own bytes; the rows from row i on, which is the next, are passed
+-- it is row j of n, and has o own bytes; the rows from row i on, which is the next, are passed
 pub record Turn (s t : List ℕ) (n : ℕ) (zs : List ℕ) (i j : ℕ) (r : Row) (o : ℕ) : Type 0 where
   pub next : i ≡ suc j
   pub here : j < n
@@ -92,17 +92,17 @@ module _ {s t : List ℕ} {n : ℕ} {zs : List ℕ} {i j : ℕ} {r : Row} {o : �
   abbrev put : List ℕ
   put = set zs j size
 
-  size-is : size ≡ sizeOf s j r later
+  size-is : size ≡ nodeSize s j r later
   size-is = omega (arith, measured .0 j (omega arith))
 
   pub size-fits : size ≤ owns s (rest t n j)
   size-fits = rw more (omega (arith, size-is, size-owns s j r later))
 
-  put-passed : (p : ℕ) → j ≤ p → p < n → getD put p 0 ≡ sizeOf s p (rowAt t p) (rest t n (suc p))
+  put-passed : (p : ℕ) → j ≤ p → p < n → getD put p 0 ≡ nodeSize s p (rowAt t p) (rest t n (suc p))
   put-passed p a d =
       by-test
       (eqb p j)
-      (λ q. rw (eqb-true p j q) (getD-set-same zs j size 0 (x .inside) ∙ size-is ∙ ap (λ y. sizeOf s j y later) (x .row)))
+      (λ q. rw (eqb-true p j q) (getD-set-same zs j size 0 (x .inside) ∙ size-is ∙ ap (λ y. nodeSize s j y later) (x .row)))
       (λ q.
       let other = eqb-false p j q in
       getD-set-other zs j p size 0 other ∙ measured .1 p (omega (arith, other)) d)

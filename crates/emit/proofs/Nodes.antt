@@ -1,4 +1,4 @@
--- Nodes put one behind the other.
+-- Nodes put one after the other.
 use Prim.Native.Nat.{ℕ, _+_, _-_, _≤_, _<_}
 use native.Mathlib.Numerals.{add-one}
 use native.Mathlib.Omega.{arith}
@@ -13,7 +13,7 @@ use Rattle.table.specs.Table.{rowAt, rowsAt}
 use Rattle.format.specs.Forest.{header}
 use Rattle.format.specs.Rows.{hashOf, bodyOf}
 use Rattle.format.proofs.Headers.{length-header}
-use Rattle.emit.specs.Emission.{sizeOf, nodesBytes}
+use Rattle.emit.specs.Emission.{nodeSize, nodesBytes}
 use Rattle.table.proofs.Rests.{rest, rest-all, rest-next, rest-none}
 
 -- ---- one node
@@ -39,8 +39,8 @@ part-put l at r size fits {part} e =
     let all : part ≡ headerOf r size
     = rw n at e ∙ sets-eq (headerOf r size) (midOf at 24 l) 0 (omega (arith, k, long))
     ∙ ap (λ z. headerOf r size ++ z) (drop-of-length-le (midOf at 24 l) {i = 0 + length (headerOf r size)} (omega (arith, k, long))) ∙ append-nil (headerOf r size) in
-    let behind : drop 24 (drop at l) ≡ drop (at + length (headerOf r size)) l = drop-drop 24 at l ∙ ap (λ m. drop (at + m) l) (sym k) in
-    rw (n, all, behind) (sym (sets-eq (headerOf r size) l at (omega (arith, k, fits)) ∙ append-assoc (take at l) (headerOf r size) (drop (at + length (headerOf r size)) l)))
+    let following : drop 24 (drop at l) ≡ drop (at + length (headerOf r size)) l = drop-drop 24 at l ∙ ap (λ m. drop (at + m) l) (sym k) in
+    rw (n, all, following) (sym (sets-eq (headerOf r size) l at (omega (arith, k, fits)) ∙ append-assoc (take at l) (headerOf r size) (drop (at + length (headerOf r size)) l)))
 
 module _ (s out : List ℕ) (at : ℕ) (r : Row) (size : ℕ) {head : List ℕ} (h : head ≡ sets out at (headerOf r size)) where
   pub node-put : {body last : List ℕ} → body ≡ bodyOf s r → last ≡ sets head (at + 24) body
@@ -66,7 +66,7 @@ module _ (s t : List ℕ) (n : ℕ) where
   unfolding nodesBytes
   nodes-none i h = rw (rest-none t n i h)
 
-  module _ (i : ℕ) (h : i < n) {r : Row} {size : ℕ} (e : r ≡ rowAt t i) (f : size ≡ sizeOf s i (rowAt t i) (rowsAt t (i + 1) (n - (i + 1)))) where
+  module _ (i : ℕ) (h : i < n) {r : Row} {size : ℕ} (e : r ≡ rowAt t i) (f : size ≡ nodeSize s i (rowAt t i) (rowsAt t (i + 1) (n - (i + 1)))) where
     more : nodesFrom i ≡ nodeOf s r size ++ nodesFrom (i + 1)
     unfolding nodesBytes
     more = rw (f, e, rest-next t n i h, add-one i) (simp append-assoc)

@@ -12,7 +12,7 @@ use Rattle.table.specs.declared.Row.{Row}
 use Rattle.format.specs.Forest.{header}
 use Rattle.format.specs.Rows.{hashOf, bodyOf}
 use Rattle.format.proofs.Headers.{length-header}
-use Rattle.emit.specs.Emission.{under, sizes, sizeOf, nodesBytes}
+use Rattle.emit.specs.Emission.{sizesUnder, nodeSize, nodesBytes}
 
 -- ---- own bytes: those of a node without its children
 abbrev pub own : (s : List ℕ) → Row → ℕ
@@ -27,37 +27,34 @@ pub length-nodesBytes : (s : List ℕ) (k : ℕ) (rs : List Row) → length (nod
 unfolding nodesBytes owns
 length-nodesBytes s k [] = refl
 length-nodesBytes s k (r ∷ rs) =
-    let h = header (r .kind) (sizeOf s k r rs) (hashOf r) (r .properties) (r .children) in
+    let h = header (r .kind) (nodeSize s k r rs) (hashOf r) (r .properties) (r .children) in
     let more = nodesBytes s (suc k) rs in
     omega (
       arith,
       length-append h (bodyOf s r ++ more),
       length-append (bodyOf s r) more,
-      length-header (r .kind) (sizeOf s k r rs) (hashOf r) (r .properties) (r .children),
+      length-header (r .kind) (nodeSize s k r rs) (hashOf r) (r .properties) (r .children),
       length-nodesBytes s (suc k) rs,
     )
 
 -- ---- the sizes under a parent, of rows from row k on
-abbrev pub sizesUnder : (s : List ℕ) (parent k : ℕ) → List Row → ℕ
-sizesUnder s p k rs = under p rs (sizes s k rs)
-
 pub sized-none : (s : List ℕ) (p k : ℕ) → sizesUnder s p k [] ≡ 0
-unfolding under
+unfolding sizesUnder
 sized-none s p k = refl
 
 pub sized-own : (s : List ℕ) (p k : ℕ) (r : Row) (rs : List Row) → r .parent ≡ p
-    → sizesUnder s p k (r ∷ rs) ≡ sizeOf s k r rs + sizesUnder s p (suc k) rs
-unfolding under sizes
+    → sizesUnder s p k (r ∷ rs) ≡ nodeSize s k r rs + sizesUnder s p (suc k) rs
+unfolding sizesUnder
 sized-own s p k r rs e = rw (eq-eqb (r .parent) p e)
 
 pub sized-other : (s : List ℕ) (p k : ℕ) (r : Row) (rs : List Row) → (r .parent ≡ p → ⊥) → sizesUnder s p k (r ∷ rs) ≡ sizesUnder s p (suc k) rs
-unfolding under sizes
-sized-other s p k r rs e = rw (ne-eqb (r .parent) p e)
+unfolding sizesUnder
+sized-other s p k r rs e = rw (ne-eqb (r .parent) p e) (omega arith)
 
 -- the sizes under all parents before row m together
 unfoldable below : (s : List ℕ) (m k : ℕ) → List Row → ℕ
 below s m k [] = 0
-below s m k (r ∷ rs) = let more = below s m (suc k) rs in cond (ltb (r .parent) m) (sizeOf s k r rs + more) more
+below s m k (r ∷ rs) = let more = below s m (suc k) rs in cond (ltb (r .parent) m) (nodeSize s k r rs + more) more
 
 -- parents before row m and a parent that is not are different
 under-below : (s : List ℕ) (m p k : ℕ) (rs : List Row) → m ≤ p → sizesUnder s p k rs + below s m k rs ≤ below s (suc p) k rs
@@ -92,6 +89,6 @@ below-owns s m k (r ∷ rs) h =
 pub under-owns : (s : List ℕ) (p k : ℕ) (rs : List Row) → p < k → sizesUnder s p k rs ≤ owns s rs
 under-owns s p k rs h = omega (arith, under-below s 0 p k rs (omega arith), below-owns s (suc p) k rs h)
 
-pub size-owns : (s : List ℕ) (k : ℕ) (r : Row) (rs : List Row) → sizeOf s k r rs ≤ owns s (r ∷ rs)
+pub size-owns : (s : List ℕ) (k : ℕ) (r : Row) (rs : List Row) → nodeSize s k r rs ≤ owns s (r ∷ rs)
 unfolding owns
 size-owns s k r rs = omega (arith, under-owns s k (suc k) rs (omega arith))

@@ -12,7 +12,7 @@ use Rattle.format.specs.Forest.{fileHeader}
 use Rattle.format.proofs.Headers.{length-fileHeader}
 use Rattle.table.specs.declared.Row.{Row}
 use Rattle.emit.specs.declared.Written.{Written}
-use Rattle.emit.specs.Emission.{nodesBytes, roots, fileBytes, refused, done, emission, leftBy, outputOf}
+use Rattle.emit.specs.Emission.{nodesBytes, roots, fileBytes, refusedWriting, writingDone, emission, outputLeft, outputOf}
 
 module _ (flags : ℕ) (s : List ℕ) (rows : List Row) where
   pub length-fileBytes : length (fileBytes flags s rows) ≡ 16 + length (nodesBytes s 0 rows)
@@ -21,32 +21,32 @@ module _ (flags : ℕ) (s : List ℕ) (rows : List Row) where
 
   module _ (out : List ℕ) where
     -- an answer whose number is not 0 leaves the output
-    left : (w : Written) → emission flags s rows (length out) ≡ w → leftBy (w .number) (fileBytes flags s rows) out ≡ out
+    left : (w : Written) → emission flags s rows (length out) ≡ w → outputLeft (w .number) (fileBytes flags s rows) out ≡ out
         → (w ≡ emission flags s rows (length out)) × (out ≡ outputOf flags s rows out)
     left w e f = (sym e, sym (rw e f))
 
-    pub too-long : 16777216 < 16 + length (nodesBytes s 0 rows) → (refused 25 0 ≡ emission flags s rows (length out)) × (out ≡ outputOf flags s rows out)
-    unfolding emission leftBy
-    too-long h = left (refused 25 0) (rw (length-fileBytes, lt-ltb 16777216 (16 + length (nodesBytes s 0 rows)) h)) refl
+    pub too-long : 16777216 < 16 + length (nodesBytes s 0 rows) → (refusedWriting 25 0 ≡ emission flags s rows (length out)) × (out ≡ outputOf flags s rows out)
+    unfolding emission outputLeft
+    too-long h = left (refusedWriting 25 0) (rw (length-fileBytes, lt-ltb 16777216 (16 + length (nodesBytes s 0 rows)) h)) refl
 
     module _ (short : 16 + length (nodesBytes s 0 rows) ≤ 16777216) where
-      pub no-room : length out < 16 + length (nodesBytes s 0 rows) → (refused 26 0 ≡ emission flags s rows (length out)) × (out ≡ outputOf flags s rows out)
-      unfolding emission leftBy
+      pub no-room : length out < 16 + length (nodesBytes s 0 rows) → (refusedWriting 26 0 ≡ emission flags s rows (length out)) × (out ≡ outputOf flags s rows out)
+      unfolding emission outputLeft
       no-room h =
           left
-          (refused 26 0)
+          (refusedWriting 26 0)
           (rw (length-fileBytes, le-ltb 16777216 (16 + length (nodesBytes s 0 rows)) short, lt-ltb (length out) (16 + length (nodesBytes s 0 rows)) h))
           refl
 
       module _ (fits : 16 + length (nodesBytes s 0 rows) ≤ length out) where
-        well : emission flags s rows (length out) ≡ done (16 + length (nodesBytes s 0 rows))
+        well : emission flags s rows (length out) ≡ writingDone (16 + length (nodesBytes s 0 rows))
         unfolding emission
         well = rw (length-fileBytes, le-ltb 16777216 (16 + length (nodesBytes s 0 rows)) short, le-ltb (length out) (16 + length (nodesBytes s 0 rows)) fits)
 
         pub file-put : {head last : List ℕ} {n : ℕ} → head ≡ sets out 0 (fileHeader (roots rows) flags) → last ≡ sets head 16 (nodesBytes s 0 rows)
             → n ≡ 16 + length (nodesBytes s 0 rows)
-            → (done n ≡ emission flags s rows (length out)) × (last ≡ outputOf flags s rows out)
-        unfolding leftBy fileBytes
+            → (writingDone n ≡ emission flags s rows (length out)) × (last ≡ outputOf flags s rows out)
+        unfolding outputLeft fileBytes
         file-put {head} {last} e f g =
             let bytes = fileBytes flags s rows in
             let place : 16 ≡ 0 + length (fileHeader (roots rows) flags) = omega (arith, length-fileHeader (roots rows) flags) in

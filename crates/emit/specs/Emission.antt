@@ -21,21 +21,16 @@ emittedRows t rows = rowsAt t 0 (min rows mostRows)
 
 -- ---- sizes
 
--- of rows and their sizes, the sum of the sizes of those under a parent
-unfoldable pub under : (parent : ℕ) → List Row → (sizes : List ℕ) → ℕ
-under parent [] zs = 0
-under parent (r ∷ rs) [] = 0
-under parent (r ∷ rs) (z ∷ zs) = cond (eqb (r .parent) parent) (z + under parent rs zs) (under parent rs zs)
+-- the sizes of the rows under a parent, added up, of rows from row k on: each its 24 bytes, its body and the rows under it
+unfoldable pub sizesUnder : (s : List ℕ) (parent k : ℕ) → List Row → ℕ
+sizesUnder s parent k [] = 0
+sizesUnder s parent k (r ∷ rs) =
+    cond (eqb (r .parent) parent) (24 + length (bodyOf s r) + sizesUnder s k (suc k) rs) 0 + sizesUnder s parent (suc k) rs
 
--- "Size counts the node's own 24 bytes, its properties and all children" (of an unknown row, its whole body): the sizes of the
--- rows from row k on. A row's children are the later rows under it.
-unfoldable pub sizes : (s : List ℕ) (k : ℕ) → List Row → List ℕ
-sizes s k [] = []
-sizes s k (r ∷ rs) = let later = sizes s (suc k) rs in (24 + length (bodyOf s r) + under k rs later) ∷ later
-
--- the size of row k, given the rows after it: the first of `sizes`
-abbrev pub sizeOf : (s : List ℕ) (k : ℕ) → Row → (later : List Row) → ℕ
-sizeOf s k r later = 24 + length (bodyOf s r) + under k later (sizes s (suc k) later)
+-- "Size counts the node's own 24 bytes, its properties and all children" (of an unknown row, its whole body): the size of row k,
+-- given the rows after it. Its children are those of them that are under it.
+abbrev pub nodeSize : (s : List ℕ) (k : ℕ) → Row → (later : List Row) → ℕ
+nodeSize s k r later = 24 + length (bodyOf s r) + sizesUnder s k (suc k) later
 
 -- ---- bytes
 
@@ -43,7 +38,7 @@ sizeOf s k r later = 24 + length (bodyOf s r) + under k later (sizes s (suc k) l
 unfoldable pub nodesBytes : (s : List ℕ) (k : ℕ) → List Row → List ℕ
 nodesBytes s k [] = []
 nodesBytes s k (r ∷ rs) =
-    header (r .kind) (sizeOf s k r rs) (hashOf r) (r .properties) (r .children) ++ (bodyOf s r ++ nodesBytes s (suc k) rs)
+    header (r .kind) (nodeSize s k r rs) (hashOf r) (r .properties) (r .children) ++ (bodyOf s r ++ nodesBytes s (suc k) rs)
 
 -- how many rows are Roots
 unfoldable pub roots : List Row → ℕ
@@ -57,23 +52,23 @@ fileBytes flags s rows = fileHeader (roots rows) flags ++ nodesBytes s 0 rows
 -- ---- the answer, and the output
 
 -- "A refusal answers length 0"
-abbrev pub refused : (number place : ℕ) → Written
-refused n place = record { number = n; place = place; length = 0 }
+abbrev pub refusedWriting : (number place : ℕ) → Written
+refusedWriting n place = record { number = n; place = place; length = 0 }
 
-abbrev pub done : (length : ℕ) → Written
-done n = record { number = 0; place = 0; length = n }
+abbrev pub writingDone : (length : ℕ) → Written
+writingDone n = record { number = 0; place = 0; length = n }
 
 -- "25 length over 16,777,216, 26 output too short"
 abbrev pub byLength : (n room : ℕ) → Written
-byLength n room = cond (ltb mostBytes n) (refused 25 0) (cond (ltb room n) (refused 26 0) (done n))
+byLength n room = cond (ltb mostBytes n) (refusedWriting 25 0) (cond (ltb room n) (refusedWriting 26 0) (writingDone n))
 
 unfoldable pub emission : (flags : ℕ) (s : List ℕ) → List Row → (room : ℕ) → Written
 emission flags s rows room = byLength (length (fileBytes flags s rows)) room
 
 -- "A refusal ... leaves the output; success leaves what lies past the length": an output with these bytes put where the number
 -- is 0
-unfoldable pub leftBy : (number : ℕ) (bytes out : List ℕ) → List ℕ
-leftBy n bytes out = cond (eqb n 0) (bytes ++ drop (length bytes) out) out
+unfoldable pub outputLeft : (number : ℕ) (bytes out : List ℕ) → List ℕ
+outputLeft n bytes out = cond (eqb n 0) (bytes ++ drop (length bytes) out) out
 
 abbrev pub outputOf : (flags : ℕ) (s : List ℕ) → List Row → (out : List ℕ) → List ℕ
-outputOf flags s rows out = leftBy (emission flags s rows (length out) .number) (fileBytes flags s rows) out
+outputOf flags s rows out = outputLeft (emission flags s rows (length out) .number) (fileBytes flags s rows) out

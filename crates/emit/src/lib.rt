@@ -8,8 +8,8 @@ ghost use Rattle.base.specs.Limits.{mostRows};
 ghost use Rattle.table.specs.Table.{rowsAt};
 ghost use Rattle.format.specs.Forest.{header, fileHeader};
 ghost use Rattle.format.specs.Rows.{hashOf, bodyOf};
-ghost use Rattle.emit.specs.Emission.{emittedRows, nodesBytes, emission, outputOf};
-ghost use Rattle.emit.specs.Contract.{nodeBytes, Sized, Measures};
+ghost use Rattle.emit.specs.Emission.{emittedRows, nodesBytes, refusedWriting, emission, outputOf};
+ghost use Rattle.emit.specs.Private.{nodeBytes, Sized, Measures};
 
 // The largest file, as a length is summed up.
 const MOST_BYTES: u64 = base::MOST_BYTES as u64;
@@ -19,6 +19,17 @@ pub struct Written {
     pub number: u32,
     pub place: u32,
     pub length: u32,
+}
+
+// A refusal: length 0.
+pub fn refused(number: u32, place: u32) -> Written
+    ensures { λ r. ⌜ r ≡ refusedWriting number place ⌝ }
+{
+    Written {
+        number,
+        place,
+        length: 0,
+    }
 }
 
 // The Root rows, and the length of the file; or that it is over 16,777,216.
@@ -97,7 +108,7 @@ fn put_header(out: &mut [u8], row: table::Row, size: u32)
     le::put_u32(out, 20, row.children);
 }
 
-// Writes a node's header and body, and answers the place behind them.
+// Writes a node's header and body, and answers the place after them.
 fn put_node(out: &mut [u8], at: usize, source: &[u8], row: table::Row, size: u32) -> usize
     requires { ⌜ at + (24 + length (bodyOf (now source) row)) ≤ length (now out) ⌝ }
     ensures place { λ r. ⌜ r ≡ at + (24 + length (bodyOf (now (source .entry)) row)) ⌝ }
@@ -110,7 +121,7 @@ fn put_node(out: &mut [u8], at: usize, source: &[u8], row: table::Row, size: u32
     at + 24 + body.len()
 }
 
-// Writes the nodes of the rows, one behind the other.
+// Writes the nodes of the rows, one after the other.
 fn put_nodes(out: &mut [u8], plan: &[u32], rows: usize, source: &[u8], sizes: &[u32])
     requires rows { ⌜ rows ≤ mostRows ⌝ }
     requires length { ⌜ length (now sizes) ≡ mostRows ⌝ }
@@ -140,19 +151,11 @@ pub fn emit(plan: &[u32], rows: usize, source: &[u8], flags: u32, out: &mut [u8]
     let mut sizes = [0u32; base::MOST_ROWS];
     let m = measure(plan, n, source, &mut sizes);
     if m.over {
-        return Written {
-            number: 25,
-            place: 0,
-            length: 0,
-        };
+        return refused(25, 0);
     }
     let least = m.length as usize;
     if out.len() < least {
-        return Written {
-            number: 26,
-            place: 0,
-            length: 0,
-        };
+        return refused(26, 0);
     }
     put_file_header(out, m.roots, flags);
     put_nodes(out, plan, n, source, &sizes);

@@ -1,4 +1,4 @@
--- One face: as it stands at a place of the bytes, and what it adds to what the faces behind it say.
+-- One face: as it stands at a place of the bytes, and what it adds to what the faces after it say.
 use Prim.Native.Nat.{ℕ, zero, suc, _+_, _-_, _*_, _≤_, _<_, min}
 use native.Mathlib.Nat.{min-eq-left}
 use native.Mathlib.Omega.{arith}
@@ -37,7 +37,7 @@ face-part w n bs at h e =
     let c : 0 + 2 * w ≡ 2 * w = omega arith in
     rw (e, b, c, numberAt-part w n bs at 0 (omega arith), numberAt-part w n bs at w (omega arith), numberAt-part w n bs at (2 * w) (omega arith), a)
 
--- ---- the first of the faces from a place on, and those behind it
+-- ---- the first of the faces from a place on, and those after it
 numberAt-drop : (w : ℕ) (bs : List ℕ) (at k : ℕ) → numberAt w (drop at bs) k ≡ numberAt w bs (at + k)
 unfolding numberAt
 numberAt-drop w bs at k = rw (drop-drop k at bs)

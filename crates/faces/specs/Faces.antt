@@ -20,7 +20,7 @@ widthOf code = cond (eqb code byte) 1 (cond (eqb code short) 2 4)
 abbrev pub faceAt : ℕ → List ℕ → ℕ → Face
 faceAt w bs at = record { a = numberAt w bs at; b = numberAt w bs (at + w); c = numberAt w bs (at + 2 * w) }
 
--- so many faces from the start of some bytes on, of values of a width
+-- `count` faces from the start of some bytes on, of values of a width
 unfoldable pub facesIn : (width count : ℕ) → List ℕ → List Face
 facesIn w zero bs = []
 facesIn w (suc n) bs = record { a = numberAt w bs 0; b = numberAt w bs w; c = numberAt w bs (2 * w) } ∷ facesIn w n (drop (3 * w) bs)

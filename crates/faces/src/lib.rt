@@ -79,7 +79,7 @@ fn is_degenerate(f: Face) -> bool
     (f.a == f.b) | (f.b == f.c) | (f.a == f.c)
 }
 
-fn past(k: u64) -> Scanned
+fn refused_value(k: u64) -> Scanned
     ensures { λ r. ⌜ r ≡ countedBy (Past k) [] ⌝ }
 {
     Scanned {
@@ -89,7 +89,7 @@ fn past(k: u64) -> Scanned
     }
 }
 
-// Passes over so many faces once.
+// Passes over `count` faces once.
 pub fn scan(bytes: &[u8], code: u16, count: u32, vertices: u32) -> Scanned
     ensures result { λ r. ⌜ r ≡ scanOf vertices (facesIn (widthOf code) count (now (bytes .entry))) ⌝ }
     ensures numbers { λ r. ⌜ scanNumbers r ≡ scanNumbers (scanOf vertices (facesIn (widthOf code) count (now (bytes .entry)))) ⌝ }
@@ -104,13 +104,13 @@ pub fn scan(bytes: &[u8], code: u16, count: u32, vertices: u32) -> Scanned
     while 0 < left {
         let f = face_at(bytes, at, width);
         if vertices <= f.a {
-            return past(done);
+            return refused_value(done);
         }
         if vertices <= f.b {
-            return past(done + 1);
+            return refused_value(done + 1);
         }
         if vertices <= f.c {
-            return past(done + 2);
+            return refused_value(done + 2);
         }
         if is_degenerate(f) {
             degenerate += 1;

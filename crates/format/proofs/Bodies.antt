@@ -1,19 +1,20 @@
--- A body of so many good properties is walked to its end; and a walk that refuses none has walked such a body.
+-- A body of good properties is walked to its end; and a walk that refuses none has walked such a body.
 use Prim.Native.Nat.{ℕ, zero, suc, _+_}
 use native.Mathlib.Omega.{arith}
 use native.Mathlib.Nat.{zero-add}
-use mathlib.Core.Path.{_≡_, refl, ap, sym, _∙_}
-use mathlib.Core.List.{List, [], _∷_, _++_, append-assoc, flatMap}
-use lib.Dec.{ltb}
+use mathlib.Core.Path.{_≡_, refl, ap, sym, subst, _∙_}
+use mathlib.Core.Bool.{true, and-eq-true-iff}
+use mathlib.Core.List.{List, [], _∷_, _++_, append-assoc, append-nil, flatMap}
+use lib.Dec.{eqb, ltb}
 use lib.ListN.{length, take, drop, length-append}
-use lib.Seq.{take-at, take-append-seam}
-use borrow.Author.Tests.{ltb-true, ltb-false}
+use lib.Seq.{take-at, take-append-seam, take-length}
+use borrow.Author.Tests.{eq-eqb, eqb-true, ltb-true, ltb-false}
 use Rattle.le.specs.Le.{AreBytes}
 use Rattle.base.proofs.Tests.{by-test}
 use Rattle.props.specs.declared.Step.{Step}
 use Rattle.props.specs.declared.Step.the-variants.{Past, Refused}
 use Rattle.props.specs.Step.{stepAt}
-use Rattle.body.specs.Body.{byStep, pass, properties}
+use Rattle.body.specs.Body.{byStep, pass, properties, exactly}
 use Rattle.body.proofs.Laws.{few, many}
 use Rattle.base.specs.Lists.{Each}
 use Rattle.format.specs.Layout.{Property, propertyBytes, GoodProperty, GoodBody}
@@ -36,14 +37,14 @@ body-good k b rest good =
     rw (← few (b ++ rest) k (good .most), ← good .counted, good .bytes)
     (rw zero-add at (pass-good (good .properties) [] rest (good .good) refl))
 
--- so its end does not depend on what is behind it
+-- so its end does not depend on what is after it
 pub body-prefix : (k : ℕ) (b c x y : List ℕ) → GoodBody k b → GoodBody k c → b ++ x ≡ c ++ y → b ≡ c
 body-prefix k b c x y good other e =
     let same : length b ≡ length c = sym (body-good k b x good .1) ∙ rw e (body-good k c y other .1) in
     sym (take-append-seam b x) ∙ rw (e, same) (take-append-seam c y)
 
 -- ---- a walk that refuses none has walked a good body
--- so many good properties lie from a place to another
+-- a given number of good properties lie from a place to another
 record Lie (s : List ℕ) (k at to : ℕ) : Type 0 where
   list : List Property
   good : Each GoodProperty list
@@ -85,3 +86,18 @@ body-sound s k h e =
       most = most;
       bytes = ap (take (properties s k .at)) (r .bytes) ∙ whole;
     })
+
+-- ---- a body is good where it is exactly its count of properties, and nowhere else
+pub good-exactly : (k : ℕ) (s : List ℕ) → GoodBody k s → exactly s k ≡ true
+unfolding exactly
+good-exactly k s good =
+    let e = rw (append-nil s) at (body-good k s [] good) in
+    rw (eq-eqb (properties s k .number) 0 (e .0), eq-eqb (properties s k .at) (length s) (e .1))
+
+pub exactly-good : (k : ℕ) (s : List ℕ) → AreBytes s → exactly s k ≡ true → GoodBody k s
+unfolding exactly
+exactly-good k s bytes e =
+    let both = and-eq-true-iff (eqb (properties s k .number) 0) (eqb (properties s k .at) (length s)) .0 e in
+    let done = eqb-true (properties s k .number) 0 (both .0) in
+    let whole = eqb-true (properties s k .at) (length s) (both .1) in
+    subst (GoodBody k) (take-length s) (subst (λ n. GoodBody k (take n s)) whole (body-sound s k bytes done))

@@ -7,7 +7,7 @@ use lib.ListN.{length, take, drop}
 use Rattle.le.specs.Le.{numberAt}
 use Rattle.props.specs.declared.Size.{Size}
 use Rattle.props.specs.declared.Size.the-variants.{Bytes, Text, NoSuch}
-use Rattle.props.specs.Types.{sizeOf}
+use Rattle.props.specs.Types.{elementSize}
 use Rattle.base.specs.Lists.{Each}
 use Rattle.format.specs.Layout.{Property, propertyBytes, Content, GoodProperty}
 use Rattle.format.specs.Laws.{OneBody}
@@ -46,8 +46,8 @@ one p q x y f g e =
     let name : p .name ≡ q .name = sym (name-read p [] x f) ∙ ap (λ l. take (length (p .name)) (drop 8 l)) e ∙ ap (λ n. take n (drop 8 (propertyBytes q ++ y))) size ∙ name-read q [] y g in
     let rest : p .content ++ x ≡ q .content ++ y =
     sym (content-read p [] x f) ∙ ap (drop (8 + length (p .name))) e ∙ ap (λ n. drop (8 + n) (propertyBytes q ++ y)) size ∙ content-read q [] y g in
-    let like : Content (sizeOf (q .code)) (q .elements) (p .content) = rw (code, elements) at (f .3) in
-    let both = contents (sizeOf (q .code)) (q .elements) (p .content) (q .content) x y like (g .3) rest in
+    let like : Content (elementSize (q .code)) (q .elements) (p .content) = rw (code, elements) at (f .3) in
+    let both = contents (elementSize (q .code)) (q .elements) (p .content) (q .content) x y like (g .3) rest in
     (same p q code elements name (both .0), both .1)
   where
     same : (p q : Property) → p .code ≡ q .code → p .elements ≡ q .elements → p .name ≡ q .name → p .content ≡ q .content → p ≡ q

@@ -2,21 +2,20 @@
 use Prim.Native.Nat.{ℕ, zero, suc, _+_, _-_, _≤_}
 use native.Mathlib.Omega.{arith}
 use mathlib.Core.Path.{_≡_, refl, ap, sym, _∙_}
-use mathlib.Core.Bool.{true}
+use mathlib.Core.Bool.{Bool, true, false}
 use mathlib.Core.List.{List, _++_, append-assoc}
 use lib.ListN.{length, take, drop, length-append, length-drop}
 use lib.Seq.{length-take-le, take-append-seam, drop-append-seam, drop-drop}
 use Rattle.le.specs.Le.{le, numberAt, AreBytes}
 use Rattle.le.proofs.Laws.{val-le, numberAt-lt, rest, rest-drop, part-front, le-front}
-use Rattle.base.proofs.Tests.{by-test}
 use Rattle.names.specs.Names.{bytesOk}
 use Rattle.props.specs.declared.Cursor.{Cursor}
-use Rattle.props.specs.declared.Property.{Property as Parts}
+use Rattle.props.specs.declared.Offsets.{Offsets}
 use Rattle.props.specs.declared.Step.{Step}
 use Rattle.props.specs.declared.Step.the-variants.{Past, Refused}
-use Rattle.props.specs.Types.{sizeOf}
-use Rattle.props.specs.Step.{headerRefusal, nameRefusal, dataOf, unless, past, codeAt, sizeAt, lengthAt, nameAt, startAt, stepAt}
-use Rattle.props.proofs.Cases.{header-right, name-fits, by-data}
+use Rattle.props.specs.Types.{elementSize}
+use Rattle.props.specs.Step.{headerRefusal, codeAt, sizeAt, lengthAt, nameAt, startAt, stepAt}
+use Rattle.props.proofs.Cases.{header-right, name-fits, staged, by-stages, by-data}
 use Rattle.format.specs.Layout.{Property, propertyBytes, Name, GoodProperty}
 use Rattle.format.proofs.Stages.{size-good, size-sound, bytes-good, bytes-sound, type-good, header-sized, data-good, data-sound, data-told}
 
@@ -59,14 +58,14 @@ module _ (p : Property) (pre more : List ℕ) (good : GoodProperty p) where
 
   header-good : headerRefusal (p .code) (length (p .name)) (length (rest all (length pre))) ≡ 0
   header-good =
-      let type = type-good (sizeOf (p .code)) (p .elements) (p .content) (good .3) in
+      let type = type-good (elementSize (p .code)) (p .elements) (p .content) (good .3) in
       let size = size-good (length (p .name)) (good .2 .0) (good .2 .1) in
       sym (header-right (p .code) (length (p .name)) (length (rest all (length pre))) (omega (arith, room)) type size room)
 
   name-good : bytesOk (take (length (p .name)) (drop 8 (rest all (length pre)))) ≡ true
   name-good = rw (front, name-read) (bytes-good (p .name) (good .2 .2))
 
-  pub step-good : (q : Parts) ×
+  pub step-good : (q : Offsets) ×
       (stepAt (pre ++ (propertyBytes p ++ more)) (length pre) ≡ Past q (record { at = length pre + length (propertyBytes p) }))
   step-good =
       let code : p .code ≡ numberAt 2 (rest all (length pre)) 0 = rw (front, code-read) in
@@ -74,8 +73,8 @@ module _ (p : Property) (pre more : List ℕ) (good : GoodProperty p) where
       let elements : p .elements ≡ numberAt 4 (rest all (length pre)) 4 = rw (front, elements-read) in
       let step = by-data all (length pre) code size header-good name-good elements refl in
       let start : ℕ = length pre + (8 + length (p .name)) in
-      let parts : Parts = record { name = length pre + 8; start = start } in
-      let taken = data-good (length pre) start (sizeOf (p .code)) (p .elements) (p .content) more (good .3) in
+      let parts : Offsets = record { name = length pre + 8; start = start } in
+      let taken = data-good (length pre) start (elementSize (p .code)) (p .elements) (p .content) more (good .3) in
       let next : start + length (p .content) ≡ length pre + length (propertyBytes p) = rw (length-property p) (omega arith) in
       (parts, sym (taken ∙ (rw (front, content-read) at step)) ∙ ap (λ n. Past parts (record { at = n })) next)
 
@@ -107,27 +106,19 @@ module _ (s : List ℕ) (at k : ℕ) where
           le-front 2 s at (at + 2) bytes refl (omega arith),
         ))
 
-unless-past : (n : ℕ) (step : Step) {q : Parts} {next : Cursor} → unless Refused n step ≡ Past q next → (n ≡ 0) × (step ≡ Past q next)
-unless-past zero step e = (refl, e)
-unless-past (suc n) step e = (cc, cc)
-
 -- what a step that passes has passed
-stages : (s : List ℕ) (at : ℕ) {q : Parts} {next : Cursor} → stepAt s at ≡ Past q next →
-    (headerRefusal (codeAt s at) (sizeAt s at) (length s - at) ≡ 0) × (bytesOk (nameAt s at) ≡ true)
-    × (past at (startAt s at) (dataOf (sizeOf (codeAt s at)) (lengthAt s at) (drop (startAt s at) s)) ≡ Past q next)
-unfolding stepAt
-stages s at e =
-    let header = unless-past _ _ e in
-    let name = unless-past (nameRefusal (nameAt s at)) _ (header .1) in
-    (header .0, by-test (bytesOk (nameAt s at)) (λ t. t) (λ t. absurd (omega (arith, rw t at (name .0)))), name .1)
+staged-past : (n : ℕ) (b : Bool) (step : Step) {q : Offsets} {next : Cursor} → staged n b step ≡ Past q next → (n ≡ 0) × (b ≡ true) × (step ≡ Past q next)
+staged-past zero true step e = (refl, refl, e)
+staged-past zero false step e = (cc, cc, cc)
+staged-past (suc n) b step e = (cc, cc, cc)
 
-pub step-sound : (s : List ℕ) (at : ℕ) → AreBytes s → {q : Parts} {next : Cursor} → stepAt s at ≡ Past q next →
+pub step-sound : (s : List ℕ) (at : ℕ) → AreBytes s → {q : Offsets} {next : Cursor} → stepAt s at ≡ Past q next →
     (p : Property) × GoodProperty p × (drop at s ≡ propertyBytes p ++ drop (next .at) s) × (at + length (propertyBytes p) ≡ next .at)
 step-sound s at bytes e =
-    let passed = stages s at e in
+    let passed = staged-past (headerRefusal (codeAt s at) (sizeAt s at) (length s - at)) (bytesOk (nameAt s at)) _ (sym (by-stages s at) ∙ e) in
     let room = name-fits (codeAt s at) (sizeAt s at) (length s - at) (passed .0) in
     let size = size-sound (sizeAt s at) (header-sized (codeAt s at) (sizeAt s at) (length s - at) (passed .0)) in
-    let taken = data-sound at (startAt s at) (sizeOf (codeAt s at)) (lengthAt s at) (drop (startAt s at) s) (passed .2) in
+    let taken = data-sound at (startAt s at) (elementSize (codeAt s at)) (lengthAt s at) (drop (startAt s at) s) (passed .2) in
     let k : ℕ = taken .0 in
     let fits : startAt s at + k ≤ length s = omega (arith, taken .1, length-drop (startAt s at) s) in
     let long = name-length s at k fits in
@@ -136,12 +127,12 @@ step-sound s at bytes e =
     (found s at k, good, rw (taken .3) at (found-bytes s at k fits bytes), rw (taken .3) at (found-length s at k fits))
 
 -- ---- a refusal has a number
-unless-told : (n : ℕ) (step : Step) → unless Refused n step ≡ Refused 0 → step ≡ Refused 0
-unless-told zero step e = e
-unless-told (suc n) step e = cc
+staged-told : (n : ℕ) (b : Bool) (step : Step) → staged n b step ≡ Refused 0 → step ≡ Refused 0
+staged-told zero true step e = e
+staged-told zero false step e = let z : _≡_ {A = ℕ} 11 0 = cc in absurd (omega arith)
+staged-told (suc n) b step e = cc
 
 pub step-told : (s : List ℕ) (at : ℕ) → stepAt s at ≡ Refused 0 → ⊥
-unfolding stepAt
 step-told s at e =
-    data-told at (startAt s at) (sizeOf (codeAt s at)) (lengthAt s at) (drop (startAt s at) s)
-    (unless-told (nameRefusal (nameAt s at)) _ (unless-told (headerRefusal (codeAt s at) (sizeAt s at) (length s - at)) _ e))
+    data-told at (startAt s at) (elementSize (codeAt s at)) (lengthAt s at) (drop (startAt s at) s)
+    (staged-told (headerRefusal (codeAt s at) (sizeAt s at) (length s - at)) (bytesOk (nameAt s at)) _ (sym (by-stages s at) ∙ e))

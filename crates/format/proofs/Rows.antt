@@ -3,13 +3,17 @@ use Prim.Native.Nat.{ℕ, suc, _+_, _-_, _*_, _/_, _%_, _≤_}
 use native.Mathlib.Omega.{arith}
 use native.Mathlib.Nat.{div-add-mod', min-le-left}
 use mathlib.Core.Path.{_≡_, refl, ap, _∙_}
+use mathlib.Core.Bool.{false, true≢false}
 use mathlib.Core.List.{List, [], _∷_, _++_}
-use lib.ListN.{length, take, drop, length-append, length-take}
-use lib.Seq.{take-append-seam, drop-append-seam}
+use lib.Dec.{ltb}
+use lib.ListN.{length, take, drop, length-append, length-take, length-drop}
+use lib.Seq.{take-append-seam, drop-append-seam, length-take-le}
+use borrow.Author.Tests.{le-ltb, ltb-false}
+use Rattle.base.proofs.Tests.{by-test}
 use Rattle.table.specs.declared.Row.{Row}
 use Rattle.table.specs.Table.{noParent}
 use Rattle.format.specs.Forest.{Forest, end, known, unknown, count, nodes, encode, fileHeader, fileOf}
-use Rattle.format.specs.Rows.{nodeRow, rows, bodyOf, allOwnBytes}
+use Rattle.format.specs.Rows.{nodeRow, rows, bodyOf, outside, allOwnBytes}
 use Rattle.format.specs.Laws.{OwnBytesAddUp}
 use Rattle.format.proofs.Headers.{length-header, length-fileHeader}
 
@@ -25,6 +29,19 @@ part s a b c at e h =
 
 pub body-length : (s : List ℕ) (r : Row) → length (bodyOf s r) ≤ r .end - r .start
 body-length s r = rw (length-take (r .end - r .start) (drop (r .start) s)) (min-le-left _ _)
+
+-- a body that does not lie outside some bytes, and one of which the bytes have all
+pub not-outside : (size : ℕ) (r : Row) → outside size r ≡ false → (r .start ≤ r .end) × (r .end ≤ size)
+not-outside size r e =
+    by-test (ltb (r .end) (r .start))
+    (λ t. absurd (true≢false (rw t at e)))
+    (λ t. (ltb-false (r .end) (r .start) t, ltb-false size (r .end) (rw t at e)))
+
+pub is-inside : (size : ℕ) (r : Row) → (r .start ≤ r .end) × (r .end ≤ size) → outside size r ≡ false
+is-inside size r i = rw (le-ltb (r .end) (r .start) (i .0), le-ltb size (r .end) (i .1))
+
+pub length-body : (s : List ℕ) (r : Row) → r .end ≤ length s → length (bodyOf s r) ≡ r .end - r .start
+length-body s r h = length-take-le (r .end - r .start) (drop (r .start) s) (rw length-drop (omega (arith, h)))
 
 pub allOwnBytes-append : (xs ys : List Row) → allOwnBytes (xs ++ ys) ≡ allOwnBytes xs + allOwnBytes ys
 allOwnBytes-append [] ys = omega arith
@@ -42,7 +59,7 @@ length-rows (known k h p body kids next) parent row at =
     ))
 length-rows (unknown k h p c rest next) parent row at = ap suc (length-rows next parent (suc row) (at + 24 + length rest))
 
--- the rows of a first node of so many bytes, and of those next to it
+-- the rows of a first node of a given number of bytes, and of those next to it
 module _ (k h p : ℕ) (next : Forest) (parent row at s : ℕ) where
   pub rows-unknown : (c : ℕ) (rest : List ℕ) → 24 + length rest ≡ s
       → nodeRow k h parent (at + 24) (at + s) p c ∷ rows next parent (row + 1) (at + s) ≡ rows (unknown k h p c rest next) parent row at

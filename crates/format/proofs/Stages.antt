@@ -13,12 +13,13 @@ use Rattle.names.specs.Names.{sizeOk, byteOk, bytesOk}
 use Rattle.props.specs.declared.Size.{Size}
 use Rattle.props.specs.declared.Size.the-variants.{Bytes, Text, NoSuch}
 use Rattle.props.specs.declared.Cursor.{Cursor}
-use Rattle.props.specs.declared.Property.{Property as Parts}
+use Rattle.props.specs.declared.Offsets.{Offsets}
 use Rattle.props.specs.declared.Step.{Step}
 use Rattle.props.specs.declared.Step.the-variants.{Past, Refused}
-use Rattle.props.specs.Types.{sizeOf, noSuch}
-use Rattle.props.specs.Step.{headerRefusal, dataRefusal, toZero, fit, dataOf, past}
-use Rattle.props.proofs.Cases.{no-type, no-name, name-fits, fit-in, elements-fit}
+use Rattle.props.specs.Types.{elementSize, noSuch}
+use Rattle.props.specs.Step.{headerRefusal, dataRefusal, toZero}
+use Rattle.props.specs.Private.{fit, dataOf}
+use Rattle.props.proofs.Cases.{no-type, no-name, name-fits, fit-in, elements-fit, past}
 use Rattle.base.specs.Lists.{Each}
 use Rattle.format.specs.Layout.{NameByte, EndsInZero, Content}
 
@@ -92,7 +93,7 @@ module _ (at start : ℕ) where
   data-good Text n content rest h = rw (eq-eqb n 1 (h .0), zero-good content rest (h .1)) (fit-good content rest)
   data-good NoSuch n content rest h = absurd h
 
-  module _ {q : Parts} {next : Cursor} where
+  module _ {q : Offsets} {next : Cursor} where
     fit-sound : (n room : ℕ) → past at start (fit n room) ≡ Past q next → (n ≤ room) × (start + n ≡ next .at)
     fit-sound n room e =
         by-test (ltb room n) (λ t. let z : _≡_ {A = ℕ} 0 1 = cc (rw t at e) in absurd (omega arith))
@@ -134,7 +135,7 @@ type-good NoSuch n content h = absurd h
 pub header-sized : (code size room : ℕ) → headerRefusal code size room ≡ 0 → sizeOk size ≡ true
 header-sized code size room e =
     by-test (sizeOk size) (λ s. s)
-    (λ s. by-test (noSuch (sizeOf code)) (λ t. absurd (omega (arith, no-type code size room header t)))
+    (λ s. by-test (noSuch (elementSize code)) (λ t. absurd (omega (arith, no-type code size room header t)))
     (λ t. absurd (omega (arith, no-name code size room header t s))))
   where
     header : 8 ≤ room

@@ -44,7 +44,7 @@ same k s h p c k′ s′ h′ p′ c′ x y f g e = record {
 differ : {P : Type 0} (k k′ : ℕ) → isKnown k ≡ true → isKnown k′ ≡ false → k ≡ k′ → P
 differ k k′ e f h = absurd (true≢false (sym e ∙ ap isKnown h ∙ f))
 
--- the bytes of nodes with more behind them
+-- the bytes of nodes with more after them
 pub unique : (f g : Forest) (x y : List ℕ) → WellFormed f → WellFormed g → count f ≡ count g → encode f ++ x ≡ encode g ++ y → f ≡ g
 unique end end x y w v n e = refl
 unique end (known k h p b kids next) x y w v n e = absurd (omega (arith, n))
@@ -58,8 +58,8 @@ unique (unknown k h p c r next) (known k′ h′ p′ b kids next′) x y w v n 
 unique (known k h p b kids next) (known k′ h′ p′ b′ kids′ next′) x y w v n e =
     let s = same _ _ _ _ _ _ _ _ _ _ _ _ (w .1) (v .1) (simp append-assoc at e) in
     let bodies : b ≡ b′ = body-prefix p′ b b′ _ _ (subst (λ i. GoodBody i b) (s .properties) (w .3)) (v .3) (s .rest) in
-    let behind = cut b b′ _ _ (ap length bodies) (s .rest) .1 in
-    let below = cut (encode kids) (encode kids′) _ _ (omega (arith, s .size, ap length bodies)) behind in
+    let following = cut b b′ _ _ (ap length bodies) (s .rest) .1 in
+    let below = cut (encode kids) (encode kids′) _ _ (omega (arith, s .size, ap length bodies)) following in
     let kids-same : kids ≡ kids′ = unique kids kids′ [] [] (w .4) (v .4) (s .children) (simp append-nil (below .0)) in
     let next-same : next ≡ next′ = unique next next′ x y (w .5) (v .5) (omega (arith, n)) (below .1) in
     rw (s .kind, s .hash, s .properties, bodies, kids-same, next-same)

@@ -1,15 +1,17 @@
 -- Where the rows of a forest lie: their bodies within its bytes, one after the other; their parents among the rows.
 use Prim.Native.Nat.{ℕ, suc, _+_, _≤_, _<_}
 use native.Mathlib.Omega.{arith}
-use mathlib.Core.Path.{_≡_, refl, subst}
+use mathlib.Core.Path.{_≡_, refl, sym, subst, _∙_}
 use mathlib.Core.Logic.{_⊎_, inl, inr}
 use mathlib.Core.Bool.{Bool, true, false, cond}
-use mathlib.Core.List.{[]}
 use lib.ListN.{length, length-append}
 use Rattle.kinds.specs.declared.Parent.the-variants.{None}
-use Rattle.kinds.specs.Kinds.{bone, lines, lineIn, lineOf, standsAtTop, mayStand}
+use Rattle.kinds.specs.Kinds.{bone, parentsTable, parentsIn, parentsOf, standsAtTop, mayStand}
 use Rattle.table.specs.declared.Row.{Row}
+use Rattle.table.specs.declared.Which.{Which}
 use Rattle.table.specs.Table.{noParent}
+use Rattle.table.specs.Counts.{isCounted, countUnder}
+use Rattle.table.proofs.Counts.{counted-none}
 use Rattle.format.specs.Forest.{Forest, end, known, unknown, nodes, encode}
 use Rattle.format.specs.Rows.{rows}
 use Rattle.base.specs.Lists.{Each}
@@ -17,7 +19,7 @@ use Rattle.format.specs.Layout.{Placed}
 use Rattle.base.proofs.Lists.{each-append, each-map}
 use Rattle.format.proofs.Headers.{length-header}
 
--- a body lies between two places, behind its node's header
+-- a body lies between two places, after its node's header
 abbrev pub Lies : (from to : ℕ) → Row → Type 0
 Lies from to r = (from + 24 ≤ r .start) × (r .start ≤ r .end) × (r .end ≤ to)
 
@@ -70,9 +72,18 @@ rows-under (unknown k h p c rest next) parent row at =
     let n = nodes (unknown k h p c rest next) in
     (inl refl, each-map (under-in parent row n (suc row) (nodes next) (omega arith) (omega arith)) (rows next parent (suc row) there) (rows-under next parent (suc row) there))
 
+-- none of some nodes' rows is under a parent that is neither theirs nor one of them
+pub rows-none : (which : Which) (f : Forest) (parent row at p : ℕ) → (parent ≡ p → ⊥) → (row ≤ p → row + nodes f ≤ p)
+    → countUnder which (rows f parent row at) p ≡ 0
+rows-none which f parent row at p n o = counted-none which (rows f parent row at) p (each-map other (rows f parent row at) (rows-under f parent row at))
+  where
+    other : (r : Row) → Under parent row (nodes f) r → isCounted which r ≡ true → r .parent ≡ p → ⊥
+    other r (inl e) c h = n (sym e ∙ h)
+    other r (inr e) c h = omega (arith, e .0, e .1, h, o (omega (arith, e .0, h)))
+
 -- no Bone stands at the top, so that each has a parent among the rows
 not-top : (k : ℕ) → mayStand None k ≡ true → k ≡ bone → ⊥
-unfolding mayStand standsAtTop lineOf lineIn lines
+unfolding mayStand standsAtTop parentsOf parentsIn parentsTable
 not-top k h e = not-false (rw e at h)
   where
     not-false : false ≡ true → ⊥

@@ -12,7 +12,7 @@ use Rattle.kinds.specs.declared.Parent.the-variants.{Kind}
 use Rattle.kinds.specs.Kinds.{isKnown, mayStand}
 use Rattle.props.specs.declared.Size.{Size}
 use Rattle.props.specs.declared.Size.the-variants.{Bytes, Text, NoSuch}
-use Rattle.props.specs.Types.{sizeOf}
+use Rattle.props.specs.Types.{elementSize}
 use Rattle.format.specs.Forest.{Forest, end, known, unknown, count, nodes, encode}
 
 -- ---- one property
@@ -42,16 +42,16 @@ pub record EndsInZero (content : List ℕ) : Type 0 where
   pub nonzero : Each (λ b. b ≡ 0 → ⊥) text
   pub ends : content ≡ text ++ (0 ∷ [])
 
--- the data of so many elements: each of its type's size; of a string, "array length must be 1"
+-- the data of n elements: each of its type's size; of a string, "array length must be 1"
 abbrev pub Content : Size → ℕ → List ℕ → Type 0
 Content (Bytes w) n content = length content ≡ n * w
 Content Text n content = (n ≡ 1) × EndsInZero content
 Content NoSuch n content = ⊥
 
 abbrev pub GoodProperty : Property → Type 0
-GoodProperty p = (p .code < 256 ^ 2) × (p .elements < 256 ^ 4) × Name (p .name) × Content (sizeOf (p .code)) (p .elements) (p .content)
+GoodProperty p = (p .code < 256 ^ 2) × (p .elements < 256 ^ 4) × Name (p .name) × Content (elementSize (p .code)) (p .elements) (p .content)
 
--- ---- a known node's body: so many properties, not "over 64"
+-- ---- a known node's body: exactly its count of properties, not "over 64"
 
 pub record GoodBody (n : ℕ) (body : List ℕ) : Type 0 where
   pub properties : List Property

@@ -1,6 +1,8 @@
 -- The rows of a forest, and its charges.
 use Prim.Native.Nat.{ℕ, suc, _+_, _-_, _*_, _/_, _%_, _^_}
+use mathlib.Core.Bool.{Bool, _||_}
 use mathlib.Core.List.{List, [], _∷_, _++_}
+use lib.Dec.{ltb}
 use lib.ListN.{length, take, drop}
 use Rattle.table.specs.declared.Row.{Row}
 use Rattle.table.specs.Table.{noParent}
@@ -35,13 +37,18 @@ rows (unknown k h p c rest next) parent row at =
     nodeRow k h parent (at + 24) (at + 24 + length rest) p c
     ∷ rows next parent (suc row) (at + 24 + length rest)
 
--- of a file: the first header comes just behind the file's
+-- of a file: the first header comes just after the file's
 abbrev pub rowsOf : Forest → List Row
 rowsOf f = rows f noParent 0 16
 
 -- document 01's "body": the part of the file's bytes that a row tells of
 abbrev pub bodyOf : (s : List ℕ) → Row → List ℕ
 bodyOf s r = take (r .end - r .start) (drop (r .start) s)
+
+-- whether a row's body lies outside some bytes, of which only their number matters. 22: "body end before its start or past
+-- the source"; "41 and 42 as 22 and 23, over the bytes given"
+abbrev pub outside : (size : ℕ) → Row → Bool
+outside size r = ltb (r .end) (r .start) || ltb size (r .end)
 
 -- document 01's "own bytes" of a node: "24 plus, for a known node, the sizes of its properties, and for an unknown one its
 -- body". A known node's body is its properties, so that either is the body's length.

@@ -2,7 +2,7 @@
 // node's charge.
 ghost use mathlib.Core.Path.{_≡_};
 ghost use Prim.Native.Nat.{_<_};
-ghost use Rattle.format.specs.Rows.{ownBytes, bodyOf};
+ghost use Rattle.format.specs.Rows.{ownBytes, bodyOf, outside};
 
 // The first four bytes of a file, `63 61 73 74`, as a number.
 pub const FIRST_FOUR: u32 = 0x74736163;
@@ -41,4 +41,13 @@ pub fn body_of(file: &[u8], row: table::Row) -> &[u8]
         return &file[start..];
     }
     &file[start..end]
+}
+
+// Whether the body of the node in a row lies outside a given number of bytes: it ends before its start, or past them.
+pub fn is_outside(size: usize, row: table::Row) -> bool
+    ensures { λ r. ⌜ r ≡ outside size row ⌝ }
+{
+    let start = row.start as usize;
+    let end = row.end as usize;
+    (end < start) | (size < end)
 }

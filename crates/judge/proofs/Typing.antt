@@ -67,7 +67,7 @@ module _ (starts : List ℕ) (i : ℕ) (h : i < length starts) where
     keys-more keys k t =
         ap (λ n. take n (set keys i v)) (add-one i) ∙ take-suc-set keys i v k ∙ rw (t, e) (sym (one-more f))
 
--- what those from a place on say, behind those before
+-- what those from a place on say, after those before
 abbrev typedFrom : List Line → (s starts : List ℕ) (i : ℕ) → Refusal
 typedFrom ls s starts i = typed ls s (take i starts) (drop i starts)
 

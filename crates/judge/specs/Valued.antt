@@ -44,7 +44,7 @@ parentOk (negsuc zero) bones = true
 parentOk (negsuc (suc n)) bones = false
 
 -- "f has a length divisible by 3 (three values a face) and each value below V". A length fault comes before an element fault,
--- and of elements the first bad one is told; both lie at the property, so no answer shows which it is.
+-- and of elements the first bad one is reported; both lie at the property, so no answer shows which it is.
 abbrev pub byValues : Values → Fault
 byValues Below = Right
 byValues (Past k) = Element k

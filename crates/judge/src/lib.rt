@@ -69,7 +69,7 @@ fn judge_at(
 }
 
 // Judges a node by its kind, its property count, its body and the number of Bones beside it. Judged are the properties that
-// a walk over so many passes: all, of a body that is exactly so many, and none where they are over 64.
+// a walk over that count passes: all, of a body that is exactly that many, and none where they are over 64.
 pub fn judge(kind: u32, count: u32, body: &[u8], bones: u32) -> Judged
     ensures result { λ r. ⌜ r ≡ judged kind count (now (body .entry)) bones ⌝ }
     ensures bounds { λ r. ⌜ Bounded r (length (now (body .entry))) ⌝ }

@@ -1,4 +1,4 @@
--- The search through the lines agrees with document 01's lists. Lines and pairs are looked at once, by computation; no proof
+-- The search through the table agrees with document 01's lists. The table and the pairs are looked at once, by computation; no proof
 -- goes by cases over the kinds.
 use Prim.Native.Nat.{ℕ}
 use mathlib.Core.Path.{_≡_, refl, sym, _∙_, subst}
@@ -7,38 +7,45 @@ use mathlib.Core.Bool.{Bool, true, false, cond, _&&_, _||_, true≢false, false�
 use mathlib.Core.List.{List, [], _∷_, map}
 use lib.Dec.{eqb}
 use borrow.Author.Tests.{eqb-true, eq-eqb}
-use Rattle.kinds.specs.declared.Line.{Line}
-use Rattle.kinds.specs.declared.Listed.{Listed}
-use Rattle.kinds.specs.declared.Listed.the-variants.{At, Unknown}
+use Rattle.kinds.specs.declared.Parents.{Parents}
+use Rattle.kinds.specs.declared.Parents.the-variants.{Top, Under, UnderEither, Unknown}
 use Rattle.kinds.specs.declared.Parent.the-variants.{None, Kind}
-use Rattle.kinds.specs.Kinds.{root, lines, lineIn, lineOf, isListed, isKnown, underBy, standsAtTop, standsUnder, mayStand}
-use Rattle.base.specs.Lists.{Some}
+use Rattle.kinds.specs.Kinds.{root, parentsTable, parentsIn, parentsOf, isListed, isKnown, underBy, standsAtTop, standsUnder, mayStand}
+use Rattle.base.specs.Lists.{Each, Some}
 use Rattle.kinds.specs.Statements.{sixteen, IsOneOfSixteen, KnownExactly, UnknownExactly, parents, IsParent, StandsExactly}
-use Rattle.kinds.proofs.Related.{right, rightLine, allRight, related}
+use Rattle.kinds.proofs.Related.{right, allRight, related}
 use Rattle.kinds.proofs.Tops.{top-root}
 
 -- ---- kinds
 
-kinds : List Line → List ℕ
-kinds ls = map (λ l. l .kind) ls
+kinds : List (ℕ × Parents) → List ℕ
+kinds xs = map (λ x. x .0) xs
 
-the-sixteen : kinds lines ≡ sixteen
-unfolding lines kinds
+the-sixteen : kinds parentsTable ≡ sixteen
+unfolding parentsTable kinds
 the-sixteen = refl
 
-listed : (ls : List Line) (k : ℕ) → (isListed (lineIn ls k) ≡ true) ↔ Some (λ x. k ≡ x) (kinds ls)
-unfolding lineIn kinds
-listed [] k = (λ e. false≢true e, λ x. absurd x)
-listed (l ∷ ls) k = by (eqb (l .kind) k) refl (listed ls k)
+-- each of a list has its parents
+abbrev AllListed : List (ℕ × Parents) → Type 0
+AllListed xs = Each (λ x. isListed (x .1) ≡ true) xs
+
+listed : (xs : List (ℕ × Parents)) → AllListed xs → (k : ℕ) → (isListed (parentsIn xs k) ≡ true) ↔ Some (λ x. k ≡ x) (kinds xs)
+unfolding parentsIn kinds
+listed [] a k = (λ e. false≢true e, λ x. absurd x)
+listed (x ∷ xs) a k = by (eqb (x .0) k) refl (listed xs (a .1) k)
   where
-    by : (b : Bool) → eqb (l .kind) k ≡ b → (isListed (lineIn ls k) ≡ true) ↔ Some (λ x. k ≡ x) (kinds ls)
-        → (isListed (cond b (At l) (lineIn ls k)) ≡ true) ↔ (k ≡ l .kind) ⊎ Some (λ x. k ≡ x) (kinds ls)
-    by true h ih = (λ e. inl (sym (eqb-true _ _ h)), λ s. refl)
+    by : (b : Bool) → eqb (x .0) k ≡ b → (isListed (parentsIn xs k) ≡ true) ↔ Some (λ y. k ≡ y) (kinds xs)
+        → (isListed (cond b (x .1) (parentsIn xs k)) ≡ true) ↔ (k ≡ x .0) ⊎ Some (λ y. k ≡ y) (kinds xs)
+    by true h ih = (λ e. inl (sym (eqb-true _ _ h)), λ s. a .0)
     by false h ih = (λ e. inr (ih .0 e), ⊎-elim (λ e. absurd (true≢false (sym (eq-eqb _ _ (sym e)) ∙ h))) (ih .1))
 
+all-listed : AllListed parentsTable
+unfolding parentsTable
+all-listed = (refl, (refl, (refl, (refl, (refl, (refl, (refl, (refl, (refl, (refl, (refl, (refl, (refl, (refl, (refl, (refl, tt))))))))))))))))
+
 pub knownExactly : KnownExactly
-unfolding isKnown lineOf
-knownExactly k = subst (λ xs. (isListed (lineIn lines k) ≡ true) ↔ Some (λ x. k ≡ x) xs) the-sixteen (listed lines k)
+unfolding isKnown parentsOf
+knownExactly k = subst (λ xs. (isListed (parentsIn parentsTable k) ≡ true) ↔ Some (λ x. k ≡ x) xs) the-sixteen (listed parentsTable all-listed k)
 
 pub unknownExactly : UnknownExactly
 unknownExactly k = by (isKnown k) (knownExactly k)
@@ -65,9 +72,9 @@ pairs (x ∷ xs) p k = by (eqb (x .1) k) (eqb p (x .0)) refl refl (pairs xs p k)
     by true false f g ih = (λ e. inr (ih .0 e), ⊎-elim (λ e. absurd (true≢false (sym (eq-eqb _ _ (e .0)) ∙ g))) (ih .1))
     by false c f g ih = (λ e. inr (ih .0 e), ⊎-elim (λ e. absurd (true≢false (sym (eq-eqb _ _ (sym (e .1))) ∙ f))) (ih .1))
 
--- what stands under a known kind does so by a pair: computed once over the lines
-all-pairs : allRight (isPair parents) lines ≡ true
-unfolding lines allRight rightLine right isPair
+-- what stands under a known kind does so by a pair: computed once over the table
+all-pairs : allRight (isPair parents) parentsTable ≡ true
+unfolding parentsTable allRight right isPair
 all-pairs = refl
 
 -- and the kind of each pair is known, and stands there: computed once over the pairs
@@ -76,7 +83,7 @@ allStand [] = true
 allStand (x ∷ xs) = (isKnown (x .1) && standsUnder (x .0) (x .1)) && allStand xs
 
 all-stand : allStand parents ≡ true
-unfolding allStand isKnown standsUnder lineOf lineIn lines
+unfolding allStand isKnown standsUnder parentsOf parentsIn parentsTable
 all-stand = refl
 
 pair-stands : (xs : List (ℕ × ℕ)) → allStand xs ≡ true → (p k : ℕ) → Some (λ pair. (p ≡ pair .0) × (k ≡ pair .1)) xs
@@ -90,15 +97,17 @@ parent-stands : (p k : ℕ) → IsParent p k → (isKnown k ≡ true) × (stands
 parent-stands p k s = and-eq-true-iff (isKnown k) (standsUnder p k) .0 (pair-stands parents all-stand p k s)
 
 unknown-under : (p k : ℕ) → isKnown k ≡ false → standsUnder p k ≡ isKnown p
-unfolding isKnown standsUnder lineOf
-unknown-under p k e = by (lineIn lines k) e
+unfolding isKnown standsUnder parentsOf
+unknown-under p k e = by (parentsIn parentsTable k) e
   where
-    by : (l : Listed) → isListed l ≡ false → underBy p l ≡ isKnown p
-    by (At l) e = absurd (true≢false e)
+    by : (ps : Parents) → isListed ps ≡ false → underBy p ps ≡ isKnown p
+    by Top e = absurd (true≢false e)
+    by (Under q) e = absurd (true≢false e)
+    by (UnderEither q r) e = absurd (true≢false e)
     by Unknown e = refl
 
 root-stands : mayStand None root ≡ true
-unfolding mayStand standsAtTop lineOf lineIn lines
+unfolding mayStand standsAtTop parentsOf parentsIn parentsTable
 root-stands = refl
 
 pub standsExactly : StandsExactly

@@ -1,6 +1,6 @@
 // The kinds of nodes: which are known, and which may stand under which.
 ghost use mathlib.Core.Path.{_≡_};
-ghost use Rattle.kinds.specs.Kinds.{lineFrom, lineOf, isKnown, standsAtTop, standsUnder, mayStand};
+ghost use Rattle.kinds.specs.Kinds.{parentsOf, isKnown, standsAtTop, standsUnder, mayStand};
 
 // The sixteen known kinds.
 pub const ROOT: u32 = 0x746F6F72;
@@ -35,75 +35,37 @@ pub const INSTANCE: u32 = 0x74736E69;
 
 pub const METADATA: u32 = 0x6174656D;
 
-// A kind, how many kinds it may stand under, and which.
-const LINES: [[u32; 4]; 16] = [
-    [ROOT, 0, 0, 0], // Root at the top
-    [MODEL, 1, ROOT, 0], // Model under Root
-    [MESH, 1, MODEL, 0], // Mesh under Model
-    [BLEND_SHAPE, 1, MODEL, 0], // BlendShape under Model
-    [SKELETON, 1, MODEL, 0], // Skeleton under Model
-    [BONE, 1, SKELETON, 0], // Bone under Skeleton
-    [IK_HANDLE, 1, SKELETON, 0], // IKHandle under Skeleton
-    [CONSTRAINT, 1, SKELETON, 0], // Constraint under Skeleton
-    [ANIMATION, 1, ROOT, 0], // Animation under Root
-    [CURVE, 1, ANIMATION, 0], // Curve under Animation
-    [CURVE_MODE_OVERRIDE, 1, ANIMATION, 0], // CurveModeOverride under Animation
-    [NOTIFICATION_TRACK, 1, ANIMATION, 0], // NotificationTrack under Animation
-    [MATERIAL, 1, MODEL, 0], // Material under Model
-    [FILE, 2, MATERIAL, INSTANCE], // File under Material or Instance
-    [INSTANCE, 1, ROOT, 0], // Instance under Root
-    [METADATA, 1, ROOT, 0], // Metadata under Root
-];
-
-struct Line {
-    kind: u32,
-    count: u32,
-    first: u32,
-    second: u32,
-}
-
-// The line of a kind, or that the kind is unknown.
-enum Listed {
-    At(Line),
+// The parents of a kind: none, at the top; one kind; either of two; or the kind is unknown.
+enum Parents {
+    Top,
+    Under(u32),
+    UnderEither(u32, u32),
     Unknown,
 }
 
-// A line from its row of the table.
-fn line_from(row: [u32; 4]) -> Line
-    ensures { λ r. ⌜ r ≡ lineFrom row ⌝ }
+fn parents_of(kind: u32) -> Parents
+    ensures { λ r. ⌜ r ≡ parentsOf kind ⌝ }
 {
-    Line {
-        kind: row[0],
-        count: row[1],
-        first: row[2],
-        second: row[3],
+    match kind {
+        ROOT => Parents::Top,
+        MODEL | ANIMATION | INSTANCE | METADATA => Parents::Under(ROOT),
+        MESH | BLEND_SHAPE | SKELETON | MATERIAL => Parents::Under(MODEL),
+        BONE | IK_HANDLE | CONSTRAINT => Parents::Under(SKELETON),
+        CURVE | CURVE_MODE_OVERRIDE | NOTIFICATION_TRACK => Parents::Under(ANIMATION),
+        FILE => Parents::UnderEither(MATERIAL, INSTANCE),
+        _ => Parents::Unknown,
     }
-}
-
-fn line_of(kind: u32) -> Listed
-    ensures { λ r. ⌜ r ≡ lineOf kind ⌝ }
-{
-    // The table is written out where it is read: once, and not for each line.
-    let lines = LINES;
-    let mut i: usize = 0;
-    while i < 16 {
-        let row = lines[i];
-        let line = line_from(row);
-        if line.kind == kind {
-            return Listed::At(line);
-        }
-        i += 1;
-    }
-    Listed::Unknown
 }
 
 // Whether a kind is one of the sixteen.
 pub fn known(kind: u32) -> bool
     ensures { λ r. ⌜ r ≡ isKnown kind ⌝ }
 {
-    match line_of(kind) {
-        Listed::At(_) => true,
-        Listed::Unknown => false,
+    match parents_of(kind) {
+        Parents::Top => true,
+        Parents::Under(_) => true,
+        Parents::UnderEither(_, _) => true,
+        Parents::Unknown => false,
     }
 }
 
@@ -116,26 +78,22 @@ pub enum Parent {
 fn stands_at_top(kind: u32) -> bool
     ensures { λ r. ⌜ r ≡ standsAtTop kind ⌝ }
 {
-    match line_of(kind) {
-        Listed::At(line) => {
-            let count = line.count;
-            count == 0
-        }
-        Listed::Unknown => false,
+    match parents_of(kind) {
+        Parents::Top => true,
+        Parents::Under(_) => false,
+        Parents::UnderEither(_, _) => false,
+        Parents::Unknown => false,
     }
 }
 
 fn stands_under(parent: u32, kind: u32) -> bool
     ensures { λ r. ⌜ r ≡ standsUnder parent kind ⌝ }
 {
-    match line_of(kind) {
-        Listed::At(line) => {
-            let count = line.count;
-            let first = line.first;
-            let second = line.second;
-            ((1 <= count) & (parent == first)) | ((2 <= count) & (parent == second))
-        }
-        Listed::Unknown => known(parent),
+    match parents_of(kind) {
+        Parents::Top => false,
+        Parents::Under(only) => parent == only,
+        Parents::UnderEither(first, second) => (parent == first) | (parent == second),
+        Parents::Unknown => known(parent),
     }
 }
 

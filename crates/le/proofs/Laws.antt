@@ -55,7 +55,7 @@ length-rest l at = rw (rest-drop l at) (length-drop at l)
 pub drop-rest : (l : List ℕ) (at k : ℕ) → drop k (rest l at) ≡ drop (at + k) l
 drop-rest l at k = rw (rest-drop l at) (drop-drop k at l)
 
--- a part, and what is behind it
+-- a part, and what is after it
 pub part-front : (w : ℕ) (l : List ℕ) (at next : ℕ) → at + w ≡ next → take w (drop at l) ++ drop next l ≡ drop at l
 part-front w l at next e = rw (← e, ← (drop-drop w at l)) (take-append-drop w (drop at l))
 

@@ -25,7 +25,7 @@ put-halves w l at x {first} {both} e f =
     let none : drop (length l - at) (drop at l) ≡ [] = drop-of-length-le (drop at l) {i = length l - at} (simp length-drop (omega arith)) in
     rw (stored, none, append-nil) (sets-rest at (le (w + w) x) l 0 ∙ ap (λ k. sets l k (le (w + w) x)) (add-zero at))
 
--- so many bytes stored into the part from a place on, all of them or as many as have room
+-- n bytes stored into the part from a place on, all of them or as many as have room
 pub put-part : (l : List ℕ) (at : ℕ) (bytes : List ℕ) (n : ℕ) → (n ≡ length bytes) ⊎ (n ≡ length (rest l at)) → {both : List ℕ} → both ≡ sets (rest l at) 0 (take n bytes)
     → putMid at (length l - at) l both ≡ sets l at bytes
 put-part l at bytes n h {both} e =

@@ -6,7 +6,7 @@ ghost use Rattle.le.specs.Le.{numberAt, le};
 ghost use lib.ListN.{length, take};
 
 // A byte, or zero past the end.
-fn byte(bytes: &[u8], at: usize) -> u8
+fn byte_at(bytes: &[u8], at: usize) -> u8
     ensures { λ r. ⌜ r ≡ numberAt 1 (now (bytes .entry)) at ⌝ }
 {
     if at < bytes.len() { bytes[at] } else { 0 }
@@ -38,8 +38,8 @@ pub fn u16_at(bytes: &[u8], at: usize) -> u16
         return 0;
     }
     let rest = &bytes[at..];
-    let low = wide16(byte(rest, 0));
-    let high = wide16(byte(rest, 1));
+    let low = wide16(byte_at(rest, 0));
+    let high = wide16(byte_at(rest, 1));
     low + 256 * high
 }
 

@@ -1,4 +1,4 @@
--- Laws of texts that are put one behind the other, and of a row's parent.
+-- Laws of texts that are put one after the other, and of a row's parent.
 use Prim.Native.Nat.{ℕ, _+_, _≤_}
 use native.Mathlib.Omega.{arith}
 use mathlib.Core.Path.{_≡_, refl, ap, sym, _∙_, subst}
@@ -7,23 +7,23 @@ use lib.ListN.{length, length-append}
 use lib.Seq.{sets, length-sets}
 use borrow.Author.Tests.{eq-eqb, ne-eqb}
 use Rattle.base.proofs.Stores.{sets-append}
-use Rattle.text.specs.Text.{behind, written, decimal}
-use Rattle.text.proofs.Laws.{behind-put, written-put}
+use Rattle.text.specs.Text.{placeAfter, withText, decimal}
+use Rattle.text.proofs.Laws.{after-put, written-put}
 use Rattle.table.specs.Table.{noParent}
 use Rattle.base.specs.Letters.{letters}
 use Rattle.listing.specs.Listing.{parentText}
-use Rattle.listing.specs.Contract.{Puts}
+use Rattle.listing.specs.Private.{Puts}
 
 module _ (out : List ℕ) (at : ℕ) where
   pub front : (t u : List ℕ) → at + length (t ++ u) ≤ length out → at + length t ≤ length out
   front t u h = omega (arith, length-append t u)
 
-  pub puts-first : (t : List ℕ) {r : ℕ} {last : List ℕ} → at + length t ≤ length out → (r ≡ behind out at t) × (last ≡ written out at t) → Puts out at t r last
-  puts-first t h p = record { place = p .0 ∙ behind-put out at t h; stored = p .1 ∙ written-put out at t h }
+  pub puts-first : (t : List ℕ) {r : ℕ} {last : List ℕ} → at + length t ≤ length out → (r ≡ placeAfter out at t) × (last ≡ withText out at t) → Puts out at t r last
+  puts-first t h p = record { place = p .0 ∙ after-put out at t h; stored = p .1 ∙ written-put out at t h }
 
-  -- what has room behind a text that was put
-  pub room-behind : (t u : List ℕ) {r : ℕ} {l : List ℕ} → at + length (t ++ u) ≤ length out → Puts out at t r l → r + length u ≤ length l
-  room-behind t u {r} {l} h p = omega (arith, length-append t u, ap length (p .stored) ∙ length-sets out at t, p .place)
+  -- what has room after a text that was put
+  pub room-after : (t u : List ℕ) {r : ℕ} {l : List ℕ} → at + length (t ++ u) ≤ length out → Puts out at t r l → r + length u ≤ length l
+  room-after t u {r} {l} h p = omega (arith, length-append t u, ap length (p .stored) ∙ length-sets out at t, p .place)
 
   pub puts-both : (t u : List ℕ) {r r' : ℕ} {l l' : List ℕ} → Puts out at t r l → Puts l r u r' l' → Puts out at (t ++ u) r' l'
   puts-both t u {r} {r'} {l} {l'} p q =
@@ -33,14 +33,14 @@ module _ (out : List ℕ) (at : ℕ) where
         stored = same ∙ sym (sets-append out at t u);
       }
 
--- a text put behind another
+-- a text put after another
 pub puts-then : (out : List ℕ) (at : ℕ) (t u : List ℕ) {r r' : ℕ} {l l' : List ℕ} → at + length (t ++ u) ≤ length out → Puts out at t r l
-    → (r' ≡ behind l r u) × (l' ≡ written l r u) → Puts out at (t ++ u) r' l'
-puts-then out at t u {r} {r'} {l} {l'} h p q = puts-both out at t u p (puts-first l r u (room-behind out at t u h p) q)
+    → (r' ≡ placeAfter l r u) × (l' ≡ withText l r u) → Puts out at (t ++ u) r' l'
+puts-then out at t u {r} {r'} {l} {l'} h p q = puts-both out at t u p (puts-first l r u (room-after out at t u h p) q)
 
 -- a text that has room and was put is what the buffer holds
-pub puts-written : (out : List ℕ) (at : ℕ) (t : List ℕ) {r : ℕ} {last : List ℕ} → at + length t ≤ length out → Puts out at t r last → (r ≡ behind out at t) × (last ≡ written out at t)
-puts-written out at t h p = (p .place ∙ sym (behind-put out at t h), p .stored ∙ sym (written-put out at t h))
+pub puts-written : (out : List ℕ) (at : ℕ) (t : List ℕ) {r : ℕ} {last : List ℕ} → at + length t ≤ length out → Puts out at t r last → (r ≡ placeAfter out at t) × (last ≡ withText out at t)
+puts-written out at t h p = (p .place ∙ sym (after-put out at t h), p .stored ∙ sym (written-put out at t h))
 
 -- of a whole text what comes before the later part was put
 pub record Passed (out : List ℕ) (at : ℕ) (whole later : List ℕ) (next : ℕ) (last : List ℕ) : Type 0 where

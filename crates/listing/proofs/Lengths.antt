@@ -9,8 +9,8 @@ use Rattle.table.specs.declared.Row.{Row}
 use Rattle.base.specs.Letters.{letters}
 use Rattle.faces.specs.declared.Faces.{Faces as FaceCount}
 use Rattle.format.specs.Rows.{ownBytes}
-use Rattle.listing.specs.declared.Line.{Line}
-use Rattle.listing.specs.declared.Line.the-variants.{Summary, Node, FileHeader, Faces, Total, Refusal, TooLong}
+use Rattle.listing.specs.declared.TextLine.{TextLine}
+use Rattle.listing.specs.declared.TextLine.the-variants.{Summary, Node, FileHeader, Faces, Total, Refusal, TooLong}
 use Rattle.listing.specs.Listing.{parentText, textOf, wordsOf}
 
 pub summary-length : (flags nodes bytes : ℕ) → length (textOf (Summary flags nodes bytes)) ≡ 28 + decimalSize flags + decimalSize nodes + decimalSize bytes
@@ -42,5 +42,5 @@ unfolding wordsOf textOf letters
 too-long-length = refl
 
 -- a line's length, where it is told which line it is
-pub told : {l k : Line} {n : ℕ} → l ≡ k → length (textOf k) ≡ n → n ≤ 92 → (n ≡ length (textOf l)) × (n ≤ 92)
+pub told : {l k : TextLine} {n : ℕ} → l ≡ k → length (textOf k) ≡ n → n ≤ 92 → (n ≡ length (textOf l)) × (n ≤ 92)
 told e p q = (sym p ∙ ap (λ z. length (textOf z)) (sym e), q)

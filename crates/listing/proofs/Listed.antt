@@ -15,7 +15,7 @@ use Rattle.reader.specs.Acceptance.{IsValid, RowsGive}
 use Rattle.reader.proofs.Charges.{own-split}
 use Rattle.reader.proofs.Exactly.{valid-gives}
 use Rattle.reader.proofs.Accepted.{seen, rows-are}
-use Rattle.listing.specs.declared.Line.the-variants.{Refusal, TooLong}
+use Rattle.listing.specs.declared.TextLine.the-variants.{Refusal, TooLong}
 use Rattle.listing.specs.Listing.{textOf, totalOf, fileLines, printed, listingOf}
 use Rattle.listing.proofs.Whole.{printed-one}
 

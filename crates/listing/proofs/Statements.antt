@@ -18,8 +18,8 @@ use Rattle.reader.specs.declared.Account.{Account}
 use Rattle.reader.specs.declared.Reading.{Reading}
 use Rattle.reader.specs.declared.Reading.the-variants.{Accepted, Refused}
 use Rattle.reader.specs.Reading.{verdict}
-use Rattle.listing.specs.declared.Line.{Line}
-use Rattle.listing.specs.declared.Line.the-variants.{Summary, Node, FileHeader, Faces, Total, Refusal, TooLong}
+use Rattle.listing.specs.declared.TextLine.{TextLine}
+use Rattle.listing.specs.declared.TextLine.the-variants.{Summary, Node, FileHeader, Faces, Total, Refusal, TooLong}
 use Rattle.listing.specs.Listing.{parentText, textOf, nodeLines, footLines, fileLines, printed, totalOf, listingOf}
 use Rattle.listing.specs.Statements.{NoLonger, AddsUp}
 use Rattle.listing.proofs.Laws.{parent-none, parent-some}
@@ -36,7 +36,7 @@ parent-short p =
     (λ e. omega (arith, ap length (parent-some p (eqb-false p noParent e)) ∙ length-digits 10 (decimalSize p) p, size-few p))
 
 -- no line has more than 92 bytes
-line-short : (l : Line) → length (textOf l) ≤ 92
+line-short : (l : TextLine) → length (textOf l) ≤ 92
 line-short (Summary flags nodes bytes) = omega (arith, summary-length flags nodes bytes, size-few flags, size-few nodes, size-few bytes)
 line-short (Node index row) = omega (arith, node-length index row, size-few index, parent-short (row .parent), size-few (ownBytes row))
 line-short FileHeader = omega (arith, header-length)
@@ -45,7 +45,7 @@ line-short (Total bytes) = omega (arith, total-length bytes, size-few bytes)
 line-short (Refusal number place) = omega (arith, refusal-length number place, size-few number, size-few place)
 line-short TooLong = omega (arith, too-long-length)
 
-lines-short : (ls : List Line) → length (printed ls) ≤ 92 * length ls
+lines-short : (ls : List TextLine) → length (printed ls) ≤ 92 * length ls
 lines-short [] = omega (arith, ap length printed-none)
 lines-short (l ∷ ls) = omega (arith, ap length (printed-more l ls) ∙ length-append (textOf l) (printed ls), line-short l, lines-short ls)
 

@@ -11,22 +11,22 @@ use Rattle.faces.specs.declared.Faces.{Faces as FaceCount}
 use Rattle.reader.specs.declared.Account.{Account}
 use Rattle.reader.specs.declared.Reading.the-variants.{Accepted}
 use Rattle.table.proofs.Rests.{rest, rest-all, rest-more, rest-none}
-use Rattle.listing.specs.declared.Line.{Line}
-use Rattle.listing.specs.declared.Line.the-variants.{Summary, Node, FileHeader, Faces, Total}
+use Rattle.listing.specs.declared.TextLine.{TextLine}
+use Rattle.listing.specs.declared.TextLine.the-variants.{Summary, Node, FileHeader, Faces, Total}
 use Rattle.listing.specs.Listing.{textOf, nodeLines, footLines, totalOf, fileLines, printed}
 
 pub printed-none : printed [] ≡ []
 unfolding printed flatMap
 printed-none = refl
 
-pub printed-more : (l : Line) (ls : List Line) → printed (l ∷ ls) ≡ textOf l ++ printed ls
+pub printed-more : (l : TextLine) (ls : List TextLine) → printed (l ∷ ls) ≡ textOf l ++ printed ls
 unfolding printed flatMap
 printed-more l ls = refl
 
-pub printed-one : (l : Line) → printed (l ∷ []) ≡ textOf l
+pub printed-one : (l : TextLine) → printed (l ∷ []) ≡ textOf l
 printed-one l = printed-more l [] ∙ ap (λ z. textOf l ++ z) printed-none ∙ append-nil (textOf l)
 
-printed-append : (ks ls : List Line) → printed (ks ++ ls) ≡ printed ks ++ printed ls
+printed-append : (ks ls : List TextLine) → printed (ks ++ ls) ≡ printed ks ++ printed ls
 unfolding printed flatMap
 printed-append [] ls = refl
 printed-append (k ∷ ks) ls = ap (λ z. textOf k ++ z) (printed-append ks ls) ∙ sym (append-assoc (textOf k) (printed ks) (printed ls))
@@ -67,10 +67,10 @@ foot-length faces degenerate total =
 
 -- ---- the parts of an accepted file's listing
 module _ (bytes : ℕ) (a : Account) (rows : List Row) where
-  abbrev pub summaryOf : Line
+  abbrev pub summaryOf : TextLine
   summaryOf = Summary (a .flags) (a .nodes) bytes
 
-  abbrev pub footOf : List Line
+  abbrev pub footOf : List TextLine
   footOf = footLines (a .faces) (a .degenerate) (totalOf a)
 
   pub file-parts : printed (fileLines bytes (Accepted a) rows) ≡ textOf summaryOf ++ (printed (nodeLines 0 rows) ++ printed footOf)

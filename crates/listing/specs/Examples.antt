@@ -5,8 +5,8 @@ use mathlib.Core.List.{[], _∷_, _++_, map}
 use Rattle.table.specs.declared.Row.{Row}
 use Rattle.table.specs.Table.{noParent}
 use Rattle.base.specs.Letters.{letters}
-use Rattle.text.specs.Text.{glyph, digits, sizeIn}
-use Rattle.listing.specs.declared.Line.the-variants.{Summary, Node, FileHeader, Faces, Total, Refusal, TooLong}
+use Rattle.text.specs.Text.{glyph, digits, digitCount}
+use Rattle.listing.specs.declared.TextLine.the-variants.{Summary, Node, FileHeader, Faces, Total, Refusal, TooLong}
 use Rattle.listing.specs.Listing.{parentText, wordsOf, newline, textOf}
 
 row : (kind parent start end : ℕ) → Row
@@ -34,5 +34,5 @@ lines : map textOf (
     "refused 12 at 40" ∷
     "too long" ∷ []
     )
-unfolding row glyph digits sizeIn letters parentText wordsOf textOf
+unfolding row glyph digits digitCount letters parentText wordsOf textOf
 lines = refl

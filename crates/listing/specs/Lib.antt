@@ -1,4 +1,4 @@
 pub mod Listing
-pub mod Contract
 pub mod Statements
 pub mod Examples
+pub mod Private

@@ -16,20 +16,20 @@ use Rattle.reader.specs.declared.Account.{Account}
 use Rattle.reader.specs.declared.Reading.{Reading}
 use Rattle.reader.specs.declared.Reading.the-variants.{Accepted, Refused}
 use Rattle.reader.specs.Reading.{verdict}
-use Rattle.listing.specs.declared.Line.{Line}
-use Rattle.listing.specs.declared.Line.the-variants.{Summary, Node, FileHeader, Faces, Total, Refusal, TooLong}
+use Rattle.listing.specs.declared.TextLine.{TextLine}
+use Rattle.listing.specs.declared.TextLine.the-variants.{Summary, Node, FileHeader, Faces, Total, Refusal, TooLong}
 use Rattle.text.specs.Text.{decimal, hexadecimal}
 
 -- a row's parent, `-` for none
 unfoldable pub parentText : ℕ → List ℕ
 parentText p = cond (eqb p noParent) (letters "-") (decimal p)
 
--- a label, and behind it a number in decimal
+-- a label, and after it a number in decimal
 abbrev pub labelled : String → ℕ → List ℕ
 labelled label n = letters label ++ decimal n
 
 -- what a line says: kinds are eight capital hexadecimal digits, all other numbers are decimal; the 1 is the file's version
-unfoldable pub wordsOf : Line → List ℕ
+unfoldable pub wordsOf : TextLine → List ℕ
 wordsOf (Summary flags nodes bytes) = labelled "cast 1 flags " flags ++ labelled " nodes " nodes ++ labelled " bytes " bytes
 wordsOf (Node index row) =
     labelled "row " index
@@ -46,30 +46,30 @@ wordsOf TooLong = letters "too long"
 abbrev pub newline : List ℕ
 newline = 10 ∷ []
 
-unfoldable pub textOf : Line → List ℕ
+unfoldable pub textOf : TextLine → List ℕ
 textOf l = wordsOf l ++ newline
 
 -- the lines of rows, the first one's number given
-unfoldable pub nodeLines : ℕ → List Row → List Line
+unfoldable pub nodeLines : ℕ → List Row → List TextLine
 nodeLines i [] = []
 nodeLines i (r ∷ rs) = Node i r ∷ nodeLines (suc i) rs
 
--- the lines behind them
-abbrev pub footLines : FaceCount → (degenerate total : ℕ) → List Line
+-- the lines after them
+abbrev pub footLines : FaceCount → (degenerate total : ℕ) → List TextLine
 footLines faces degenerate total = FileHeader ∷ Faces faces degenerate ∷ Total total ∷ []
 
 -- the `total` of the listing: the file header's bytes and all nodes' own
 abbrev pub totalOf : Account → ℕ
 totalOf a = 16 + (a .known .0 + a .unknown .0)
 
--- the lines of a file of so many bytes, by its reading and its rows
-unfoldable pub fileLines : (bytes : ℕ) → Reading → List Row → List Line
+-- the lines of a file of this length, by its reading and its rows
+unfoldable pub fileLines : (bytes : ℕ) → Reading → List Row → List TextLine
 fileLines bytes (Accepted a) rows =
     (Summary (a .flags) (a .nodes) bytes ∷ nodeLines 0 rows) ++ footLines (a .faces) (a .degenerate) (totalOf a)
 fileLines bytes (Refused number place) rows = Refusal number place ∷ []
 
 -- what is printed of lines
-unfoldable pub printed : List Line → List ℕ
+unfoldable pub printed : List TextLine → List ℕ
 printed ls = flatMap textOf ls
 
 -- what is printed of any input; "too long" comes before all else. `verdict s` is the reading with any table that has room, and

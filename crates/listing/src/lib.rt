@@ -4,17 +4,17 @@ ghost use mathlib.Core.List.{_++_};
 ghost use Prim.Native.Nat.{_+_, _*_, _≤_, _<_};
 ghost use lib.ListN.{length, take};
 ghost use lib.Seq.{sets};
-ghost use Rattle.text.specs.Text.{behind, written, decimal};
+ghost use Rattle.text.specs.Text.{placeAfter, withText, decimal};
 ghost use Rattle.table.specs.Table.{rowsAt};
 ghost use Rattle.base.specs.Letters.{letters};
 ghost use Rattle.reader.specs.declared.Reading.the-variants.{Accepted};
-ghost use Rattle.reader.specs.Contract.{Small};
-ghost use Rattle.listing.specs.declared.Line.the-variants.{Summary, Node, Total};
-ghost use Rattle.listing.specs.Contract.{Puts, PutsWhole};
+ghost use Rattle.reader.specs.Reading.{Small};
+ghost use Rattle.listing.specs.declared.TextLine.the-variants.{Summary, Node, Total};
+ghost use Rattle.listing.specs.Private.{Puts, PutsWhole};
 ghost use Rattle.listing.specs.Listing.{parentText, newline, textOf, nodeLines, footLines, fileLines, printed, listingOf};
 
 // A line of the listing.
-pub enum Line {
+pub enum TextLine {
     // The first line of an accepted file: its flags, nodes and bytes.
     Summary {
         flags: u32,
@@ -58,11 +58,11 @@ fn parent_size(parent: u32) -> usize
 
 // How many bytes a line has: the letters of its labels and the newline, in a row also the kind's eight digits, and then the
 // digits of its numbers.
-pub fn size(line: Line) -> usize
+pub fn size(line: TextLine) -> usize
     ensures { λ r. ⌜ (r ≡ length (textOf line)) × (r ≤ 92) ⌝ }
 {
     match line {
-        Line::Summary {
+        TextLine::Summary {
             flags,
             nodes,
             bytes,
@@ -70,22 +70,22 @@ pub fn size(line: Line) -> usize
             + text::decimal_size(flags as u64)
             + text::decimal_size(nodes as u64)
             + text::decimal_size(bytes),
-        Line::Node { index, row } => {
+        TextLine::Node { index, row } => {
             let own = format::own_bytes(row);
             32
                 + text::decimal_size(index as u64)
                 + parent_size(row.parent)
                 + text::decimal_size(own.0)
         }
-        Line::FileHeader => 10,
-        Line::Faces { faces, degenerate } => 19
+        TextLine::FileHeader => 10,
+        TextLine::Faces { faces, degenerate } => 19
             + text::decimal_size(faces.0)
             + text::decimal_size(degenerate),
-        Line::Total(bytes) => 7 + text::decimal_size(bytes),
-        Line::Refusal { number, place } => 13
+        TextLine::Total(bytes) => 7 + text::decimal_size(bytes),
+        TextLine::Refusal { number, place } => 13
             + text::decimal_size(number as u64)
             + text::decimal_size(place as u64),
-        Line::TooLong => 9,
+        TextLine::TooLong => 9,
     }
 }
 
@@ -109,7 +109,7 @@ fn put_parent(out: &mut [u8], at: usize, parent: u32) -> usize
     text::put_decimal(out, at, b" parent ", parent as u64)
 }
 
-fn put_node(out: &mut [u8], at: usize, index: u32, row: table::Row) -> usize
+fn put_node_line(out: &mut [u8], at: usize, index: u32, row: table::Row) -> usize
     requires { ⌜ at + length (textOf (Node index row)) ≤ length (now out) ⌝ }
     ensures { λ r. ⌜ Puts (now (out .entry)) at (textOf (Node index row)) r (now (out .exit)) ⌝ }
 {
@@ -121,7 +121,7 @@ fn put_node(out: &mut [u8], at: usize, index: u32, row: table::Row) -> usize
     text::put(out, d, b"\n")
 }
 
-// Two labels, a number in decimal behind each, and the line's end.
+// Two labels, a number in decimal after each, and the line's end.
 fn put_pair(out: &mut [u8], at: usize, a: &[u8], m: u64, b: &[u8], n: u64) -> usize
     requires { ⌜ at + length (now a ++ decimal m ++ (now b ++ decimal n) ++ newline) ≤ length (now out) ⌝ }
     ensures { λ r. ⌜ Puts (now (out .entry)) at (now (a .entry) ++ decimal m ++ (now (b .entry) ++ decimal n) ++ newline) r (now (out .exit)) ⌝ }
@@ -139,20 +139,20 @@ fn put_total(out: &mut [u8], at: usize, bytes: u64) -> usize
     text::put(out, a, b"\n")
 }
 
-// Puts a line that has room, and answers the place behind it.
-fn put_line(out: &mut [u8], at: usize, line: Line) -> usize
+// Puts a line that has room, and answers the place after it.
+fn put_line(out: &mut [u8], at: usize, line: TextLine) -> usize
     requires { ⌜ at + length (textOf line) ≤ length (now out) ⌝ }
     ensures { λ r. ⌜ Puts (now (out .entry)) at (textOf line) r (now (out .exit)) ⌝ }
 {
     match line {
-        Line::Summary {
+        TextLine::Summary {
             flags,
             nodes,
             bytes,
         } => put_summary(out, at, flags, nodes, bytes),
-        Line::Node { index, row } => put_node(out, at, index, row),
-        Line::FileHeader => text::put(out, at, b"header 16\n"),
-        Line::Faces { faces, degenerate } => put_pair(
+        TextLine::Node { index, row } => put_node_line(out, at, index, row),
+        TextLine::FileHeader => text::put(out, at, b"header 16\n"),
+        TextLine::Faces { faces, degenerate } => put_pair(
             out,
             at,
             b"faces ",
@@ -160,8 +160,8 @@ fn put_line(out: &mut [u8], at: usize, line: Line) -> usize
             b" degenerate ",
             degenerate,
         ),
-        Line::Total(bytes) => put_total(out, at, bytes),
-        Line::Refusal { number, place } => put_pair(
+        TextLine::Total(bytes) => put_total(out, at, bytes),
+        TextLine::Refusal { number, place } => put_pair(
             out,
             at,
             b"refused ",
@@ -169,15 +169,15 @@ fn put_line(out: &mut [u8], at: usize, line: Line) -> usize
             b" at ",
             place as u64,
         ),
-        Line::TooLong => text::put(out, at, b"too long\n"),
+        TextLine::TooLong => text::put(out, at, b"too long\n"),
     }
 }
 
 // Puts a line at the start of the buffer where it has room for all of it, and answers its length. Else it answers 0 and
 // leaves the buffer.
-pub fn put(out: &mut [u8], line: Line) -> usize
-    ensures length { λ r. ⌜ r ≡ behind (now (out .entry)) 0 (textOf line) ⌝ }
-    ensures output { λ r. ⌜ now (out .exit) ≡ written (now (out .entry)) 0 (textOf line) ⌝ }
+pub fn put(out: &mut [u8], line: TextLine) -> usize
+    ensures length { λ r. ⌜ r ≡ placeAfter (now (out .entry)) 0 (textOf line) ⌝ }
+    ensures output { λ r. ⌜ now (out .exit) ≡ withText (now (out .entry)) 0 (textOf line) ⌝ }
 {
     if out.len() < size(line) {
         return 0;
@@ -187,7 +187,7 @@ pub fn put(out: &mut [u8], line: Line) -> usize
 
 // ---- the whole
 
-// How many bytes the lines of so many rows have.
+// How many bytes the lines of the first `nodes` rows have.
 fn nodes_size(table: &[u32], nodes: u32) -> usize
     ensures { λ r. ⌜ (r ≡ length (printed (nodeLines 0 (rowsAt (now (table .entry)) 0 nodes)))) × (r ≤ 92 * nodes) ⌝ }
 {
@@ -195,14 +195,14 @@ fn nodes_size(table: &[u32], nodes: u32) -> usize
     let mut i: u32 = 0;
     while i < nodes {
         let row = table::row_at(table, i as usize);
-        sum += size(Line::Node { index: i, row });
+        sum += size(TextLine::Node { index: i, row });
         i += 1;
     }
     sum
 }
 
-// Puts the lines of so many rows, which have room, and answers the place behind them.
-fn put_nodes(out: &mut [u8], at: usize, table: &[u32], nodes: u32) -> usize
+// Puts the lines of the first `nodes` rows, which have room, and answers the place after them.
+fn put_node_lines(out: &mut [u8], at: usize, table: &[u32], nodes: u32) -> usize
     requires { ⌜ at + length (printed (nodeLines 0 (rowsAt (now table) 0 nodes))) ≤ length (now out) ⌝ }
     ensures { λ r. ⌜ Puts (now (out .entry)) at (printed (nodeLines 0 (rowsAt (now (table .entry)) 0 nodes))) r (now (out .exit)) ⌝ }
 {
@@ -210,7 +210,7 @@ fn put_nodes(out: &mut [u8], at: usize, table: &[u32], nodes: u32) -> usize
     let mut i: u32 = 0;
     while i < nodes {
         let row = table::row_at(table, i as usize);
-        next = put_line(out, next, Line::Node { index: i, row });
+        next = put_line(out, next, TextLine::Node { index: i, row });
         i += 1;
     }
     next
@@ -220,14 +220,14 @@ fn put_nodes(out: &mut [u8], at: usize, table: &[u32], nodes: u32) -> usize
 fn foot_size(triangles: faces::Faces, degenerate: u64, total: u64) -> usize
     ensures { λ r. ⌜ (r ≡ length (printed (footLines triangles degenerate total))) × (r ≤ 276) ⌝ }
 {
-    let counts = Line::Faces {
+    let counts = TextLine::Faces {
         faces: triangles,
         degenerate,
     };
-    size(Line::FileHeader) + size(counts) + size(Line::Total(total))
+    size(TextLine::FileHeader) + size(counts) + size(TextLine::Total(total))
 }
 
-// Puts the last three lines, which have room, and answers the place behind them.
+// Puts the last three lines, which have room, and answers the place after them.
 fn put_foot(
     out: &mut [u8],
     at: usize,
@@ -238,16 +238,16 @@ fn put_foot(
     requires { ⌜ at + length (printed (footLines triangles degenerate total)) ≤ length (now out) ⌝ }
     ensures { λ r. ⌜ Puts (now (out .entry)) at (printed (footLines triangles degenerate total)) r (now (out .exit)) ⌝ }
 {
-    let counts = Line::Faces {
+    let counts = TextLine::Faces {
         faces: triangles,
         degenerate,
     };
-    let next = put_line(out, at, Line::FileHeader);
+    let next = put_line(out, at, TextLine::FileHeader);
     let last = put_line(out, next, counts);
-    put_line(out, last, Line::Total(total))
+    put_line(out, last, TextLine::Total(total))
 }
 
-// Puts the listing of an accepted file of so many bytes, where there is room for all of it.
+// Puts the listing of an accepted file of this length, where there is room for all of it.
 fn accepted(out: &mut [u8], bytes: u64, table: &[u32], a: reader::Account) -> usize
     requires { ⌜ Small (Accepted a) ⌝ }
     ensures { λ r. ⌜ PutsWhole (now (out .entry))
@@ -257,7 +257,7 @@ fn accepted(out: &mut [u8], bytes: u64, table: &[u32], a: reader::Account) -> us
     let unknown = a.unknown;
     let triangles = a.faces;
     let total = 16 + (known.0 + unknown.0);
-    let head = Line::Summary {
+    let head = TextLine::Summary {
         flags: a.flags,
         nodes: a.nodes,
         bytes,
@@ -267,24 +267,24 @@ fn accepted(out: &mut [u8], bytes: u64, table: &[u32], a: reader::Account) -> us
         return 0;
     }
     let next = put_line(out, 0, head);
-    let last = put_nodes(out, next, table, a.nodes);
+    let last = put_node_lines(out, next, table, a.nodes);
     put_foot(out, last, triangles, a.degenerate, total)
 }
 
 // Puts the listing of an input at the start of the buffer where it has room for all of it, and answers its length. Else it
 // answers 0 and leaves the buffer.
 pub fn list(input: &[u8], out: &mut [u8]) -> usize
-    ensures length { λ r. ⌜ r ≡ behind (now (out .entry)) 0 (listingOf (now (input .entry))) ⌝ }
-    ensures output { λ r. ⌜ now (out .exit) ≡ written (now (out .entry)) 0 (listingOf (now (input .entry))) ⌝ }
+    ensures length { λ r. ⌜ r ≡ placeAfter (now (out .entry)) 0 (listingOf (now (input .entry))) ⌝ }
+    ensures output { λ r. ⌜ now (out .exit) ≡ withText (now (out .entry)) 0 (listingOf (now (input .entry))) ⌝ }
 {
     if 32768 < input.len() {
-        return put(out, Line::TooLong);
+        return put(out, TextLine::TooLong);
     }
     let mut table = [0u32; base::TABLE_NUMBERS];
     let reading = reader::read(input, &mut table);
     match reading {
         reader::Reading::Accepted(a) => accepted(out, input.len() as u64, &table, a),
-        reader::Reading::Refused { number, place } => put(out, Line::Refusal { number, place }),
+        reader::Reading::Refused { number, place } => put(out, TextLine::Refusal { number, place }),
     }
 }
 

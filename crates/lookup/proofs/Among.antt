@@ -8,13 +8,13 @@ use mathlib.Core.Bool.{true, true≢false}
 use mathlib.Core.List.{List, [], _∷_, _++_, append-assoc, append-nil, flatMap}
 use lib.ListN.{length, getD, take, drop, length-append}
 use lib.Seq.{drop-append-add, take-append-seam}
-use borrow.Author.Tests.{eq-eqb, le-ltb}
+use borrow.Author.Tests.{le-ltb}
 use Rattle.le.specs.Le.{numberAt}
 use Rattle.base.proofs.Tests.{by-test}
 use Rattle.names.specs.Names.{same}
 use Rattle.names.proofs.Laws.{same-eq, same-refl}
 use Rattle.props.specs.Step.{sizeAt, startAt, nameAt, dataAt}
-use Rattle.body.specs.Body.{pass, properties, places, exactly, firstNamed}
+use Rattle.body.specs.Body.{pass, properties, places, firstNamed}
 use Rattle.body.proofs.Laws.{few}
 use Rattle.body.proofs.Places.{pass-first}
 use Rattle.base.specs.Lists.{Each}
@@ -131,10 +131,6 @@ there-or-not name (q ∷ ps) =
 module _ (k : ℕ) (s name : List ℕ) (good : GoodBody k s) where
   walk-done : (properties s k .number ≡ 0) × (properties s k .at ≡ length s)
   walk-done = rw (append-nil s) at (body-good k s [] good)
-
-  pub good-exactly : exactly s k ≡ true
-  unfolding exactly
-  good-exactly = rw (eq-eqb (properties s k .number) 0 (walk-done .0), eq-eqb (properties s k .at) (length s) (walk-done .1))
 
   pub none-in : NoneNamed name (good .properties) → inBody s k name ≡ Refused 43
   none-in h =

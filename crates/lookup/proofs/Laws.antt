@@ -15,7 +15,7 @@ use Rattle.body.specs.Body.{properties, exactly, places, indexOf, firstNamed}
 use Rattle.body.proofs.Laws.{first-most}
 use Rattle.body.proofs.Places.{properties-few, properties-places, properties-data, index-places, index-starts}
 use Rattle.lookup.specs.declared.Found.the-variants.{At, Refused}
-use Rattle.lookup.specs.Lookup.{inBody, Within}
+use Rattle.lookup.specs.Lookup.{inBody, FoundWithin}
 
 module _ (s name : List ℕ) (k : ℕ) where
   -- ---- the cases of the definition
@@ -91,7 +91,7 @@ module _ (s name : List ℕ) (k : ℕ) where
 -- ---- within
 module _ (s name : List ℕ) (k : ℕ) where
   within-by : (x z : Bool) → eqb (firstNamed s name (properties s k .starts)) (length (properties s k .starts)) ≡ z
-      → Within (length s) (cond x (Refused 42) (cond z (Refused 43) (At (dataAt s (getD (places (properties s k)) (firstNamed s name (properties s k .starts)) 0)) (getD (places (properties s k)) (firstNamed s name (properties s k .starts) + 1) 0))))
+      → FoundWithin (length s) (cond x (Refused 42) (cond z (Refused 43) (At (dataAt s (getD (places (properties s k)) (firstNamed s name (properties s k .starts)) 0)) (getD (places (properties s k)) (firstNamed s name (properties s k .starts) + 1) 0))))
   within-by true z f = tt
   within-by false true f = tt
   within-by false false f =
@@ -102,6 +102,6 @@ module _ (s name : List ℕ) (k : ℕ) where
       let start : getD (places w) i 0 ≡ getD (w .starts) i 0 = List·getD-append (w .starts) (w .at ∷ []) 0 i inside in
       (rw (start, add-one) (properties-data s k i inside), properties-places s k (i + 1))
 
-  pub body-within : Within (length s) (inBody s k name)
+  pub body-within : FoundWithin (length s) (inBody s k name)
   unfolding inBody
   body-within = within-by (not (exactly s k)) (eqb (firstNamed s name (properties s k .starts)) (length (properties s k .starts))) refl

@@ -3,28 +3,28 @@ use Prim.Native.Nat.{ℕ, zero, suc, _+_, _-_, _*_, _≤_}
 use native.Mathlib.Omega.{arith}
 use mathlib.Core.Path.{_≡_, refl, ap, sym, subst, _∙_}
 use mathlib.Core.Logic.{_⊎_, inl, inr}
-use mathlib.Core.Bool.{true, false, true≢false, and-eq-true-iff}
+use mathlib.Core.Bool.{true, false, true≢false}
 use mathlib.Core.List.{List, [], _∷_}
-use lib.Dec.{eqb, ltb}
 use lib.ListN.{length, take, drop}
-use lib.Seq.{take-take, drop-drop, take-length}
-use borrow.Author.Tests.{eqb-true, le-leb, leb-true, leb-false, ltb-true, ltb-false}
+use lib.Seq.{take-take, drop-drop}
+use borrow.Author.Tests.{le-leb, leb-true, leb-false}
 use Rattle.le.specs.Le.{AreBytes}
 use Rattle.le.proofs.Laws.{bytes-take, bytes-drop}
 use Rattle.base.proofs.Tests.{by-test}
 use Rattle.table.specs.declared.Row.{Row}
 use Rattle.table.specs.Table.{rowFrom, hasRow, rowAt}
 use Rattle.body.specs.Body.{properties, exactly}
-use Rattle.format.specs.Rows.{bodyOf}
-use Rattle.format.specs.Layout.{Property, GoodBody}
-use Rattle.format.proofs.Bodies.{body-sound}
+use Rattle.format.specs.Rows.{bodyOf, outside}
+use Rattle.format.specs.Layout.{Property}
+use Rattle.format.proofs.Rows.{not-outside, is-inside, length-body}
+use Rattle.format.proofs.Bodies.{good-exactly, exactly-good}
 use Rattle.lookup.specs.declared.Found.{Found}
 use Rattle.lookup.specs.declared.Found.the-variants.{At, Refused}
-use Rattle.lookup.specs.Lookup.{inBody, shifted, lookupOf, numberOf, partOf, Within}
+use Rattle.lookup.specs.Lookup.{inBody, shifted, lookupOf, numberOf, partOf, FoundWithin}
 use Rattle.lookup.specs.Statements.{IsRow, LiesIn, IsBody, NoneNamed, FirstNamed, dataFrom, Finds, Answers, LooksUp}
 use Rattle.lookup.proofs.Laws.{body-within}
-use Rattle.lookup.proofs.Rows.{no-row, reversed, outside, inside, length-body}
-use Rattle.lookup.proofs.Among.{there-or-not, good-exactly, none-in, first-in}
+use Rattle.lookup.proofs.Rows.{no-row, beyond, inside}
+use Rattle.lookup.proofs.Among.{there-or-not, none-in, first-in}
 
 -- a part of a part
 part-of : (a k n : ℕ) (l : List ℕ) → a + k ≤ n → take k (drop a (take n l)) ≡ take k (drop a l)
@@ -32,15 +32,6 @@ part-of zero k n l h = take-take k n l (omega (arith, h))
 part-of (suc a) k zero l h = absurd (omega (arith, h))
 part-of (suc a) k (suc n) [] h = refl
 part-of (suc a) k (suc n) (x ∷ l) h = part-of a k n l (omega (arith, h))
-
--- a body that is exactly its count of properties is good
-exactly-body : (s : List ℕ) (k : ℕ) → AreBytes s → exactly s k ≡ true → GoodBody k s
-unfolding exactly
-exactly-body s k bytes e =
-    let both = and-eq-true-iff (eqb (properties s k .number) 0) (eqb (properties s k .at) (length s)) .0 e in
-    let done = eqb-true (properties s k .number) 0 (both .0) in
-    let whole = eqb-true (properties s k .at) (length s) (both .1) in
-    subst (GoodBody k) (take-length s) (subst (λ n. GoodBody k (take n s)) whole (body-sound s k bytes done))
 
 no-body : (s : List ℕ) (k : ℕ) (name : List ℕ) → exactly s k ≡ false → inBody s k name ≡ Refused 42
 unfolding inBody
@@ -84,7 +75,7 @@ module _ (bs t : List ℕ) (row : ℕ) (name : List ℕ) (bytes : AreBytes bs) w
   module _ (i : IsRow t row) where
     module _ (l : LiesIn bs r) where
       in-body : shifted (r .start) (inBody body (r .properties) name) ≡ found
-      in-body = inside bs t row name (has i) (the-row (has i)) (l .0) (l .1)
+      in-body = inside bs t row name (has i) (the-row (has i)) (is-inside (length bs) r l)
 
       number-is : n ≡ numberOf (inBody body (r .properties) name)
       number-is = ap numberOf (sym in-body) ∙ shifted-number (r .start) (inBody body (r .properties) name)
@@ -107,8 +98,8 @@ module _ (bs t : List ℕ) (row : ℕ) (name : List ℕ) (bytes : AreBytes bs) w
       content-is b p f =
           let at = first-in (r .properties) body name b p f in
           let place : found ≡ At (r .start + at .start) (r .start + at .stop) = sym in-body ∙ ap (shifted (r .start)) (at .is) in
-          let within : (at .start ≤ at .stop) × (at .stop ≤ length body) = subst (Within (length body)) (at .is) (body-within body name (r .properties)) in
-          let long = length-body bs (r .start) (r .end) (l .1) in
+          let within : (at .start ≤ at .stop) × (at .stop ≤ length body) = subst (FoundWithin (length body)) (at .is) (body-within body name (r .properties)) in
+          let long = length-body bs r (l .1) in
           let size : r .start + at .stop - (r .start + at .start) ≡ at .stop - at .start = omega arith in
           ap (partOf bs) place
           ∙ ap (λ k. take k (drop (r .start + at .start) bs)) size
@@ -144,12 +135,12 @@ module _ (bs t : List ℕ) (row : ℕ) (name : List ℕ) (bytes : AreBytes bs) w
   by-body i l =
       by-test (exactly body (r .properties))
       (λ e.
-      let b = exactly-body body (r .properties) (bytes-take (r .end - r .start) (drop (r .start) bs) (bytes-drop (r .start) bs bytes)) e in
+      let b = exactly-good (r .properties) body (bytes-take (r .end - r .start) (drop (r .start) bs) (bytes-drop (r .start) bs bytes)) e in
       inr (inr (inr (i, l, b, told b (there-or-not name (b .properties))))))
       (λ e. inr (inr (inl (
         i,
         l,
-        λ b. true≢false (sym (good-exactly (r .properties) body name b) ∙ e),
+        λ b. true≢false (sym (good-exactly (r .properties) body b) ∙ e),
         number-is i l ∙ ap numberOf (no-body body (r .properties) name e),
       ))))
     where
@@ -161,17 +152,9 @@ module _ (bs t : List ℕ) (row : ℕ) (name : List ℕ) (bytes : AreBytes bs) w
   outcome =
       by-test (hasRow t row)
       (λ e.
-      by-test (ltb (r .end) (r .start))
-      (λ f.
-      let less = ltb-true (r .end) (r .start) f in
-      inr (inl (is e, λ l. omega (arith, l .0, less), ap numberOf (sym (reversed bs t row name e (the-row e) less)))))
-      (λ f.
-      let order = ltb-false (r .end) (r .start) f in
-      by-test (ltb (length bs) (r .end))
-      (λ g.
-      let past = ltb-true (length bs) (r .end) g in
-      inr (inl (is e, λ l. omega (arith, l .1, past), ap numberOf (sym (outside bs t row name e (the-row e) order past)))))
-      (λ g. by-body (is e) (order, ltb-false (length bs) (r .end) g))))
+      by-test (outside (length bs) r)
+      (λ f. inr (inl (is e, λ l. true≢false (sym f ∙ is-inside (length bs) r l), ap numberOf (sym (beyond bs t row name e (the-row e) f)))))
+      (λ f. by-body (is e) (not-outside (length bs) r f)))
       (λ e. inl (is-not e, ap numberOf (sym (no-row bs t row name e))))
 
   empty-part : (f : Found) → (numberOf f ≡ 0 → ⊥) → partOf bs f ≡ []

@@ -4,7 +4,7 @@ use mathlib.Core.Path.{_≡_, refl}
 use mathlib.Core.List.{List, [], _∷_, _++_}
 use Rattle.le.specs.Le.{val, numberAt}
 use Rattle.names.specs.Names.{bytesOk, same}
-use Rattle.props.specs.Step.{headerRefusal, dataRefusal, toZero, dataOf, stepAt, dataAt, nameAt}
+use Rattle.props.specs.Step.{toZero, stepAt, dataAt, nameAt}
 use Rattle.body.specs.Body.{pass, properties, exactly, firstNamed}
 use Rattle.table.specs.Table.{hasRow, rowAt}
 use Rattle.lookup.specs.declared.Found.{Found}
@@ -12,13 +12,13 @@ use Rattle.lookup.specs.declared.Found.the-variants.{At, Refused}
 use Rattle.lookup.specs.Lookup.{inBody, lookupOf, partOf}
 
 unfoldable look : List ℕ → List ℕ → ℕ → List ℕ → Found
-unfolding val numberAt bytesOk same headerRefusal dataRefusal toZero dataOf nameAt stepAt dataAt pass properties exactly firstNamed hasRow rowAt inBody lookupOf
+unfolding val numberAt bytesOk same toZero nameAt stepAt dataAt pass properties exactly firstNamed hasRow rowAt inBody lookupOf
 look bs t row name = lookupOf bs t row name
 
 abbrev one : ℕ → ℕ → List ℕ
 one name value = 0x62 ∷ 0 ∷ 1 ∷ 0 ∷ 1 ∷ 0 ∷ 0 ∷ 0 ∷ name ∷ value ∷ []
 
--- four bytes before a body of `a`, `b`, and `a` again; and one byte behind it
+-- four bytes before a body of `a`, `b`, and `a` again; and one byte after it
 abbrev bytes : List ℕ
 bytes = 9 ∷ 9 ∷ 9 ∷ 9 ∷ (one 97 5 ++ (one 98 6 ++ (one 97 7 ++ (9 ∷ []))))
 

@@ -4,15 +4,16 @@
 use Prim.Native.Nat.{ℕ, _+_, _-_, _≤_}
 use mathlib.Core.Bool.{cond, not}
 use mathlib.Core.List.{List, []}
-use lib.Dec.{ltb, eqb}
+use lib.Dec.{eqb}
 use lib.ListN.{length, take, drop, getD}
 use Rattle.props.specs.Step.{dataAt}
 use Rattle.body.specs.Body.{properties, exactly, places, firstNamed}
 use Rattle.table.specs.Table.{hasRow, rowAt}
+use Rattle.format.specs.Rows.{bodyOf, outside}
 use Rattle.lookup.specs.declared.Found.{Found}
 use Rattle.lookup.specs.declared.Found.the-variants.{At, Refused}
 
--- 42: the body is not exactly so many properties. 43: none has the name. Else the first one's data, up to the next place.
+-- 42: the body is not exactly its count of properties. 43: none has the name. Else the first one's data, up to the next place.
 unfoldable pub inBody : List ℕ → ℕ → List ℕ → Found
 inBody s k name =
     let w = properties s k in
@@ -30,14 +31,13 @@ unfoldable pub lookupOf : List ℕ → List ℕ → ℕ → List ℕ → Found
 lookupOf bs t row name =
     let r = rowAt t row in
     cond (not (hasRow t row)) (Refused 40)
-    (cond (ltb (r .end) (r .start)) (Refused 41)
-    (cond (ltb (length bs) (r .end)) (Refused 41)
-    (shifted (r .start) (inBody (take (r .end - r .start) (drop (r .start) bs)) (r .properties) name))))
+    (cond (outside (length bs) r) (Refused 41)
+    (shifted (r .start) (inBody (bodyOf bs r) (r .properties) name)))
 
--- what is found lies within so many bytes
-abbrev pub Within : ℕ → Found → Type 0
-Within n (At start end) = (start ≤ end) × (end ≤ n)
-Within n (Refused k) = Unit
+-- what is found lies within the first n bytes
+abbrev pub FoundWithin : ℕ → Found → Type 0
+FoundWithin n (At start end) = (start ≤ end) × (end ≤ n)
+FoundWithin n (Refused k) = Unit
 
 -- an answer's number: 0 where the property is found
 abbrev pub numberOf : Found → ℕ

@@ -1,7 +1,7 @@
 // A property by name: in any bytes, by any table and any row.
 ghost use mathlib.Core.Path.{_≡_};
 ghost use lib.ListN.{length};
-ghost use Rattle.lookup.specs.Lookup.{inBody, lookupOf, Within, numberOf, partOf};
+ghost use Rattle.lookup.specs.Lookup.{inBody, lookupOf, FoundWithin, numberOf, partOf};
 
 // Where a property's data lies; or the number of the refusal.
 pub enum Found {
@@ -9,7 +9,7 @@ pub enum Found {
     Refused(u32),
 }
 
-// The property in a body of so many: 42 and 43.
+// The property in a body that should be a given number of properties: 42 and 43.
 fn in_body(body: &[u8], count: u32, name: &[u8]) -> Found
     ensures { λ r. ⌜ r ≡ inBody (now (body .entry)) count (now (name .entry)) ⌝ }
 {
@@ -37,7 +37,7 @@ fn in_body(body: &[u8], count: u32, name: &[u8]) -> Found
 // Finds the property of a row: 40 to 43.
 pub fn find(bytes: &[u8], table: &[u32], row: usize, name: &[u8]) -> Found
     ensures result { λ r. ⌜ r ≡ lookupOf (now (bytes .entry)) (now (table .entry)) row (now (name .entry)) ⌝ }
-    ensures within { λ r. ⌜ Within (length (now (bytes .entry))) r ⌝ }
+    ensures within { λ r. ⌜ FoundWithin (length (now (bytes .entry))) r ⌝ }
     ensures number { λ r. ⌜ numberOf r ≡ numberOf (lookupOf (now (bytes .entry)) (now (table .entry)) row (now (name .entry))) ⌝ }
     ensures part { λ r. ⌜ partOf (now (bytes .entry)) r
         ≡ partOf (now (bytes .entry)) (lookupOf (now (bytes .entry)) (now (table .entry)) row (now (name .entry))) ⌝ }
@@ -46,15 +46,11 @@ pub fn find(bytes: &[u8], table: &[u32], row: usize, name: &[u8]) -> Found
         return Found::Refused(40);
     }
     let r = table::row_at(table, row);
+    if format::is_outside(bytes.len(), r) {
+        return Found::Refused(41);
+    }
     let from = r.start as usize;
-    let to = r.end as usize;
-    if to < from {
-        return Found::Refused(41);
-    }
-    if bytes.len() < to {
-        return Found::Refused(41);
-    }
-    let found = in_body(&bytes[from..to], r.properties, name);
+    let found = in_body(format::body_of(bytes, r), r.properties, name);
     let Found::At { start, end } = found else {
         return found;
     };

@@ -13,7 +13,7 @@ use borrow.Author.Tests.{eq-eqb, ne-eqb, eqb-true, leb-true, le-leb, lt-leb}
 use Rattle.le.proofs.Laws.{rest-drop}
 use Rattle.names.specs.declared.Numeral.{Numeral}
 use Rattle.names.specs.declared.Numeral.the-variants.{Is, Not}
-use Rattle.names.specs.Names.{byteOk, bytesOk, same, isDigit, decimal, number, numbered}
+use Rattle.names.specs.Names.{byteOk, bytesOk, same, isDigit, readDigits, number, numbered}
 
 module _ (l : List ℕ) (i : ℕ) (h : i < length l) where
   pub bytes-passed : byteOk (getD l i 0) ≡ true → bytesOk (drop i l) ≡ bytesOk (drop (i + 1) l)
@@ -70,20 +70,20 @@ pub worth-three : (i v : ℕ) → i ≤ 3 → v < 10 ^ i → v < 1000
 worth-three i v h k = omega (arith, pow-le-pow-right {n = 10} (omega arith) {i = i} {j = 3} h)
 
 module _ (l : List ℕ) (i v : ℕ) (h : i < length l) {b : ℕ} (e : b ≡ getD l i 0) where
-  pub decimal-low : b < 48 → decimal v (drop i l) ≡ Not
-  unfolding decimal
+  pub decimal-low : b < 48 → readDigits v (drop i l) ≡ Not
+  unfolding readDigits
   decimal-low k = rw (drop-cons l i 0 h, ← e, lt-leb 48 b k)
 
-  pub decimal-high : 57 < b → decimal v (drop i l) ≡ Not
-  unfolding decimal
+  pub decimal-high : 57 < b → readDigits v (drop i l) ≡ Not
+  unfolding readDigits
   decimal-high k = rw (drop-cons l i 0 h, ← e, le-leb 48 b (omega arith), lt-leb b 57 k)
 
-  pub decimal-passed : 48 ≤ b → b ≤ 57 → decimal v (drop i l) ≡ decimal (v * 10 + (b - 48)) (drop (i + 1) l)
-  unfolding decimal
+  pub decimal-passed : 48 ≤ b → b ≤ 57 → readDigits v (drop i l) ≡ readDigits (v * 10 + (b - 48)) (drop (i + 1) l)
+  unfolding readDigits
   decimal-passed k m = rw (add-one, drop-cons l i 0 h, ← e, le-leb 48 b k, le-leb b 57 m)
 
-pub decimal-ended : (l : List ℕ) (i v : ℕ) → length l ≤ i → decimal v (drop i l) ≡ Is v
-unfolding decimal
+pub decimal-ended : (l : List ℕ) (i v : ℕ) → length l ≤ i → readDigits v (drop i l) ≡ Is v
+unfolding readDigits
 decimal-ended l i v h = rw (drop-of-length-le l {i = i} h)
 
 pub number-none : (l : List ℕ) → length l ≡ 0 → number l ≡ Not
@@ -105,10 +105,10 @@ unfolding number
 number-leading [] h = refl
 number-leading (b ∷ l) h = leading (leb (length l) 2) _ _ (ap (λ t. eqb b 48 && t) (sym (leb·suc-suc 1 (length l))) ∙ h)
 
-pub number-decimal : (l : List ℕ) → (length l ≡ 0 → ⊥) → length l ≤ 3 → (eqb (getD l 0 0) 48 && leb 2 (length l)) ≡ false → number l ≡ decimal 0 l
+pub number-read-digits : (l : List ℕ) → (length l ≡ 0 → ⊥) → length l ≤ 3 → (eqb (getD l 0 0) 48 && leb 2 (length l)) ≡ false → number l ≡ readDigits 0 l
 unfolding number
-number-decimal [] h k m = absurd (h refl)
-number-decimal (b ∷ l) h k m = rw (le-leb (length l) 2 (omega arith), ← leb·suc-suc 1 (length l), m)
+number-read-digits [] h k m = absurd (h refl)
+number-read-digits (b ∷ l) h k m = rw (le-leb (length l) 2 (omega arith), ← leb·suc-suc 1 (length l), m)
 
 module _ (name prefix : List ℕ) where
   pub numbered-short : length name < length prefix → numbered name prefix ≡ Not
@@ -127,8 +127,8 @@ chosen : (t : Bool) {d : Numeral} {n : ℕ} → cond t d Not ≡ Is n → (t ≡
 chosen true e = (refl, e)
 chosen false e = (cc, cc)
 
-decimal-bound : (l : List ℕ) (m v n : ℕ) → v < m → decimal v l ≡ Is n → n < m * 10 ^ length l
-unfolding decimal
+decimal-bound : (l : List ℕ) (m v n : ℕ) → v < m → readDigits v l ≡ Is n → n < m * 10 ^ length l
+unfolding readDigits
 decimal-bound [] m v n h e = let k : v ≡ n = cc in omega arith
 decimal-bound (b ∷ l) m v n h e =
     let r = chosen (isDigit b) e in

@@ -5,16 +5,16 @@ use mathlib.Core.Bool.{true, false}
 use mathlib.Core.List.{List, [], _∷_}
 use Rattle.names.specs.declared.Numeral.{Numeral}
 use Rattle.names.specs.declared.Numeral.the-variants.{Is, Not}
-use Rattle.names.specs.Names.{sizeOk, bytesOk, same, decimal, number, numbered}
+use Rattle.names.specs.Names.{sizeOk, bytesOk, same, readDigits, number, numbered}
 
 -- what bytes are as a name `c%d`
 unfoldable c%d : List ℕ → Numeral
-unfolding same decimal number numbered
+unfolding same readDigits number numbered
 c%d name = numbered name (99 ∷ [])
 
 -- what bytes are as a name `extra%d`
 unfoldable prefixed : List ℕ → Numeral
-unfolding same decimal number numbered
+unfolding same readDigits number numbered
 prefixed name = numbered name (101 ∷ 120 ∷ 116 ∷ 114 ∷ 97 ∷ [])
 
 -- c0, c10, c999

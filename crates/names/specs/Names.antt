@@ -32,14 +32,14 @@ abbrev pub isDigit : ℕ → Bool
 isDigit b = leb 48 b && leb b 57
 
 -- the number that digits are, after the value of those before them
-unfoldable pub decimal : ℕ → List ℕ → Numeral
-decimal value [] = Is value
-decimal value (b ∷ bs) = cond (isDigit b) (decimal (value * 10 + (b - 48)) bs) Not
+unfoldable pub readDigits : ℕ → List ℕ → Numeral
+readDigits value [] = Is value
+readDigits value (b ∷ bs) = cond (isDigit b) (readDigits (value * 10 + (b - 48)) bs) Not
 
 -- `%d`: one to three digits, no leading zero unless it is `0`
 unfoldable pub number : List ℕ → Numeral
 number [] = Not
-number (b ∷ bs) = cond (leb (length bs) 2 && not (eqb b 48 && leb 1 (length bs))) (decimal 0 (b ∷ bs)) Not
+number (b ∷ bs) = cond (leb (length bs) 2 && not (eqb b 48 && leb 1 (length bs))) (readDigits 0 (b ∷ bs)) Not
 
 -- a prefix, and then `%d`
 unfoldable pub numbered : List ℕ → List ℕ → Numeral

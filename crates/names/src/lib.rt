@@ -1,10 +1,10 @@
 // Names of properties: which bytes may be one, whether two are the same, and the number in a name such as `c12`.
 ghost use mathlib.Core.Path.{_≡_};
 ghost use Prim.Native.Nat.{_≤_};
-ghost use Rattle.names.specs.Names.{sizeOk, byteOk, bytesOk, same, decimal, number, numbered, numeralNumbers};
+ghost use Rattle.names.specs.Names.{sizeOk, byteOk, bytesOk, same, readDigits, number, numbered, numeralNumbers};
 ghost use lib.ListN.{length};
 
-// Whether a name may have so many bytes: 1 to 32.
+// Whether a name may have this size: 1 to 32 bytes.
 pub fn size_ok(size: u16) -> bool
     ensures { λ r. ⌜ r ≡ sizeOk size ⌝ }
 {
@@ -69,7 +69,7 @@ fn number(digits: &[u8]) -> Numeral
     if (digits[0] == 48) & (2 <= n) {
         return Numeral::Not;
     }
-    decimal(digits)
+    read_digits(digits)
 }
 
 fn wide(b: u8) -> u32
@@ -79,9 +79,9 @@ fn wide(b: u8) -> u32
 }
 
 // The number of at most three digits.
-fn decimal(digits: &[u8]) -> Numeral
+fn read_digits(digits: &[u8]) -> Numeral
     requires { ⌜ length (now digits) ≤ 3 ⌝ }
-    ensures { λ r. ⌜ r ≡ decimal 0 (now (digits .entry)) ⌝ }
+    ensures { λ r. ⌜ r ≡ readDigits 0 (now (digits .entry)) ⌝ }
 {
     let mut value: u32 = 0;
     let mut i: usize = 0;

@@ -1,23 +1,25 @@
 -- A row's refusal by its tests, and the first refusal of the rows from one on.
-use Prim.Native.Nat.{ℕ, zero, suc, _+_, _≤_, _<_}
+use Prim.Native.Nat.{ℕ, _+_, _≤_, _<_}
 use native.Mathlib.Numerals.{add-one}
 use native.Mathlib.Omega.{arith}
-use mathlib.Core.Path.{_≡_, refl}
+use mathlib.Core.Path.{_≡_}
 use mathlib.Core.Bool.{true, false}
 use mathlib.Core.List.{List}
 use lib.Dec.{eqb}
 use lib.ListN.{length}
 use borrow.Author.Tests.{eq-eqb, ne-eqb}
+use Rattle.base.specs.declared.Refusal.{Refusal}
+use Rattle.base.specs.Refusals.{refusal, noRefusal, refusedOr}
 use Rattle.base.proofs.Tests.{by-test}
+use Rattle.base.proofs.Refusals.{is-refused}
 use Rattle.kinds.specs.Kinds.{root, isKnown}
 use Rattle.table.specs.declared.Row.{Row}
 use Rattle.table.specs.Table.{noParent, rowAt, rowsAt}
 use Rattle.table.proofs.Rests.{rest, rest-all, rest-more, rest-none}
 use Rattle.body.specs.Body.{exactly}
-use Rattle.format.specs.Rows.{bodyOf}
-use Rattle.plan.specs.declared.Judged.{Judged}
-use Rattle.plan.specs.Plan.{isOn, rightParent, outside, naming, rowRefusal, byNumber, judgedFrom, judged}
-use Rattle.plan.specs.Contract.{pathAt}
+use Rattle.format.specs.Rows.{bodyOf, outside}
+use Rattle.plan.specs.Plan.{isOn, rightParent, naming, rowRefusal, planRefusalFrom, planRefusal}
+use Rattle.plan.specs.Private.{pathAt}
 
 module _ (r : Row) (previous : List ℕ) where
   pub parent-root : r .kind ≡ root → eqb (r .parent) noParent ≡ rightParent r previous
@@ -64,35 +66,31 @@ module _ (s previous : List ℕ) (named : ℕ) (r : Row) where
           refusal-none n = rw (p, o, k, b, eq-eqb (r .children) named n)
 
 -- ---- the rows
-by-refusal : (m k : ℕ) (j : Judged) → (m ≡ 0 → ⊥) → byNumber m k j ≡ record { number = m; row = k }
-by-refusal zero k j n = absurd (n refl)
-by-refusal (suc m) k j n = refl
-
 module _ (s t : List ℕ) (n : ℕ) where
   abbrev all : List Row
   all = rowsAt t 0 n
 
   -- what the rows from row i on give
-  abbrev pub judgedAt : (i : ℕ) → Judged
-  judgedAt i = judgedFrom s all i (pathAt t i) (rest t n i)
+  abbrev pub judgedAt : (i : ℕ) → Refusal
+  judgedAt i = planRefusalFrom s all i (pathAt t i) (rest t n i)
 
-  pub judging-begun : judgedAt 0 ≡ judged s all
-  unfolding judged pathAt
+  pub judging-begun : judgedAt 0 ≡ planRefusal s all
+  unfolding planRefusal pathAt
   judging-begun = rw (rest-all t n)
 
   module _ (i : ℕ) where
     module _ (h : i < n) {r : Row} {named number : ℕ} (e : r ≡ rowAt t i) (f : named ≡ naming all i)
         (g : number ≡ rowRefusal s (pathAt t i) named r) where
-      next : judgedAt i ≡ byNumber number i (judgedAt (i + 1))
-      unfolding judgedFrom pathAt
+      next : judgedAt i ≡ refusedOr number (refusal number i) (judgedAt (i + 1))
+      unfolding planRefusalFrom pathAt
       next = rw (rest-more t n i h, add-one i, ← e, ← f, ← g)
 
-      pub judging-refused : (number ≡ 0 → ⊥) → judgedAt i ≡ record { number = number; row = i }
-      judging-refused m = rw next (by-refusal number i (judgedAt (i + 1)) m)
+      pub judging-refused : (number ≡ 0 → ⊥) → judgedAt i ≡ refusal number i
+      judging-refused m = rw next (is-refused number (refusal number i) (judgedAt (i + 1)) m)
 
       pub judging-passed : number ≡ 0 → judgedAt i ≡ judgedAt (i + 1)
       judging-passed m = rw (next, m)
 
-    pub judging-ended : n ≤ i → judgedAt i ≡ record { number = 0; row = 0 }
-    unfolding judgedFrom
+    pub judging-ended : n ≤ i → judgedAt i ≡ noRefusal
+    unfolding planRefusalFrom
     judging-ended h = rw (rest-none t n i h)

@@ -1,3 +1,2 @@
-pub mod Counts
 pub mod Paths
 pub mod Judging

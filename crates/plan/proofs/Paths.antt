@@ -12,7 +12,7 @@ use Rattle.kinds.specs.Kinds.{root, isKnown}
 use Rattle.table.specs.declared.Row.{Row}
 use Rattle.table.specs.Table.{noParent, rowAt}
 use Rattle.plan.specs.Plan.{upFrom, pathOf, isOn, rightParent}
-use Rattle.plan.specs.Contract.{pathAt, Climbs}
+use Rattle.plan.specs.Private.{pathAt, Climbs}
 
 -- what falls with each step of a climb: 0 at none
 abbrev pub height : ℕ → ℕ

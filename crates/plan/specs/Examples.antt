@@ -4,17 +4,18 @@ use mathlib.Core.Path.{_≡_, refl}
 use mathlib.Core.List.{List, [], _∷_}
 use Rattle.le.specs.Le.{val, numberAt}
 use Rattle.names.specs.Names.{bytesOk}
-use Rattle.kinds.specs.Kinds.{root, model, mesh, skeleton, lines, lineIn, lineOf, isKnown}
-use Rattle.props.specs.Step.{headerRefusal, dataRefusal, toZero, dataOf, nameAt, stepAt}
+use Rattle.kinds.specs.Kinds.{root, model, mesh, skeleton, parentsTable, parentsIn, parentsOf, isKnown}
+use Rattle.props.specs.Step.{toZero, nameAt, stepAt}
 use Rattle.body.specs.Body.{pass, properties, exactly}
 use Rattle.table.specs.declared.Row.{Row}
 use Rattle.table.specs.Table.{noParent}
-use Rattle.plan.specs.Plan.{upFrom, pathOf, isOn, rightParent, naming, rowRefusal, judgedFrom, judged}
+use Rattle.table.specs.Counts.{countUnder}
+use Rattle.plan.specs.Plan.{upFrom, pathOf, isOn, rightParent, rowRefusal, planRefusalFrom, planRefusal}
 
 -- the number, and the row
 unfoldable judge : List ℕ → List Row → List ℕ
-unfolding val numberAt bytesOk lines lineIn lineOf isKnown headerRefusal dataRefusal toZero dataOf nameAt stepAt pass properties exactly upFrom pathOf isOn rightParent naming rowRefusal judgedFrom judged
-judge s rows = let j = judged s rows in j .number ∷ j .row ∷ []
+unfolding val numberAt bytesOk parentsTable parentsIn parentsOf isKnown toZero nameAt stepAt pass properties exactly upFrom pathOf isOn rightParent countUnder rowRefusal planRefusalFrom planRefusal
+judge s rows = let j = planRefusal s rows in j .number ∷ j .place ∷ []
 
 -- a row without a body, and one with; an unknown kind
 abbrev bare : (kind parent children : ℕ) → Row
@@ -26,7 +27,7 @@ body kind parent start stop properties = record { kind = kind; low = 0; high = 0
 abbrev note : ℕ
 note = 0x6E676177
 
--- a property `a` of type b, and a byte behind it
+-- a property `a` of type b, and a byte after it
 abbrev source : List ℕ
 source = 0x62 ∷ 0 ∷ 1 ∷ 0 ∷ 1 ∷ 0 ∷ 0 ∷ 0 ∷ 97 ∷ 5 ∷ 9 ∷ []
 

@@ -1,3 +1,3 @@
 pub mod Plan
-pub mod Contract
+pub mod Private
 pub mod Examples

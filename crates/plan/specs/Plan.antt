@@ -2,17 +2,20 @@
 -- previous row or an ancestor of it), 22 body end before its start or past the source, 23 a known row's body is not exactly its
 -- count (at most 64) of properties by the rules of 9 to 11, 24 a known row's child count is not the rows naming it". "All of 21
 -- to 24 are judged for one row before the next. The place is the row for these."
-use Prim.Native.Nat.{ℕ, zero, suc}
+use Prim.Native.Nat.{ℕ, suc}
 use mathlib.Core.Bool.{Bool, false, cond, not, _||_}
 use mathlib.Core.List.{List, [], _∷_}
-use lib.Dec.{eqb, ltb}
+use lib.Dec.{eqb}
 use lib.ListN.{length}
+use Rattle.base.specs.declared.Refusal.{Refusal}
+use Rattle.base.specs.Refusals.{refusal, noRefusal, refusedOr}
 use Rattle.kinds.specs.Kinds.{root, isKnown}
 use Rattle.table.specs.declared.Row.{Row}
+use Rattle.table.specs.declared.Which.the-variants.{All}
 use Rattle.table.specs.Table.{noParent}
+use Rattle.table.specs.Counts.{countUnder}
 use Rattle.body.specs.Body.{exactly}
-use Rattle.format.specs.Rows.{bodyOf}
-use Rattle.plan.specs.declared.Judged.{Judged}
+use Rattle.format.specs.Rows.{bodyOf, outside}
 
 -- ---- 21
 
@@ -36,14 +39,9 @@ isOn row (q ∷ qs) = eqb q row || isOn row qs
 unfoldable pub rightParent : Row → (previous : List ℕ) → Bool
 rightParent r previous = cond (eqb (r .kind) root) (eqb (r .parent) noParent) (isOn (r .parent) previous)
 
--- ---- 22: "body end before its start or past the source"
-abbrev pub outside : (size : ℕ) → Row → Bool
-outside size r = ltb (r .end) (r .start) || ltb size (r .end)
-
 -- ---- 24: how many are "the rows naming it", among all rows of the plan, be they wrong themselves
-unfoldable pub naming : List Row → (row : ℕ) → ℕ
-naming [] row = 0
-naming (r ∷ rs) row = cond (eqb (r .parent) row) (suc (naming rs row)) (naming rs row)
+abbrev pub naming : List Row → (row : ℕ) → ℕ
+naming rows row = countUnder All rows row
 
 -- ---- one row, and all
 
@@ -56,17 +54,13 @@ rowRefusal s previous named r =
     (cond (not (exactly (bodyOf s r) (r .properties))) 23
     (cond (not (eqb (r .children) named)) 24 0))))
 
--- a refusal by its number, or what comes where there is none
-abbrev pub byNumber : ℕ → (k : ℕ) → Judged → Judged
-byNumber zero k next = next
-byNumber (suc n) k next = record { number = suc n; row = k }
-
--- the first refusal of the rows from row k on; `all` are the plan's rows
-unfoldable pub judgedFrom : (s : List ℕ) (all : List Row) (k : ℕ) (previous : List ℕ) → List Row → Judged
-judgedFrom s all k previous [] = record { number = 0; row = 0 }
-judgedFrom s all k previous (r ∷ rs) =
-    byNumber (rowRefusal s previous (naming all k) r) k (judgedFrom s all (suc k) (pathOf k r previous) rs)
+-- the first refusal of the rows from row k on, with its row as its place; `all` are the plan's rows
+unfoldable pub planRefusalFrom : (s : List ℕ) (all : List Row) (k : ℕ) (previous : List ℕ) → List Row → Refusal
+planRefusalFrom s all k previous [] = noRefusal
+planRefusalFrom s all k previous (r ∷ rs) =
+    let number = rowRefusal s previous (naming all k) r in
+    refusedOr number (refusal number k) (planRefusalFrom s all (suc k) (pathOf k r previous) rs)
 
 -- the first refusal of a plan's rows
-unfoldable pub judged : (s : List ℕ) → List Row → Judged
-judged s rows = judgedFrom s rows 0 [] rows
+unfoldable pub planRefusal : (s : List ℕ) → List Row → Refusal
+planRefusal s rows = planRefusalFrom s rows 0 [] rows

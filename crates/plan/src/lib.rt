@@ -1,35 +1,12 @@
 // Judging a plan: refusals 21 to 24 of its rows over the source's bytes.
 ghost use mathlib.Core.Path.{_≡_};
-ghost use Prim.Native.Nat.{ℕ, _≤_, _<_, min};
-ghost use lib.ListN.{length, getD};
+ghost use Prim.Native.Nat.{_≤_, _<_, min};
+ghost use lib.ListN.{length};
 ghost use Rattle.base.specs.Limits.{mostRows};
 ghost use Rattle.kinds.specs.Kinds.{isKnown};
 ghost use Rattle.table.specs.Table.{noParent, rowsAt};
-ghost use Rattle.plan.specs.Plan.{rightParent, isOn, rowRefusal, judged};
-ghost use Rattle.plan.specs.Plan.{outside as Plan·outside};
-ghost use Rattle.plan.specs.Contract.{pathAt, Climbs, Counted};
-
-// Number 0, or a refusal's number and the row that it is found at.
-pub struct Judged {
-    pub number: u32,
-    pub row: u32,
-}
-
-// Counts the rows that name each row as their parent, in one pass.
-fn count_children(plan: &[u32], rows: usize, counts: &mut [u32])
-    requires { ⌜ (rows ≤ mostRows) × (length (now counts) ≡ mostRows) × ((p : ℕ) → getD (now counts) p 0 ≡ 0) ⌝ }
-    ensures { λ _. ⌜ Counted (now (counts .exit)) (rowsAt (now (plan .entry)) 0 rows) ⌝ }
-{
-    let mut i: usize = 0;
-    while i < rows {
-        let row = table::row_at(plan, i);
-        let parent = row.parent as usize;
-        if parent < base::MOST_ROWS {
-            counts[parent] = counts[parent] + 1;
-        }
-        i += 1;
-    }
-}
+ghost use Rattle.plan.specs.Plan.{rightParent, isOn, rowRefusal, planRefusal};
+ghost use Rattle.plan.specs.Private.{pathAt, Climbs, Counted};
 
 // Whether a row is on the path of the row before row `index`; the climb starts at `from`, the first of that path. Over a
 // whole plan each row is passed at most once: a row that was passed is on no later path.
@@ -59,16 +36,8 @@ fn right_parent(plan: &[u32], index: usize, row: table::Row, from: u32) -> bool
     is_above(plan, index, from, parent)
 }
 
-fn outside(size: usize, row: table::Row) -> bool
-    ensures { λ r. ⌜ r ≡ Plan·outside size row ⌝ }
-{
-    let start = row.start as usize;
-    let end = row.end as usize;
-    (end < start) | (size < end)
-}
-
 // A row's refusal, or 0. Whether its kind is known is looked up by the caller, who needs it too.
-fn refusal(
+fn row_refusal(
     plan: &[u32],
     index: usize,
     row: table::Row,
@@ -83,7 +52,7 @@ fn refusal(
     if !right_parent(plan, index, row, from) {
         return 21;
     }
-    if outside(source.len(), row) {
+    if format::is_outside(source.len(), row) {
         return 22;
     }
     if !known {
@@ -100,9 +69,9 @@ fn refusal(
 }
 
 // The rows in turn.
-fn judge_rows(plan: &[u32], rows: usize, source: &[u8], counts: &[u32]) -> Judged
+fn judge_rows(plan: &[u32], rows: usize, source: &[u8], counts: &[u32]) -> base::Refusal
     requires { ⌜ (rows ≤ mostRows) × (length (now counts) ≡ mostRows) × Counted (now counts) (rowsAt (now plan) 0 rows) ⌝ }
-    ensures { λ r. ⌜ r ≡ judged (now (source .entry)) (rowsAt (now (plan .entry)) 0 rows) ⌝ }
+    ensures { λ r. ⌜ (r ≡ planRefusal (now (source .entry)) (rowsAt (now (plan .entry)) 0 rows)) × (r .place < mostRows) ⌝ }
 {
     // The first row on the path of the previous row.
     let mut from: u32 = table::NO_PARENT;
@@ -110,10 +79,9 @@ fn judge_rows(plan: &[u32], rows: usize, source: &[u8], counts: &[u32]) -> Judge
     while i < rows {
         let row = table::row_at(plan, i);
         let known = kinds::known(row.kind);
-        let number = refusal(plan, i, row, known, from, source, counts[i]);
+        let number = row_refusal(plan, i, row, known, from, source, counts[i]);
         if number != 0 {
-            let place = i as u32;
-            return Judged { number, row: place };
+            return base::Refusal { number, place: i };
         }
         if known {
             from = i as u32;
@@ -122,19 +90,22 @@ fn judge_rows(plan: &[u32], rows: usize, source: &[u8], counts: &[u32]) -> Judge
         }
         i += 1;
     }
-    Judged { number: 0, row: 0 }
+    base::Refusal {
+        number: 0,
+        place: 0,
+    }
 }
 
-// Judges the first rows of a table, at most 1,024, as a plan over the source.
-pub fn judge(plan: &[u32], rows: usize, source: &[u8]) -> Judged
-    ensures { λ r. ⌜ r ≡ judged (now (source .entry)) (rowsAt (now (plan .entry)) 0 (min rows mostRows)) ⌝ }
+// The first refusal of the first rows of a table, at most 1,024, as a plan over the source: its place is the row.
+pub fn refusal(plan: &[u32], rows: usize, source: &[u8]) -> base::Refusal
+    ensures result { λ r. ⌜ r ≡ planRefusal (now (source .entry)) (rowsAt (now (plan .entry)) 0 (min rows mostRows)) ⌝ }
+    ensures bound { λ r. ⌜ r .place < mostRows ⌝ }
 {
     let n = if rows < base::MOST_ROWS {
         rows
     } else {
         base::MOST_ROWS
     };
-    let mut counts = [0u32; base::MOST_ROWS];
-    count_children(plan, n, &mut counts);
+    let counts = table::count_under(plan, n, table::Which::All);
     judge_rows(plan, n, source, &counts)
 }

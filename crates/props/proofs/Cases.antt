@@ -1,8 +1,8 @@
 -- The cases of the stages, each from the tests that lead to it; and the step over the part of a body from a place on.
-use mathlib.Core.Path.{_≡_, refl, ap, _∙_}
+use mathlib.Core.Path.{_≡_, refl, sym, _∙_}
 use mathlib.Core.Bool.{Bool, true, false, cond, not}
 use mathlib.Core.List.{List}
-use Prim.Native.Nat.{ℕ, zero, suc, _+_, _-_, _*_, _<_, _≤_}
+use Prim.Native.Nat.{ℕ, _+_, _-_, _*_, _<_, _≤_}
 use native.Mathlib.Nat.{mul-le-mul}
 use native.Mathlib.Omega.{arith}
 use lib.Dec.{ltb, eqb}
@@ -12,6 +12,8 @@ use mir.Val.{Fits}
 use borrow.Author.Tests.{lt-ltb, le-ltb, ltb-false}
 use Rattle.le.specs.Le.{numberAt}
 use Rattle.le.proofs.Laws.{rest, length-rest, drop-rest, numberAt-rest}
+use Rattle.base.specs.Refusals.{refusedOr}
+use Rattle.base.proofs.Refusals.{is-refused}
 use Rattle.base.proofs.Tests.{by-test}
 use Rattle.names.specs.Names.{sizeOk, bytesOk}
 use Rattle.props.specs.declared.Size.{Size}
@@ -20,14 +22,10 @@ use Rattle.props.specs.declared.Extent.{Extent}
 use Rattle.props.specs.declared.Extent.the-variants.{Takes}
 use Rattle.props.specs.declared.Extent.the-variants.{Refused as noData}
 use Rattle.props.specs.declared.Step.{Step}
-use Rattle.props.specs.declared.Step.the-variants.{Refused}
-use Rattle.props.specs.Types.{sizeOf, noSuch}
-use Rattle.props.specs.Step.{headerRefusal, nameRefusal, dataRefusal, toZero, fit, extentOf, unless, dataOf, past, codeAt, sizeAt, lengthAt, nameAt, startAt, stepAt}
-
--- a number other than 0 refuses
-unless-refused : {A : Type 0} (refused : ℕ → A) (n : ℕ) (next : A) → (n ≡ 0 → ⊥) → refused n ≡ unless refused n next
-unless-refused refused zero next h = absurd (h refl)
-unless-refused refused (suc n) next h = refl
+use Rattle.props.specs.declared.Step.the-variants.{Past, Refused}
+use Rattle.props.specs.Types.{elementSize, noSuch}
+use Rattle.props.specs.Step.{headerRefusal, dataRefusal, toZero, lengthOk, dataSize, codeAt, sizeAt, lengthAt, nameAt, startAt, stepAt}
+use Rattle.props.specs.Private.{fit, extentOf, dataOf}
 
 -- ---- the header
 module _ (code size room : ℕ) where
@@ -36,11 +34,11 @@ module _ (code size room : ℕ) where
   no-header h = rw (lt-ltb _ _ h)
 
   module _ (header : 8 ≤ room) where
-    pub no-type : noSuch (sizeOf code) ≡ true → 11 ≡ headerRefusal code size room
+    pub no-type : noSuch (elementSize code) ≡ true → 11 ≡ headerRefusal code size room
     unfolding headerRefusal
     no-type e = rw (le-ltb _ _ header, e)
 
-    module _ (type : noSuch (sizeOf code) ≡ false) where
+    module _ (type : noSuch (elementSize code) ≡ false) where
       pub no-name : sizeOk size ≡ false → 11 ≡ headerRefusal code size room
       unfolding headerRefusal
       no-name e = rw (le-ltb _ _ header, type, e)
@@ -65,7 +63,7 @@ name-fits-by false false false false e = refl
 pub name-fits : (code size room : ℕ) → headerRefusal code size room ≡ 0 → 8 + size ≤ room
 unfolding headerRefusal
 name-fits code size room e =
-    ltb-false room (8 + size) (name-fits-by (ltb room 8) (noSuch (sizeOf code)) (not (sizeOk size)) (ltb room (8 + size)) e)
+    ltb-false room (8 + size) (name-fits-by (ltb room 8) (noSuch (elementSize code)) (not (sizeOk size)) (ltb room (8 + size)) e)
 
 -- ---- the data
 -- the product of two numbers of 32 bits does not wrap
@@ -82,7 +80,7 @@ module _ (n room : ℕ) where
 module _ (size : Size) (len : ℕ) (bs : List ℕ) where
   pub data-refused : {n : ℕ} → n ≡ dataRefusal size len (length bs) → (n ≡ 0 → ⊥) → noData n ≡ dataOf size len bs
   unfolding dataOf
-  data-refused {n} e h = unless-refused noData n (extentOf size len bs) h ∙ rw e
+  data-refused {n} e h = sym (is-refused n (noData n) (extentOf size len bs) h) ∙ rw e
 
   pub data-right : dataRefusal size len (length bs) ≡ 0 → extentOf size len bs ≡ dataOf size len bs
   unfolding dataOf
@@ -107,33 +105,65 @@ data-within (Bytes w) len bs = rw (elements-fit w len bs) (fit-within (len * w) 
 data-within Text len bs = by-test (eqb len 1) (λ t. rw t (fit-within (toZero bs) (length bs))) (λ t. rw t tt)
 data-within NoSuch len bs = tt
 
--- ---- the step, over the part of the body that starts with the header
+-- ---- the step by the code's stages: refused by the header, by the name, or as the data says
+abbrev pub past : (at start : ℕ) → Extent → Step
+past at start (Takes n) = Past (record { name = at + 8; start = start }) (record { at = start + n })
+past at start (noData n) = Refused n
+
+abbrev pub staged : (header : ℕ) (named : Bool) (next : Step) → Step
+staged header named next = refusedOr header (Refused header) (cond named next (Refused 11))
+
+staged-by : (a b c d e : Bool) (next : Step) → cond a (Refused 10) (cond b (Refused 11) (cond c (Refused 11) (cond d (Refused 10) (cond (not e) (Refused 11) next))))
+    ≡ staged (cond a 10 (cond b 11 (cond c 11 (cond d 10 0)))) e next
+staged-by true b c d e next = refl
+staged-by false true c d e next = refl
+staged-by false false true d e next = refl
+staged-by false false false true e next = refl
+staged-by false false false false true next = refl
+staged-by false false false false false next = refl
+
+module _ (at start : ℕ) where
+  data-by : (size : Size) (len : ℕ) (rest : List ℕ) → cond (not (lengthOk size len)) (Refused 11) (cond (ltb (length rest) (dataSize size len rest)) (Refused 10)
+      (Past (record { name = at + 8; start = start }) (record { at = start + dataSize size len rest }))) ≡ past at start (dataOf size len rest)
+  unfolding dataRefusal dataOf
+  data-by (Bytes w) len rest = by-test (ltb (length rest) (len * w)) (λ t. rw t) (λ t. rw t)
+  data-by Text len rest = by-test (eqb len 1) (λ t. by-test (ltb (length rest) (toZero rest)) (λ u. rw (t, u)) (λ u. rw (t, u))) (λ t. rw t)
+  data-by NoSuch len rest = refl
+
+-- over the part of the body that starts with the header
 abbrev pub stepOf : ℕ → ℕ → ℕ → ℕ → List ℕ → Step
 stepOf at code size len header =
-    unless Refused (headerRefusal code size (length header))
-    (unless Refused (nameRefusal (take size (drop 8 header)))
-    (past at (at + (8 + size)) (dataOf (sizeOf code) len (drop (8 + size) header))))
+    staged (headerRefusal code size (length header)) (bytesOk (take size (drop 8 header))) (past at (at + (8 + size)) (dataOf (elementSize code) len (drop (8 + size) header)))
 
 module _ (s : List ℕ) (at : ℕ) where
+  abbrev header : ℕ
+  header = headerRefusal (codeAt s at) (sizeAt s at) (length s - at)
+
+  abbrev found : Step
+  found = past at (startAt s at) (dataOf (elementSize (codeAt s at)) (lengthAt s at) (drop (startAt s at) s))
+
+  pub by-stages : stepAt s at ≡ staged header (bytesOk (nameAt s at)) found
+  unfolding stepAt headerRefusal
+  by-stages =
+      rw (data-by at (startAt s at) (elementSize (codeAt s at)) (lengthAt s at) (drop (startAt s at) s))
+      (staged-by (ltb (length s - at) 8) (noSuch (elementSize (codeAt s at))) (not (sizeOk (sizeAt s at))) (ltb (length s - at) (8 + sizeAt s at)) (bytesOk (nameAt s at)) found)
+
   pub step-rest : {code size len : ℕ} → code ≡ numberAt 2 (rest s at) 0 → size ≡ numberAt 2 (rest s at) 2 → len ≡ numberAt 4 (rest s at) 4
       → stepOf at code size len (rest s at) ≡ stepAt s at
-  unfolding stepAt nameAt
+  unfolding nameAt
   step-rest {code} {size} {len} c z l =
       let sum : at + (8 + size) ≡ at + 8 + size = omega arith in
       let first : at + 0 ≡ at = omega arith in
-      rw (length-rest s at, drop-rest s at 8, drop-rest s at (8 + size), sum, c, z, l, numberAt-rest 2 s at 0, numberAt-rest 2 s at 2, numberAt-rest 4 s at 4, first)
+      rw (by-stages, length-rest s at, drop-rest s at 8, drop-rest s at (8 + size), sum, c, z, l, numberAt-rest 2 s at 0, numberAt-rest 2 s at 2, numberAt-rest 4 s at 4, first)
 
   pub past-end : length s < at → Refused 10 ≡ stepAt s at
   unfolding stepAt
-  past-end h =
-      ap (λ n. unless Refused n (unless Refused (nameRefusal (nameAt s at)) (past at (startAt s at) (dataOf (sizeOf (codeAt s at)) (lengthAt s at) (drop (startAt s at) s)))))
-      (no-header (codeAt s at) (sizeAt s at) (length s - at) (omega arith))
+  past-end h = rw (lt-ltb (length s - at) 8 (omega arith))
 
--- the step by what was read of the header's part: refused by the header, by the name, or as the data says
+-- the step by what was read of the header's part
 module _ (s : List ℕ) (at : ℕ) {code size : ℕ} (c : code ≡ numberAt 2 (rest s at) 0) (z : size ≡ numberAt 2 (rest s at) 2) where
   pub header-refused : {n : ℕ} → n ≡ headerRefusal code size (length (rest s at)) → (n ≡ 0 → ⊥) → Refused n ≡ stepAt s at
-  header-refused {n} e h =
-      unless-refused Refused n (unless Refused (nameRefusal (take size (drop 8 (rest s at)))) (past at (at + (8 + size)) (dataOf (sizeOf code) (numberAt 4 (rest s at) 4) (drop (8 + size) (rest s at))))) h
+  header-refused {n} e h = sym (is-refused n (Refused n) (cond (bytesOk (take size (drop 8 (rest s at)))) (past at (at + (8 + size)) (dataOf (elementSize code) (numberAt 4 (rest s at) 4) (drop (8 + size) (rest s at)))) (Refused 11)) h)
       ∙ rw e (step-rest s at c z refl)
 
   module _ (right : headerRefusal code size (length (rest s at)) ≡ 0) where
@@ -141,5 +171,5 @@ module _ (s : List ℕ) (at : ℕ) {code size : ℕ} (c : code ≡ numberAt 2 (r
     name-refused e = rw (right, e) at (step-rest s at c z refl)
 
     pub by-data : bytesOk (take size (drop 8 (rest s at))) ≡ true → {len : ℕ} → len ≡ numberAt 4 (rest s at) 4
-        → {e : Extent} → e ≡ dataOf (sizeOf code) len (drop (8 + size) (rest s at)) → past at (at + (8 + size)) e ≡ stepAt s at
+        → {e : Extent} → e ≡ dataOf (elementSize code) len (drop (8 + size) (rest s at)) → past at (at + (8 + size)) e ≡ stepAt s at
     by-data ok l d = rw d (rw (right, ok) at (step-rest s at c z l))

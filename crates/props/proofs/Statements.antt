@@ -4,10 +4,10 @@ use mathlib.Core.Path.{_≡_, refl}
 use mathlib.Core.Logic.{inl, inr}
 use borrow.Author.Tests.{ne-eqb}
 use Rattle.props.specs.declared.Size.the-variants.{NoSuch}
-use Rattle.props.specs.Types.{sizeOf}
+use Rattle.props.specs.Types.{elementSize}
 use Rattle.props.specs.Statements.{IsTypeCode, SizesAre}
 
-none-other : (code : ℕ) → (IsTypeCode code → ⊥) → sizeOf code ≡ NoSuch
+none-other : (code : ℕ) → (IsTypeCode code → ⊥) → elementSize code ≡ NoSuch
 none-other code n =
     simp (
       ne-eqb code 0x62 (λ e. n (inl e)),

@@ -8,15 +8,16 @@ use Rattle.names.specs.Names.{bytesOk}
 use Rattle.props.specs.declared.Size.the-variants.{Bytes, Text, NoSuch}
 use Rattle.props.specs.declared.Step.{Step}
 use Rattle.props.specs.declared.Step.the-variants.{Past, Refused}
-use Rattle.props.specs.Types.{sizeOf}
-use Rattle.props.specs.Step.{headerRefusal, dataRefusal, toZero, dataOf, stepAt, dataAt, nameAt}
+use Rattle.props.specs.Types.{elementSize}
+use Rattle.props.specs.Step.{toZero, stepAt, dataAt, nameAt}
 
 -- b h i l f d v2 v3 v4 s, by their letters; and v2 with its letters exchanged
-types : map sizeOf (98 ∷ 104 ∷ 105 ∷ 108 ∷ 102 ∷ 100 ∷ 0x7632 ∷ 0x7633 ∷ 0x7634 ∷ 115 ∷ 0x3276 ∷ []) ≡ Bytes 1 ∷ Bytes 2 ∷ Bytes 4 ∷ Bytes 8 ∷ Bytes 4 ∷ Bytes 8 ∷ Bytes 8 ∷ Bytes 12 ∷ Bytes 16 ∷ Text ∷ NoSuch ∷ []
+types : map elementSize (98 ∷ 104 ∷ 105 ∷ 108 ∷ 102 ∷ 100 ∷ 0x7632 ∷ 0x7633 ∷ 0x7634 ∷ 115 ∷ 0x3276 ∷ [])
+    ≡ Bytes 1 ∷ Bytes 2 ∷ Bytes 4 ∷ Bytes 8 ∷ Bytes 4 ∷ Bytes 8 ∷ Bytes 8 ∷ Bytes 12 ∷ Bytes 16 ∷ Text ∷ NoSuch ∷ []
 types = refl
 
 unfoldable step : List ℕ → ℕ → Step
-unfolding val numberAt bytesOk headerRefusal dataRefusal toZero dataOf nameAt stepAt
+unfolding val numberAt bytesOk toZero nameAt stepAt
 step s at = stepAt s at
 
 -- past a property with a name of one byte
@@ -27,7 +28,7 @@ passing at next = Past (record { name = at + 8; start = at + 9 }) (record { at =
 abbrev header : ℕ → ℕ → ℕ → List ℕ
 header type size len = type ∷ 0 ∷ size ∷ 0 ∷ len ∷ 0 ∷ 0 ∷ 0 ∷ []
 
--- `f` with the three bytes 0 1 2; and the same with a byte before and behind it
+-- `f` with the three bytes 0 1 2; and the same with a byte before and after it
 abbrev face : List ℕ
 face = header 0x62 1 3 ++ (102 ∷ 0 ∷ 1 ∷ 2 ∷ [])
 
@@ -46,7 +47,8 @@ unfolding step
 cut = (refl, refl, refl, refl)
 
 -- no such type; no name, one of 33 bytes, one of `F`
-wrong : (step (header 0x61 1 3 ++ (102 ∷ 0 ∷ 1 ∷ 2 ∷ [])) 0 ≡ Refused 11) × (step (header 0x62 0 3 ++ (0 ∷ 1 ∷ 2 ∷ [])) 0 ≡ Refused 11) × (step (header 0x62 33 0 ++ replicate 33 102) 0 ≡ Refused 11) × (step (header 0x62 1 0 ++ (70 ∷ [])) 0 ≡ Refused 11)
+wrong : (step (header 0x61 1 3 ++ (102 ∷ 0 ∷ 1 ∷ 2 ∷ [])) 0 ≡ Refused 11) × (step (header 0x62 0 3 ++ (0 ∷ 1 ∷ 2 ∷ [])) 0 ≡ Refused 11)
+    × (step (header 0x62 33 0 ++ replicate 33 102) 0 ≡ Refused 11) × (step (header 0x62 1 0 ++ (70 ∷ [])) 0 ≡ Refused 11)
 unfolding step
 wrong = (refl, refl, refl, refl)
 
@@ -55,19 +57,24 @@ longest : step (header 0x62 32 0 ++ replicate 32 102) 0 ≡ Past (record { name 
 unfolding step
 longest = refl
 
--- "ab" and its zero, with a byte behind; of array length 2; without the zero
-text : (step (header 0x73 1 1 ++ (110 ∷ 97 ∷ 98 ∷ 0 ∷ 7 ∷ [])) 0 ≡ passing 0 12) × (step (header 0x73 1 2 ++ (110 ∷ 97 ∷ 0 ∷ 0 ∷ [])) 0 ≡ Refused 11) × (step (header 0x73 1 1 ++ (110 ∷ 97 ∷ 98 ∷ [])) 0 ≡ Refused 10)
+-- "ab" and its zero, with a byte after it; of array length 2; without the zero
+text : (step (header 0x73 1 1 ++ (110 ∷ 97 ∷ 98 ∷ 0 ∷ 7 ∷ [])) 0 ≡ passing 0 12) × (step (header 0x73 1 2 ++ (110 ∷ 97 ∷ 0 ∷ 0 ∷ [])) 0 ≡ Refused 11)
+    × (step (header 0x73 1 1 ++ (110 ∷ 97 ∷ 98 ∷ [])) 0 ≡ Refused 10)
 unfolding step
 text = (refl, refl, refl)
 
 -- of two faults with different numbers the earlier in the order speaks: header fits (10) before type (11); type (11)
 -- before name fits (10); name size (11) before name fits (10); name fits (10) before name bytes (11); name bytes (11)
 -- before data fits (10), of bytes and of a string; string length (11) before data fits (10)
-ordered : map (λ s. step s 0) (take 7 (header 0x61 1 3) ∷ header 0x61 3 0 ∷ header 0x62 33 0 ∷ (header 0x62 3 0 ++ (70 ∷ [])) ∷ (header 0x62 1 3 ++ (70 ∷ [])) ∷ (header 0x73 1 1 ++ (70 ∷ 97 ∷ [])) ∷ (header 0x73 1 2 ++ (110 ∷ 97 ∷ [])) ∷ []) ≡ Refused 10 ∷ Refused 11 ∷ Refused 11 ∷ Refused 10 ∷ Refused 11 ∷ Refused 11 ∷ Refused 11 ∷ []
+ordered : map (λ s. step s 0)
+    (take 7 (header 0x61 1 3) ∷ header 0x61 3 0 ∷ header 0x62 33 0 ∷ (header 0x62 3 0 ++ (70 ∷ [])) ∷ (header 0x62 1 3 ++ (70 ∷ [])) ∷
+    (header 0x73 1 1 ++ (70 ∷ 97 ∷ [])) ∷ (header 0x73 1 2 ++ (110 ∷ 97 ∷ [])) ∷ [])
+    ≡ Refused 10 ∷ Refused 11 ∷ Refused 11 ∷ Refused 10 ∷ Refused 11 ∷ Refused 11 ∷ Refused 11 ∷ []
 unfolding step
 ordered = refl
 
 -- the name and the data of the property, and of one that is cut in its name
-parts : (dataAt face 0 ≡ 9) × (nameAt face 0 ≡ 102 ∷ []) × (dataAt (header 0x62 3 0 ++ (102 ∷ [])) 0 ≡ 9) × (nameAt (header 0x62 3 0 ++ (102 ∷ [])) 0 ≡ 102 ∷ [])
+parts : (dataAt face 0 ≡ 9) × (nameAt face 0 ≡ 102 ∷ []) × (dataAt (header 0x62 3 0 ++ (102 ∷ [])) 0 ≡ 9)
+    × (nameAt (header 0x62 3 0 ++ (102 ∷ [])) 0 ≡ 102 ∷ [])
 unfolding val numberAt dataAt nameAt
 parts = (refl, refl, refl, refl)

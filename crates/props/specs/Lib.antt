@@ -1,4 +1,5 @@
 pub mod Types
 pub mod Statements
 pub mod Step
+pub mod Private
 pub mod Examples

@@ -1,8 +1,8 @@
 -- Document 01: "Property header, 8 bytes: type u16, name size u16, array length u32; then the name, then the data"; its
 -- refusals 10 and 11 in the order "header fits, type, name size, name fits, name bytes, string length, data fits".
 -- Places are offsets in some bytes: in the reader all that is left of the node, by its size; in 23 and 42 the body.
-use Prim.Native.Nat.{ℕ, zero, suc, _+_, _-_, _*_}
-use mathlib.Core.Bool.{cond, not}
+use Prim.Native.Nat.{ℕ, suc, _+_, _-_, _*_}
+use mathlib.Core.Bool.{Bool, true, false, cond, not}
 use mathlib.Core.List.{List, [], _∷_}
 use lib.Dec.{eqb, ltb}
 use lib.ListN.{length, take, drop}
@@ -10,60 +10,9 @@ use Rattle.le.specs.Le.{numberAt}
 use Rattle.names.specs.Names.{sizeOk, bytesOk}
 use Rattle.props.specs.declared.Size.{Size}
 use Rattle.props.specs.declared.Size.the-variants.{Bytes, Text, NoSuch}
-use Rattle.props.specs.declared.Extent.{Extent}
-use Rattle.props.specs.declared.Extent.the-variants.{Takes}
-use Rattle.props.specs.declared.Extent.the-variants.{Refused as noData}
 use Rattle.props.specs.declared.Step.{Step}
 use Rattle.props.specs.declared.Step.the-variants.{Past, Refused}
-use Rattle.props.specs.Types.{sizeOf, noSuch}
-
--- Stage 1, the header: from its type, its name size and the bytes left from its start to the end. 0 is no refusal.
--- header fits, type, name size, name fits
-unfoldable pub headerRefusal : ℕ → ℕ → ℕ → ℕ
-headerRefusal code size room =
-    cond (ltb room 8) 10
-    (cond (noSuch (sizeOf code)) 11
-    (cond (not (sizeOk size)) 11
-    (cond (ltb room (8 + size)) 10 0)))
-
--- Stage 2, the name. name bytes
-abbrev pub nameRefusal : List ℕ → ℕ
-nameRefusal name = cond (bytesOk name) 0 11
-
--- Stage 3, the data by the header's numbers: from its size, its array length and the bytes left after the name.
--- string length; and data fits, where it has a size
-unfoldable pub dataRefusal : Size → (len room : ℕ) → ℕ
-dataRefusal (Bytes w) len room = cond (ltb room (len * w)) 10 0
-dataRefusal Text len room = cond (eqb len 1) 0 11
-dataRefusal NoSuch len room = 11
-
--- Stage 4, a string's end: "the data runs up to and including the first zero byte". One past all bytes where there is
--- no zero.
-unfoldable pub toZero : List ℕ → ℕ
-toZero [] = 1
-toZero (b ∷ bs) = cond (eqb b 0) 1 (suc (toZero bs))
-
--- Stage 5, the data's end: how many of the bytes after the name it takes. data fits, of a string
-abbrev pub fit : ℕ → ℕ → Extent
-fit n room = cond (ltb room n) (noData 10) (Takes n)
-
-abbrev pub extentOf : Size → ℕ → List ℕ → Extent
-extentOf (Bytes w) len rest = Takes (len * w)
-extentOf Text len rest = fit (toZero rest) (length rest)
-extentOf NoSuch len rest = noData 11
-
--- the stages, one after the other: a number other than 0 refuses
-abbrev pub unless : {A : Type 0} → (ℕ → A) → ℕ → A → A
-unless refused zero next = next
-unless refused (suc n) next = refused (suc n)
-
--- those of the data, 3 to 5
-unfoldable pub dataOf : Size → ℕ → List ℕ → Extent
-dataOf size len rest = unless noData (dataRefusal size len (length rest)) (extentOf size len rest)
-
-abbrev pub past : ℕ → ℕ → Extent → Step
-past at start (Takes n) = Past (record { name = at + 8; start = start }) (record { at = start + n })
-past at start (noData n) = Refused n
+use Rattle.props.specs.Types.{elementSize, noSuch}
 
 -- the property at a place: its type, its name size, its array length, its name, and where its data starts
 abbrev pub codeAt : List ℕ → ℕ → ℕ
@@ -81,12 +30,54 @@ nameAt s at = take (sizeAt s at) (drop (at + 8) s)
 abbrev pub startAt : List ℕ → ℕ → ℕ
 startAt s at = at + 8 + sizeAt s at
 
--- one step past it
+-- "0x73 `s`: array length must be 1, .."
+abbrev pub lengthOk : Size → (len : ℕ) → Bool
+lengthOk (Bytes w) len = true
+lengthOk Text len = eqb len 1
+lengthOk NoSuch len = false
+
+-- ".. and the data runs up to and including the first zero byte": how many bytes that is. One more than there are where none is zero.
+unfoldable pub toZero : List ℕ → ℕ
+toZero [] = 1
+toZero (b ∷ bs) = cond (eqb b 0) 1 (suc (toZero bs))
+
+-- how many of the bytes after the name the data takes
+abbrev pub dataSize : Size → (len : ℕ) (rest : List ℕ) → ℕ
+dataSize (Bytes w) len rest = len * w
+dataSize Text len rest = toZero rest
+dataSize NoSuch len rest = 0
+
+-- one step past it: "header fits, type, name size, name fits, name bytes, string length, data fits"
 unfoldable pub stepAt : List ℕ → ℕ → Step
 stepAt s at =
-    unless Refused (headerRefusal (codeAt s at) (sizeAt s at) (length s - at))
-    (unless Refused (nameRefusal (nameAt s at))
-    (past at (startAt s at) (dataOf (sizeOf (codeAt s at)) (lengthAt s at) (drop (startAt s at) s))))
+    let size = elementSize (codeAt s at) in
+    let room = length s - at in
+    let rest = drop (startAt s at) s in
+    let n = dataSize size (lengthAt s at) rest in
+    cond (ltb room 8) (Refused 10)  -- header fits
+    (cond (noSuch size) (Refused 11)  -- type
+    (cond (not (sizeOk (sizeAt s at))) (Refused 11)  -- name size
+    (cond (ltb room (8 + sizeAt s at)) (Refused 10)  -- name fits
+    (cond (not (bytesOk (nameAt s at))) (Refused 11)  -- name bytes
+    (cond (not (lengthOk size (lengthAt s at))) (Refused 11)  -- string length
+    (cond (ltb (length rest) n) (Refused 10)  -- data fits
+    (Past (record { name = at + 8; start = startAt s at }) (record { at = startAt s at + n }))))))))
+
+-- The same by the header's numbers alone; 0 is no refusal. First header fits, type, name size and name fits: from the type, the name
+-- size and the bytes left from the header's start to the end;
+unfoldable pub headerRefusal : (code size room : ℕ) → ℕ
+headerRefusal code size room =
+    cond (ltb room 8) 10
+    (cond (noSuch (elementSize code)) 11
+    (cond (not (sizeOk size)) 11
+    (cond (ltb room (8 + size)) 10 0)))
+
+-- then string length and data fits, but for a string, whose end is found in its bytes: from the size of an element, the array length
+-- and the bytes left after the name
+unfoldable pub dataRefusal : Size → (len room : ℕ) → ℕ
+dataRefusal (Bytes w) len room = cond (ltb room (len * w)) 10 0
+dataRefusal Text len room = cond (eqb len 1) 0 11
+dataRefusal NoSuch len room = 11
 
 -- document 01's number and values of an answer: the refusal's number, 0 for none; where the name and the data start, and
 -- where the next property does

@@ -37,8 +37,8 @@ abbrev pub string : ℕ
 string = 0x73
 
 -- b 1, h 2, i 4, l 8, f 4, d 8, v2 8, v3 12, v4 16; s
-abbrev pub sizeOf : ℕ → Size
-sizeOf code =
+abbrev pub elementSize : ℕ → Size
+elementSize code =
     cond (eqb code byte) (Bytes 1)
     (cond (eqb code short) (Bytes 2)
     (cond (eqb code int) (Bytes 4)

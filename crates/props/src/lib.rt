@@ -3,8 +3,9 @@ ghost use mathlib.Core.Path.{_≡_};
 ghost use Prim.Native.Nat.{_+_, _≤_, _<_};
 ghost use lib.Dec.{leb};
 ghost use lib.ListN.{length, drop};
-ghost use Rattle.props.specs.Types.{sizeOf, noSuch, sizeNumbers};
-ghost use Rattle.props.specs.Step.{headerRefusal, dataRefusal, toZero, dataOf, stepAt, codeAt, lengthAt, nameAt, startAt, dataAt, stepNumbers};
+ghost use Rattle.props.specs.Types.{elementSize, noSuch, sizeNumbers};
+ghost use Rattle.props.specs.Step.{headerRefusal, dataRefusal, toZero, stepAt, codeAt, lengthAt, nameAt, startAt, dataAt, stepNumbers};
+ghost use Rattle.props.specs.Private.{dataOf};
 
 // The type codes, by the letters that document 01 gives them.
 pub const BYTE: u16 = 0x62; // b
@@ -34,21 +35,21 @@ pub enum Size {
     NoSuch,
 }
 
-pub fn size_of(code: u16) -> Size
-    ensures result { λ r. ⌜ r ≡ sizeOf code ⌝ }
-    ensures numbers { λ r. ⌜ sizeNumbers r ≡ sizeNumbers (sizeOf code) ⌝ }
+pub fn element_size(code: u16) -> Size
+    ensures result { λ r. ⌜ r ≡ elementSize code ⌝ }
+    ensures numbers { λ r. ⌜ sizeNumbers r ≡ sizeNumbers (elementSize code) ⌝ }
 {
     match code {
-        BYTE => Size::Bytes(1), // b
-        SHORT => Size::Bytes(2), // h
-        INT => Size::Bytes(4), // i
-        LONG => Size::Bytes(8), // l
-        FLOAT => Size::Bytes(4), // f
-        DOUBLE => Size::Bytes(8), // d
-        V2 => Size::Bytes(8), // v2
-        V3 => Size::Bytes(12), // v3
-        V4 => Size::Bytes(16), // v4
-        STRING => Size::Text, // s
+        BYTE => Size::Bytes(1),
+        SHORT => Size::Bytes(2),
+        INT => Size::Bytes(4),
+        LONG => Size::Bytes(8),
+        FLOAT => Size::Bytes(4),
+        DOUBLE => Size::Bytes(8),
+        V2 => Size::Bytes(8),
+        V3 => Size::Bytes(12),
+        V4 => Size::Bytes(16),
+        STRING => Size::Text,
         _ => Size::NoSuch,
     }
 }
@@ -76,7 +77,7 @@ pub fn header_refusal(code: u16, size: u16, room: usize) -> u32
     if room < 8 {
         return 10;
     }
-    if no_such(size_of(code)) {
+    if no_such(element_size(code)) {
         return 11;
     }
     if !names::size_ok(size) {
@@ -88,7 +89,7 @@ pub fn header_refusal(code: u16, size: u16, room: usize) -> u32
     0
 }
 
-// What a property's data is refused with by the header's numbers, where `room` bytes are left behind the name: a string's
+// What a property's data is refused with by the header's numbers, where `room` bytes are left after the name: a string's
 // length, or elements that do not fit; 0 for nothing. A string's end is looked for in its bytes.
 pub fn data_refusal(size: Size, length: u32, room: usize) -> u32
     ensures { λ r. ⌜ r ≡ dataRefusal size length room ⌝ }
@@ -158,7 +159,7 @@ enum Extent {
     Refused(u32),
 }
 
-// The data at the start of `rest`, as so many elements of this size.
+// The data at the start of `rest`, as `length` elements of this size.
 fn data_of(size: Size, length: u32, rest: &[u8]) -> Extent
     ensures { λ r. ⌜ r ≡ dataOf size length (now (rest .entry)) ⌝ }
 {
@@ -189,14 +190,14 @@ pub struct Cursor {
 
 // Where the name and the data of a property start. The name ends where the data starts, the data where the next
 // property does.
-pub struct Property {
+pub struct Offsets {
     pub name: usize,
     pub start: usize,
 }
 
 // Past a property; or the refusal of the property at the cursor.
 pub enum Step {
-    Past { property: Property, next: Cursor },
+    Past { offsets: Offsets, next: Cursor },
     Refused(u32),
 }
 
@@ -222,13 +223,13 @@ impl Cursor {
             return Step::Refused(11);
         }
         let length = le::u32_at(header, 4);
-        match data_of(size_of(code), length, &header[data..]) {
+        match data_of(element_size(code), length, &header[data..]) {
             Extent::Takes(n) => {
                 let name = at + 8;
                 let start = at + data;
                 let end = start + n;
                 Step::Past {
-                    property: Property { name, start },
+                    offsets: Offsets { name, start },
                     next: Cursor { at: end },
                 }
             }

@@ -18,7 +18,7 @@ use Rattle.base.proofs.Refusals.{by-refusal}
 use Rattle.format.proofs.Rows.{body-length}
 use Rattle.links.specs.Links.{Link, linksAt, linksFrom, refusalOf, refusedLinks, resolved}
 use Rattle.links.proofs.Splits.{by-link}
-use Rattle.reader.specs.Contract.{RowOk}
+use Rattle.reader.specs.Private.{RowOk}
 
 -- ---- links lie in the file
 abbrev Lies : (size : ℕ) → Link → Type 0

@@ -39,7 +39,7 @@ pub ruled-counts : (s : List ℕ) (all rs : List Row) → ruled s all rs .number
 unfolding ruled facesOf flatMap degenerate
 ruled-counts s all [] e = (refl, refl)
 ruled-counts s all (r ∷ rs) e =
-    let here = ruled-on (judgedRow s all r .number) (r .start) (judgedRow s all r) (ruled s all rs) e in
+    let here = ruled-on (judgedRow s all r .number) _ (judgedRow s all r) (ruled s all rs) e in
     let own = row-counts s all r (here .0) in
     let ih = ruled-counts s all rs (here .1) in (
       ap (λ u. u .faces) (here .2) ∙ rw (own .0, ih .0) (sym (length-append (rowFaces s r) (facesOf s rs))),

@@ -7,30 +7,20 @@ use mathlib.Core.Bool.{_&&_}
 use mathlib.Core.List.{List, [], _∷_, _++_}
 use lib.Dec.{eqb}
 use lib.ListN.{length}
-use borrow.Author.Tests.{eq-eqb, ne-eqb}
+use borrow.Author.Tests.{eq-eqb}
 use Rattle.base.proofs.Tests.{by-test}
 use Rattle.kinds.specs.Kinds.{bone}
 use Rattle.table.specs.declared.Row.{Row}
+use Rattle.table.specs.declared.Which.the-variants.{OfKind}
+use Rattle.table.specs.Counts.{countUnder}
+use Rattle.table.proofs.Counts.{counted-other, counted-append}
 use Rattle.format.specs.Forest.{Forest, end, known, unknown, count, nodes, encode}
 use Rattle.format.specs.Rows.{nodeRow, hashOf, rows}
 use Rattle.format.proofs.Rows.{hash-back}
+use Rattle.format.proofs.Within.{rows-none}
 use Rattle.links.specs.Links.{reached}
 use Rattle.reader.specs.Reading.{bonesUnder}
 use Rattle.valid.specs.Valid.{bones, reaches}
-
-pub bonesUnder-append : (xs ys : List Row) (p : ℕ) → bonesUnder (xs ++ ys) p ≡ bonesUnder xs p + bonesUnder ys p
-unfolding bonesUnder
-bonesUnder-append [] ys p = omega arith
-bonesUnder-append (x ∷ xs) ys p =
-    by-test (eqb (x .kind) bone && eqb (x .parent) p)
-    (λ t. rw (t, bonesUnder-append xs ys p) (omega arith))
-    (λ t. rw (t, bonesUnder-append xs ys p))
-
--- a row under another parent
-pub other : (x : Row) (xs : List Row) (p : ℕ) → (x .parent ≡ p → ⊥) → bonesUnder (x ∷ xs) p ≡ bonesUnder xs p
-unfolding bonesUnder
-other x xs p h = rw (ne-eqb (x .parent) p h)
-    (by-test (eqb (x .kind) bone) (λ t. rw t) (λ t. rw t))
 
 -- a row number that is none of n rows from `row` on
 abbrev pub Outside : (p row n : ℕ) → Type 0
@@ -46,24 +36,15 @@ not-first p row n (inr h) e = omega arith
 
 -- no row of some nodes is under a parent that is neither theirs nor one of them
 pub none-under : (f : Forest) (parent row at p : ℕ) → (parent ≡ p → ⊥) → Outside p row (nodes f) → bonesUnder (rows f parent row at) p ≡ 0
-unfolding bonesUnder
-none-under end parent row at p n h = refl
-none-under (known k hash ps body kids next) parent row at p n h =
-    let here : ℕ = at + 24 + length body in
-    let below = rows kids row (suc row) here in
-    let beside = rows next parent (suc row + nodes kids) (here + length (encode kids)) in
-    let r = nodeRow k hash parent (at + 24) here ps (count kids) in
-    let a = none-under kids row (suc row) here p (not-first p row (nodes kids + nodes next) h) (within p row (nodes (known k hash ps body kids next)) (suc row) (nodes kids) h (omega arith) (omega arith)) in
-    let b = none-under next parent (suc row + nodes kids) (here + length (encode kids)) p n (within p row (nodes (known k hash ps body kids next)) (suc row + nodes kids) (nodes next) h (omega arith) (omega arith)) in
-    other r (below ++ beside) p n ∙ bonesUnder-append below beside p ∙ rw (a, b)
-none-under (unknown k hash ps c rest next) parent row at p n h =
-    let r = nodeRow k hash parent (at + 24) (at + 24 + length rest) ps c in
-    other r (rows next parent (suc row) (at + 24 + length rest)) p n
-    ∙ none-under next parent (suc row) (at + 24 + length rest) p n (within p row (nodes (unknown k hash ps c rest next)) (suc row) (nodes next) h (omega arith) (omega arith))
+none-under f parent row at p n h = rows-none (OfKind bone) f parent row at p n (by h)
+  where
+    by : Outside p row (nodes f) → row ≤ p → row + nodes f ≤ p
+    by (inl a) b = absurd (omega arith)
+    by (inr a) b = a
 
 -- the Bones under a parent are those among its children
 pub own-under : (f : Forest) (parent row at : ℕ) → Outside parent row (nodes f) → bonesUnder (rows f parent row at) parent ≡ bones f
-unfolding bonesUnder
+unfolding countUnder
 own-under end parent row at h = refl
 own-under (known k hash ps body kids next) parent row at h =
     let here : ℕ = at + 24 + length body in
@@ -71,7 +52,7 @@ own-under (known k hash ps body kids next) parent row at h =
     let beside = rows next parent (suc row + nodes kids) (here + length (encode kids)) in
     let a = none-under kids row (suc row) here parent (not-first parent row (nodes kids + nodes next) h) (within parent row (nodes (known k hash ps body kids next)) (suc row) (nodes kids) h (omega arith) (omega arith)) in
     let b = own-under next parent (suc row + nodes kids) (here + length (encode kids)) (within parent row (nodes (known k hash ps body kids next)) (suc row + nodes kids) (nodes next) h (omega arith) (omega arith)) in
-    let rest : bonesUnder (below ++ beside) parent ≡ bones next = bonesUnder-append below beside parent ∙ rw (a, b) (omega arith) in
+    let rest : bonesUnder (below ++ beside) parent ≡ bones next = counted-append (OfKind bone) below beside parent ∙ rw (a, b) (omega arith) in
     rw (eq-eqb parent parent refl) (by-test (eqb k bone) (λ t. rw (t, rest)) (λ t. rw (t, rest)))
 own-under (unknown k hash ps c rest next) parent row at h =
     let b = own-under next parent (suc row) (at + 24 + length rest) (within parent row (nodes (unknown k hash ps c rest next)) (suc row) (nodes next) h (omega arith) (omega arith)) in
@@ -101,8 +82,8 @@ module _ (all : List Row) (k h ps : ℕ) (body : List ℕ) (kids next : Forest) 
   split : (p : ℕ) → row ≤ p → p < row + nodes (known k h ps body kids next) → bonesUnder all p ≡ bonesUnder below p + bonesUnder beside p
   split p a b =
       inside p a b
-      ∙ other (nodeRow k h parent (at + 24) (at + 24 + length body) ps (count kids)) (below ++ beside) p (parent-not p a b)
-      ∙ bonesUnder-append below beside p
+      ∙ counted-other (OfKind bone) (nodeRow k h parent (at + 24) (at + 24 + length body) ps (count kids)) (below ++ beside) p (parent-not p a b)
+      ∙ counted-append (OfKind bone) below beside p
 
   not-beside : (p : ℕ) → row ≤ p → p < suc row + nodes kids → bonesUnder beside p ≡ 0
   not-beside p a b =
@@ -133,7 +114,7 @@ module _ (all : List Row) (k h ps c : ℕ) (rest : List ℕ) (next : Forest) (pa
   inside-next p a b =
       let no : parent ≡ p → ⊥ = λ e. by out e in
       inside p (omega arith) (omega arith)
-      ∙ other (nodeRow k h parent (at + 24) (at + 24 + length rest) ps c) (rows next parent (suc row) (at + 24 + length rest)) p no
+      ∙ counted-other (OfKind bone) (nodeRow k h parent (at + 24) (at + 24 + length rest) ps c) (rows next parent (suc row) (at + 24 + length rest)) p no
     where
       by : Outside parent row (nodes (unknown k h ps c rest next)) → parent ≡ p → ⊥
       by (inl d) e = omega arith

@@ -9,6 +9,7 @@ use lib.Dec.{ltb}
 use lib.ListN.{length, length-map}
 use borrow.Author.Tests.{ltb-true, ltb-false}
 use Rattle.le.specs.Le.{val, AreBytes}
+use Rattle.base.specs.Refusals.{refusedOr}
 use Rattle.base.proofs.Tests.{by-test}
 use Rattle.table.specs.declared.Row.{Row}
 use Rattle.table.specs.Table.{noParent, hasRoom}
@@ -38,7 +39,7 @@ use Rattle.valid.proofs.Links.{RowReached, links-reach, links-good}
 use Rattle.reader.specs.declared.Account.{Account}
 use Rattle.reader.specs.declared.Reading.{Reading}
 use Rattle.reader.specs.declared.Reading.the-variants.{Accepted, Refused}
-use Rattle.reader.specs.Reading.{bonesUnder, judgedRow, ruled, byNumber, accountOf, checked, verdict, readingOf, tableAfter}
+use Rattle.reader.specs.Reading.{bonesUnder, judgedRow, ruled, accountOf, checked, verdict, readingOf, tableAfter}
 use Rattle.reader.specs.Acceptance.{IsValid, Exactly, rowsOfLink, nodesOfLink, AnswerOf, RowsGive, AnswersTheRules, OneForest}
 use Rattle.reader.proofs.Counts.{own-under, reached-nodes}
 use Rattle.reader.proofs.Parts.{file-lies}
@@ -123,21 +124,21 @@ module _ (s : List ℕ) (f : Forest) where
       )
 
 -- ---- the verdict
-byNumber-accepted : (n place : ℕ) (next : Reading) {a : Account} → byNumber n place next ≡ Accepted a → (n ≡ 0) × (next ≡ Accepted a)
-byNumber-accepted zero place next e = (refl, e)
-byNumber-accepted (suc n) place next e = (cc, cc)
+not-refused : (n place : ℕ) (next : Reading) {a : Account} → refusedOr n (Refused n place) next ≡ Accepted a → (n ≡ 0) × (next ≡ Accepted a)
+not-refused zero place next e = (refl, e)
+not-refused (suc n) place next e = (cc, cc)
 
 module _ (s : List ℕ) where
   pub accepted-parts : {a : Account} → verdict s ≡ Accepted a → (limited s .number ≡ 0) × (checked s (limited s .rows) ≡ Accepted a)
   unfolding verdict
-  accepted-parts e = byNumber-accepted (limited s .number) (limited s .at) (checked s (limited s .rows)) e
+  accepted-parts e = not-refused (limited s .number) (limited s .at) (checked s (limited s .rows)) e
 
   pub checked-parts : (rs : List Row) {a : Account} → checked s rs ≡ Accepted a
       → (ruled s rs rs .number ≡ 0) × (linked s rs .number ≡ 0) × (Accepted (accountOf s rs (ruled s rs rs) (linked s rs)) ≡ Accepted a)
   unfolding checked
   checked-parts rs e =
-      let rules = byNumber-accepted (ruled s rs rs .number) (ruled s rs rs .place) _ e in
-      let links = byNumber-accepted (linked s rs .number) (linked s rs .place) _ (rules .1) in
+      let rules = not-refused (ruled s rs rs .number) (ruled s rs rs .place) _ e in
+      let links = not-refused (linked s rs .number) (linked s rs .place) _ (rules .1) in
       (rules .0, links .0, links .1)
 
   pub checked-right : (rs : List Row) → ruled s rs rs .number ≡ 0 → linked s rs .number ≡ 0 → checked s rs ≡ Accepted (accountOf s rs (ruled s rs rs) (linked s rs))

@@ -5,6 +5,7 @@ use mathlib.Core.Path.{_≡_, refl, ap, sym, _∙_}
 use mathlib.Core.Bool.{true, false}
 use mathlib.Core.List.{List, [], _∷_}
 use lib.ListN.{length, length-append}
+use Rattle.base.specs.Refusals.{refusedOr}
 use Rattle.base.proofs.Tests.{by-test}
 use Rattle.kinds.specs.Kinds.{isKnown}
 use Rattle.table.specs.declared.Row.{Row}
@@ -20,7 +21,7 @@ use Rattle.format.specs.Rows.{bodyOf}
 use Rattle.links.specs.Links.{Link, linksAt, rowLinks, linksFrom, linksOf, acceptedLinks, resolved, linked}
 use Rattle.links.proofs.Splits.{by-link, link-none}
 use Rattle.reader.specs.declared.Ruled.{Ruled}
-use Rattle.reader.specs.Reading.{bonesUnder, unjudged, judgedWith, judgedRow, counted, ruledBy, ruled}
+use Rattle.reader.specs.Reading.{bonesUnder, unjudged, judgedWith, judgedRow, counted, uncounted, ruled}
 
 module _ (s : List ℕ) (r : Row) (bones : ℕ) where
   pub judged-known : isKnown (r .kind) ≡ true → judgedWith s r bones ≡ judged (r .kind) (r .properties) (bodyOf s r) bones
@@ -57,17 +58,17 @@ row-count s all i r e =
     (λ t. ap (λ x. x .links) (judged-unknown s r b t) ∙ rw t)
 
 -- a row that is not refused adds what it counts
-pub ruled-on : (n start : ℕ) (j : Judged) (next : Ruled) → ruledBy n start j next .number ≡ 0
-    → (n ≡ 0) × (next .number ≡ 0) × (ruledBy n start j next ≡ counted j next)
-ruled-on zero start j next e = (refl, e, refl)
-ruled-on (suc n) start j next e = absurd (omega (arith, e))
+pub ruled-on : (n place : ℕ) (j : Judged) (next : Ruled) → refusedOr n (uncounted n place) (counted j next) .number ≡ 0
+    → (n ≡ 0) × (next .number ≡ 0) × (refusedOr n (uncounted n place) (counted j next) ≡ counted j next)
+ruled-on zero place j next e = (refl, e, refl)
+ruled-on (suc n) place j next e = absurd (omega (arith, e))
 
 -- where no row is refused, the rules count the links
 pub links-counted : (s : List ℕ) (all : List Row) (i : ℕ) (rs : List Row) → ruled s all rs .number ≡ 0 → ruled s all rs .links ≡ length (linksFrom s all i rs)
 unfolding ruled linksFrom
 links-counted s all i [] e = refl
 links-counted s all i (r ∷ rs) e =
-    let here = ruled-on (judgedRow s all r .number) (r .start) (judgedRow s all r) (ruled s all rs) e in
+    let here = ruled-on (judgedRow s all r .number) _ (judgedRow s all r) (ruled s all rs) e in
     ap (λ u. u .links) (here .2) ∙ rw (row-count s all i r (here .0), links-counted s all (suc i) rs (here .1)) (sym (length-append (rowLinks s all i r) (linksFrom s all (suc i) rs)))
 
 none : (ls : List Link) → 0 ≡ length ls → acceptedLinks 0 ≡ resolved 0 ls

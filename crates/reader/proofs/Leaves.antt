@@ -1,5 +1,5 @@
 -- What a reading leaves in the table, number by number; and that none is refused with 8.
-use Prim.Native.Nat.{ℕ, zero, suc, _+_, _-_, _*_, _≤_, _<_}
+use Prim.Native.Nat.{ℕ, _+_, _-_, _*_, _≤_, _<_}
 use native.Mathlib.Omega.{arith}
 use mathlib.Core.Path.{_≡_, refl, ap, sym, subst, _∙_}
 use mathlib.Core.Bool.{true, false}
@@ -18,11 +18,11 @@ use Rattle.walk.specs.Walk.{limited}
 use Rattle.walk.proofs.Depth.{neverTooDeep}
 use Rattle.reader.specs.declared.Reading.{Reading}
 use Rattle.reader.specs.declared.Reading.the-variants.{Accepted, Refused}
-use Rattle.reader.specs.Reading.{byNumber, checked, verdict, readingOf, tableAfter}
+use Rattle.reader.specs.Reading.{checked, verdict, readingOf, tableAfter}
 use Rattle.reader.specs.Leaves.{numberIn, TableLeft, LeavesTable, NoRefusal8}
 use Rattle.reader.proofs.Exactly.{in-room, has-room}
 use Rattle.reader.proofs.Accepted.{nodes-are, table-left, few}
-use Rattle.reader.proofs.Numbers.{numberOf, checked-told}
+use Rattle.reader.proofs.Numbers.{numberOf, by-stage, checked-told}
 use Rattle.reader.proofs.Whole.{short-table}
 
 -- ---- zeros, for any count, so that they are never written out
@@ -109,15 +109,11 @@ unfolding limited
 limited-not s =
     by-test (ltb 16777216 (length s)) (λ t. rw t (λ e. omega (arith, e))) (λ t. rw t (neverTooDeep s))
 
-by-stage : (n place : ℕ) (next : Reading) {m at : ℕ} → (n ≡ m → ⊥) → (next ≡ Refused m at → ⊥) → byNumber n place next ≡ Refused m at → ⊥
-by-stage zero place next h g e = g e
-by-stage (suc n) place next h g e = h (ap numberOf e)
-
 pub noRefusal8 : NoRefusal8
 unfolding readingOf verdict
 noRefusal8 s t place e =
     by-test (hasRoom t)
     (λ h.
-    by-stage (limited s .number) (limited s .at) (checked s (limited s .rows)) (limited-not s)
-    (λ f. omega (arith, checked-told s (limited s .rows) 8 place f .0)) (rw h at e))
+    by-stage (λ m. m ≡ 8 → ⊥) (limited s .number) (limited s .at) (checked s (limited s .rows)) (λ r. limited-not s)
+    (λ f z. omega (arith, checked-told s (limited s .rows) 8 place f .0)) (rw h at e) refl)
     (λ h. let z : _≡_ {A = ℕ} 1 8 = ap numberOf (rw h at e) in omega (arith, z))

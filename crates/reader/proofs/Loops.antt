@@ -2,15 +2,13 @@
 use Prim.Native.Nat.{ℕ, zero, suc, _+_, _-_, _≤_, _<_}
 use native.Mathlib.Nat.{zero-add, add-zero, add-assoc}
 use native.Mathlib.Omega.{arith}
-use mathlib.Core.Path.{_≡_, refl, sym, _∙_}
-use mathlib.Core.Bool.{true, false, _&&_}
+use mathlib.Core.Path.{_≡_, refl, _∙_}
+use mathlib.Core.Bool.{true, false}
 use mathlib.Core.List.{List}
-use lib.Dec.{eqb}
-use lib.ListN.{length, getD, set}
-use lib.Seq.{getD-set-same, getD-set-other}
-use borrow.Author.Tests.{eq-eqb, ne-eqb, eqb-true, eqb-false}
-use Rattle.base.proofs.Tests.{by-test}
-use Rattle.kinds.specs.Kinds.{bone, isKnown}
+use lib.ListN.{length}
+use Rattle.base.specs.Refusals.{refusedOr}
+use Rattle.base.proofs.Refusals.{is-refused}
+use Rattle.kinds.specs.Kinds.{isKnown}
 use Rattle.table.specs.declared.Row.{Row}
 use Rattle.table.specs.Table.{rowAt, rowsAt}
 use Rattle.table.proofs.Rests.{rest, rest-all, rest-more, rest-none}
@@ -19,44 +17,8 @@ use Rattle.judge.specs.Judge.{Bounded}
 use Rattle.format.specs.Rows.{ownBytes, bodyOf}
 use Rattle.format.proofs.Rows.{body-length}
 use Rattle.reader.specs.declared.Ruled.{Ruled}
-use Rattle.reader.specs.Reading.{bonesUnder, judgedWith, ruledBy, ruled, ownKnown, ownUnknown}
-use Rattle.reader.specs.Contract.{RowOk, RowsOk}
-
--- ---- Bones
-pub bones-few : (t : List ℕ) (k n p : ℕ) → bonesUnder (rowsAt t k n) p ≤ n
-unfolding bonesUnder rowsAt
-bones-few t k zero p = omega arith
-bones-few t k (suc n) p =
-    let ih = bones-few t (suc k) n p in
-    by-test (eqb (rowAt t k .kind) bone && eqb (rowAt t k .parent) p) (λ e. rw e (omega (arith, ih))) (λ e. rw e (omega (arith, ih)))
-
--- numbers that, with the Bones of the rest, tell those of all
-abbrev pub Counting : (bones : List ℕ) (t : List ℕ) (n i : ℕ) → Type 0
-Counting bones t n i = (p : ℕ) → getD bones p 0 + bonesUnder (rest t n i) p ≡ bonesUnder (rowsAt t 0 n) p
-
-pub counting-begun : (bones t : List ℕ) (n : ℕ) → ((p : ℕ) → getD bones p 0 ≡ 0) → Counting bones t n 0
-counting-begun bones t n h p = rw (h p, rest-all t n) (omega arith)
-
-module _ (bones t : List ℕ) (n i : ℕ) where
-  module _ (h : i < n) {r : Row} (e : r ≡ rowAt t i) (c : Counting bones t n i) where
-    pub counting-bone : (x : ℕ) → r .kind ≡ bone → r .parent < length bones → x ≡ getD bones (r .parent) 0 + 1
-        → Counting (set bones (r .parent) x) t n (i + 1)
-    unfolding bonesUnder
-    counting-bone x k b f p =
-        let now = rw (rest-more t n i h, ← e, eq-eqb (r .kind) bone k) at (c p) in
-        by-test
-        (eqb (r .parent) p)
-        (λ q. rw (← eqb-true (r .parent) p q, getD-set-same bones (r .parent) x 0 b, f)
-        (omega (arith, rw (← eqb-true (r .parent) p q, eq-eqb (r .parent) (r .parent) refl) at now)))
-        (λ q. rw (getD-set-other bones (r .parent) p x 0 (λ g. eqb-false (r .parent) p q (sym g))) (rw q at now))
-
-    pub counting-other : (r .kind ≡ bone → ⊥) → Counting bones t n (i + 1)
-    unfolding bonesUnder
-    counting-other k p = rw (rest-more t n i h, ← e, ne-eqb (r .kind) bone k) at (c p)
-
-  pub counting-ended : n ≤ i → Counting bones t n i → (p : ℕ) → getD bones p 0 ≡ bonesUnder (rowsAt t 0 n) p
-  unfolding bonesUnder
-  counting-ended h c p = sym (add-zero (getD bones p 0)) ∙ rw (rest-none t n i h) at (c p)
+use Rattle.reader.specs.Reading.{bonesUnder, judgedWith, counted, uncounted, ruled, ownKnown, ownUnknown}
+use Rattle.reader.specs.Private.{RowOk, RowsOk}
 
 -- ---- own bytes
 module _ (t : List ℕ) (n i : ℕ) where
@@ -81,7 +43,7 @@ module _ (t : List ℕ) (n i : ℕ) where
 abbrev pub onTop : (faces degenerate links : ℕ) → Ruled → Ruled
 onTop f d l u = record { number = u .number; place = u .place; faces = f + u .faces; degenerate = d + u .degenerate; links = l + u .links }
 
--- a judgement's place lies behind the node's header, and in the file
+-- a judgement's place lies after the node's header, and in the file
 pub row-place : (s t : List ℕ) (n i : ℕ) {r : Row} {j : Judged} → RowsOk (length s) t n → i < n → r ≡ rowAt t i → Bounded j (length (bodyOf s r))
     → (24 ≤ r .start + j .at) × (r .start + j .at ≤ 24 + length s)
 row-place s t n i {r} ok h e b =
@@ -97,21 +59,16 @@ module _ (s t : List ℕ) (n : ℕ) where
   rules-begun = rw (rest-all t n) (simp zero-add)
 
   module _ (f d l i : ℕ) where
-    refused-on-top : (m start : ℕ) (j : Judged) (u : Ruled) → (m ≡ 0 → ⊥)
-        → onTop f d l (ruledBy m start j u) ≡ record { number = m; place = (start + j .at) - 24; faces = f; degenerate = d; links = l }
-    refused-on-top zero start j u n = absurd (n refl)
-    refused-on-top (suc m) start j u n = simp add-zero
-
     module _ (h : i < n) {r : Row} {b : ℕ} {j : Judged} (e : r ≡ rowAt t i) (g : b ≡ bonesUnder all (r .parent))
         (k : j ≡ judgedWith s r b) where
-      next : ruled s all (rest t n i) ≡ ruledBy (j .number) (r .start) j (ruled s all (rest t n (i + 1)))
+      next : ruled s all (rest t n i) ≡ refusedOr (j .number) (uncounted (j .number) (r .start + j .at - 24)) (counted j (ruled s all (rest t n (i + 1))))
       unfolding ruled
       next = rw (rest-more t n i h, ← e, ← g, ← k)
 
       pub rules-refused : (j .number ≡ 0 → ⊥)
           → onTop f d l (ruled s all (rest t n i))
           ≡ record { number = j .number; place = (r .start + j .at) - 24; faces = f; degenerate = d; links = l }
-      rules-refused m = rw next (refused-on-top (j .number) (r .start) j (ruled s all (rest t n (i + 1))) m)
+      rules-refused m = rw (next ∙ is-refused (j .number) _ _ m) (simp add-zero)
 
       pub rules-passed : j .number ≡ 0
           → onTop f d l (ruled s all (rest t n i))

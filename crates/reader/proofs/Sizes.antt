@@ -22,8 +22,7 @@ use Rattle.valid.proofs.Rules.{obeyed, accepted}
 use Rattle.valid.proofs.Sizes.{faces-most}
 use Rattle.reader.specs.declared.Reading.{Reading}
 use Rattle.reader.specs.declared.Reading.the-variants.{Accepted, Refused}
-use Rattle.reader.specs.Reading.{bonesUnder, judgedRow, verdict}
-use Rattle.reader.specs.Contract.{Small}
+use Rattle.reader.specs.Reading.{bonesUnder, judgedRow, verdict, Small}
 use Rattle.reader.specs.Acceptance.{rowFaces, facesOf}
 use Rattle.reader.proofs.Counts.{own-under}
 use Rattle.reader.proofs.Parts.{file-lies}

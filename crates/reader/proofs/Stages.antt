@@ -7,6 +7,7 @@ use mathlib.Core.Bool.{true}
 use mathlib.Core.List.{List, [], _∷_, _++_}
 use lib.ListN.{length}
 use Rattle.le.specs.Le.{numberAt}
+use Rattle.base.specs.Refusals.{refusedOr}
 use Rattle.base.proofs.Tests.{by-test}
 use Rattle.kinds.specs.Kinds.{isKnown}
 use Rattle.table.specs.declared.Row.{Row}
@@ -22,22 +23,22 @@ use Rattle.links.specs.declared.Linked.{Linked}
 use Rattle.links.specs.Links.{Link, reached, linksAt, rowLinks, linksFrom, refusalOf, refusedLinks, resolved}
 use Rattle.links.proofs.Splits.{by-link, link-none}
 use Rattle.reader.specs.declared.Ruled.{Ruled}
-use Rattle.reader.specs.Reading.{judgedRow, ruledBy, ruled}
+use Rattle.reader.specs.Reading.{judgedRow, counted, uncounted, ruled}
 
 -- ---- rules
 abbrev pub RightRow : (s : List ℕ) (all : List Row) → Row → Type 0
 RightRow s all r = judgedRow s all r .number ≡ 0
 
-ruledBy-zero : (n start : ℕ) (j : Judged) (next : Ruled) → (ruledBy n start j next .number ≡ 0) ↔ ((n ≡ 0) × (next .number ≡ 0))
-ruledBy-zero zero start j next = (λ e. (refl, e), λ e. e .1)
-ruledBy-zero (suc n) start j next = (λ e. absurd (omega (arith, e)), λ e. absurd (omega (arith, e .0)))
+none-refused : (n place : ℕ) (j : Judged) (next : Ruled) → (refusedOr n (uncounted n place) (counted j next) .number ≡ 0) ↔ ((n ≡ 0) × (next .number ≡ 0))
+none-refused zero place j next = (λ e. (refl, e), λ e. e .1)
+none-refused (suc n) place j next = (λ e. absurd (omega (arith, e)), λ e. absurd (omega (arith, e .0)))
 
 pub ruled-each : (s : List ℕ) (all rs : List Row) → (ruled s all rs .number ≡ 0) ↔ Each (RightRow s all) rs
 unfolding ruled
 ruled-each s all [] = (λ e. tt, λ e. refl)
 ruled-each s all (r ∷ rs) =
     let ih = ruled-each s all rs in
-    let both = ruledBy-zero (judgedRow s all r .number) (r .start) (judgedRow s all r) (ruled s all rs) in
+    let both = none-refused (judgedRow s all r .number) _ (judgedRow s all r) (ruled s all rs) in
     (λ e. let b = both .0 e in (b .0, ih .0 (b .1)), λ e. both .1 (e .0, ih .1 (e .1)))
 
 -- ---- links

@@ -1,16 +1,25 @@
 -- The reading put together: what a walked file's rows are, and each way to its end.
-use Prim.Native.Nat.{ℕ, zero, suc, _+_, _≤_, _<_}
+use Prim.Native.Nat.{ℕ, zero, suc, _+_, _≤_, _<_, min}
+use native.Mathlib.Nat.{min-eq-left}
 use native.Mathlib.Omega.{arith}
 use mathlib.Core.Path.{_≡_, refl, ap, sym, _∙_, subst}
 use mathlib.Core.Bool.{true, false}
 use mathlib.Core.List.{List, [], _∷_, _++_}
-use lib.ListN.{length, getD, length-append}
+use lib.Dec.{eqb, ltb}
+use lib.ListN.{length, getD, length-append, List·getD-eq-default}
+use borrow.Author.Tests.{eqb-true, ltb-true, ltb-false}
+use Rattle.base.proofs.Tests.{by-test}
+use Rattle.base.specs.Refusals.{refusedOr}
+use Rattle.base.proofs.Refusals.{is-refused}
 use Rattle.le.specs.Le.{AreBytes}
 use Rattle.kinds.specs.declared.Parent.the-variants.{None}
+use Rattle.kinds.specs.Kinds.{bone}
 use Rattle.table.specs.declared.Row.{Row}
+use Rattle.table.specs.declared.Which.the-variants.{OfKind}
 use Rattle.table.specs.Table.{blank, noParent, rowAt, rowsAt, putRows, hasRoom, cleared}
 use Rattle.table.proofs.Clearing.{cleared-again, filled-putRows, rowAt-filled}
 use Rattle.table.proofs.Plans.{rows-filled}
+use Rattle.table.proofs.Counts.{counted-none}
 use Rattle.format.specs.declared.OwnBytes.{OwnBytes}
 use Rattle.format.specs.Forest.{Forest, nodes, encode, count, fileHeader, fileOf}
 use Rattle.format.specs.Rows.{rows, rowsOf}
@@ -22,13 +31,13 @@ use Rattle.format.proofs.Rows.{length-rows}
 use Rattle.format.proofs.Within.{Lies, BoneUnder, rows-lie, bones-under}
 use Rattle.links.specs.Links.{linksOf, linked}
 use Rattle.walk.specs.declared.Answer.{Answer}
-use Rattle.walk.specs.Walk.{Walked, limited, answerBy, answer, flagsOf}
+use Rattle.walk.specs.Walk.{Walked, limited, refusedAnswer, acceptedAnswer, answer, flagsOf}
 use Rattle.walk.proofs.Laws.{limited-is}
 use Rattle.walk.proofs.Sound.{sound}
 use Rattle.reader.specs.declared.Reading.{Reading}
 use Rattle.reader.specs.declared.Reading.the-variants.{Accepted, Refused}
-use Rattle.reader.specs.Reading.{ruled, ownKnown, ownUnknown, byNumber, checked, verdict, readingOf, leftBy, tableAfter}
-use Rattle.reader.specs.Contract.{RowOk, RowsOk, BoneParents, leftIn}
+use Rattle.reader.specs.Reading.{bonesUnder, ruled, ownKnown, ownUnknown, checked, verdict, readingOf, tableLeft, tableAfter}
+use Rattle.reader.specs.Private.{RowOk, RowsOk, Counted, leftIn}
 use Rattle.reader.proofs.Bounds.{links-lie, resolved-lies}
 use Rattle.reader.proofs.Exactly.{short, checked-right}
 
@@ -84,17 +93,13 @@ walked-ok s bytes e =
 
 -- ---- the stages after the walk
 module _ (s : List ℕ) (rs : List Row) where
-  pub by-rules : (n place : ℕ) (next : Reading) → (n ≡ 0 → ⊥) → Refused n place ≡ byNumber n place next
-  by-rules zero place next h = absurd (h refl)
-  by-rules (suc n) place next h = refl
-
   pub refused-rules : (ruled s rs rs .number ≡ 0 → ⊥) → Refused (ruled s rs rs .number) (ruled s rs rs .place) ≡ checked s rs
   unfolding checked
-  refused-rules h = by-rules (ruled s rs rs .number) (ruled s rs rs .place) _ h
+  refused-rules h = sym (is-refused (ruled s rs rs .number) _ _ h)
 
   pub refused-links : ruled s rs rs .number ≡ 0 → (linked s rs .number ≡ 0 → ⊥) → Refused (linked s rs .number) (linked s rs .place) ≡ checked s rs
   unfolding checked
-  refused-links r h = rw r (by-rules (linked s rs .number) (linked s rs .place) _ h)
+  refused-links r h = rw r (sym (is-refused (linked s rs .number) _ _ h))
 
   pub links-place : (size n : ℕ) → Each (RowOk size n) rs → linked s rs .place ≤ size
   unfolding linked
@@ -112,8 +117,18 @@ module _ (s : List ℕ) (rs : List Row) where
 pub table-ok : (size : ℕ) (t : List ℕ) (n : ℕ) → RowsOk size t n → Each (RowOk size n) (rowsAt t 0 n)
 table-ok size t n h = each-rows (RowOk size n) t 0 n (λ i b. (let z : i ≡ 0 + i = omega arith in subst (λ j. RowOk size n (rowAt t j)) z (h i b)))
 
-pub bones-ok : (size : ℕ) (t : List ℕ) (n : ℕ) → n ≤ 1024 → RowsOk size t n → BoneParents t n
-bones-ok size t n few h i b e = omega (arith, h i b .boneParent e)
+-- the Bones under each row of a table, counted for the first 1,024; under others there are none
+pub bones-counted : (size : ℕ) (t : List ℕ) (n : ℕ) → n ≤ 1024 → RowsOk size t n → (bones : List ℕ) → length bones ≡ 1024
+    → ((p : ℕ) → p < 1024 → getD bones p 0 ≡ bonesUnder (rowsAt t 0 (min n 1024)) p) → Counted bones (rowsAt t 0 n)
+bones-counted size t n few ok bones long h p =
+    let past : 1024 ≤ p → (r : Row) → RowOk size n r → eqb (r .kind) bone ≡ true → r .parent ≡ p → ⊥
+    = λ b r o k e. omega (arith, o .boneParent (eqb-true (r .kind) bone k)) in
+    by-test (ltb p 1024)
+    (λ b. h p (ltb-true p 1024 b) ∙ ap (λ m. bonesUnder (rowsAt t 0 m) p) (min-eq-left few))
+    (λ b.
+    let q = ltb-false p 1024 b in
+    List·getD-eq-default bones 0 (omega (arith, q, long))
+    ∙ sym (counted-none (OfKind bone) (rowsAt t 0 n) p (each-map (past q) (rowsAt t 0 n) (table-ok size t n ok))))
 
 -- ---- the reading
 module _ (s t : List ℕ) where
@@ -122,11 +137,11 @@ module _ (s t : List ℕ) where
   short-table h = (rw h, rw h)
 
   -- the walk's answer
-  refused-by : (n : ℕ) (w : Walked) {a : Answer} → a ≡ answerBy n s w → (a .number ≡ 0 → ⊥) → n ≡ w .number → (a .number ≡ w .number) × (a .place ≡ w .at)
+  refused-by : (n : ℕ) (w : Walked) {a : Answer} → a ≡ refusedOr n (refusedAnswer n (w .at)) (acceptedAnswer (length (w .rows)) (flagsOf s)) → (a .number ≡ 0 → ⊥) → n ≡ w .number → (a .number ≡ w .number) × (a .place ≡ w .at)
   refused-by zero w e h m = absurd (h (ap (λ x. x .number) e))
   refused-by (suc n) w e h m = (ap (λ x. x .number) e ∙ m, ap (λ x. x .place) e)
 
-  accepted-by : (n : ℕ) (w : Walked) {a : Answer} → a ≡ answerBy n s w → a .number ≡ 0 → (n ≡ 0) × (a .nodes ≡ length (w .rows)) × (a .flags ≡ flagsOf s)
+  accepted-by : (n : ℕ) (w : Walked) {a : Answer} → a ≡ refusedOr n (refusedAnswer n (w .at)) (acceptedAnswer (length (w .rows)) (flagsOf s)) → a .number ≡ 0 → (n ≡ 0) × (a .nodes ≡ length (w .rows)) × (a .flags ≡ flagsOf s)
   accepted-by zero w e h = (refl, ap (λ x. x .nodes) e, ap (λ x. x .flags) e)
   accepted-by (suc n) w e h = absurd (omega (arith, sym (ap (λ x. x .number) e) ∙ h))
 
@@ -145,10 +160,10 @@ module _ (s t : List ℕ) where
         → (Refused (limited s .number) (limited s .at) ≡ readingOf s t) × (cleared u ≡ tableAfter s t)
     unfolding readingOf tableAfter verdict
     refused-read h e =
-        let is = by-rules s [] (limited s .number) (limited s .at) (checked s (limited s .rows)) h in
+        let is = sym (is-refused (limited s .number) (Refused (limited s .number) (limited s .at)) (checked s (limited s .rows)) h) in
         (rw room is, rw room (rw (← is) (ap cleared e ∙ cleared-again t (limited s .rows) room few)))
 
-    left : (r : Reading) → leftIn r (putRows (cleared t) 0 (limited s .rows)) ≡ leftBy r (limited s .rows) t
+    left : (r : Reading) → leftIn r (putRows (cleared t) 0 (limited s .rows)) ≡ tableLeft r (limited s .rows) t
     left (Accepted a) = filled-putRows t (limited s .rows) room few
     left (Refused n place) = cleared-again t (limited s .rows) room few
 

@@ -6,11 +6,11 @@ use mathlib.Core.Path.{_≡_, refl}
 use mathlib.Core.List.{List, [], _∷_, _++_, map}
 use lib.ListN.{length, getD, replicate}
 use Rattle.le.specs.Le.{val, numberAt, le}
-use Rattle.names.specs.Names.{bytesOk, same, decimal, number, numbered}
-use Rattle.kinds.specs.Kinds.{root, model, animation, instance, metadata, lineIn, lineOf, isKnown, standsAtTop, standsUnder, mayStand}
-use Rattle.kinds.specs.Kinds.{lines as kindLines}
+use Rattle.names.specs.Names.{bytesOk, same, readDigits, number, numbered}
+use Rattle.kinds.specs.Kinds.{root, model, animation, instance, metadata, parentsIn, parentsOf, isKnown, standsAtTop, standsUnder, mayStand, parentsTable}
 use Rattle.table.specs.Table.{noParent, hasRoom, zeroed, cleared, flat, filled}
-use Rattle.props.specs.Step.{headerRefusal, dataRefusal, toZero, dataOf, nameAt, stepAt}
+use Rattle.table.specs.Counts.{countUnder}
+use Rattle.props.specs.Step.{toZero, nameAt, stepAt}
 use Rattle.body.specs.Body.{pass, properties, firstNamed}
 use Rattle.faces.specs.Faces.{widthOf, facesIn, below, degenerate}
 use Rattle.base.specs.Letters.{letters}
@@ -24,9 +24,9 @@ use Rattle.judge.specs.Valued.{faultOf, valued, nodeFaces, nodeLinks}
 use Rattle.judge.specs.Judge.{verdictAt, judgedAt, judged}
 use Rattle.format.specs.Forest.{header, fileHeader}
 use Rattle.links.specs.Links.{reached, linksAt, linksFrom, resolved, linked}
-use Rattle.walk.specs.Walk.{headerAt, nodeRefusal, andThen, children, knownNode, nodeBy, node, nodeAt, childrenAt, walkOf, limited}
+use Rattle.walk.specs.Walk.{headerAt, nodeRefusal, andThen, children, node, childrenAt, walkOf, limited}
 use Rattle.reader.specs.declared.Reading.the-variants.{Refused}
-use Rattle.reader.specs.Reading.{Numbers, numbersOf, bonesUnder, judgedWith, ruled, ownKnown, ownUnknown, checked, verdict, readingOf, tableAfter}
+use Rattle.reader.specs.Reading.{Numbers, numbersOf, judgedWith, ruled, ownKnown, ownUnknown, checked, verdict, readingOf, tableAfter}
 
 -- a table of 8,193 numbers, none of them 0
 abbrev lent : List ℕ
@@ -34,7 +34,7 @@ lent = replicate 8193 7
 
 -- all numbers of a reading with it; and some numbers of the table after that
 unfoldable read : List ℕ → Numbers
-unfolding val numberAt bytesOk same decimal number numbered kindLines lineIn lineOf isKnown standsAtTop standsUnder mayStand headerRefusal dataRefusal toZero dataOf nameAt stepAt pass properties firstNamed widthOf facesIn below degenerate letters lines lists ruleIn ofKind linesOf isText isOneOf le lengthOf valueOf typesOf besideOf typed misses lacks faultOf valued nodeFaces nodeLinks verdictAt judgedAt judged reached linksAt linksFrom resolved linked headerAt nodeRefusal andThen children knownNode nodeBy node nodeAt childrenAt walkOf limited bonesUnder judgedWith ruled ownKnown ownUnknown checked verdict hasRoom readingOf
+unfolding val numberAt bytesOk same readDigits number numbered parentsTable parentsIn parentsOf isKnown standsAtTop standsUnder mayStand toZero nameAt stepAt pass properties firstNamed widthOf facesIn below degenerate letters lines lists ruleIn ofKind linesOf isText isOneOf le lengthOf valueOf typesOf besideOf typed misses lacks faultOf valued nodeFaces nodeLinks verdictAt judgedAt judged reached linksAt linksFrom resolved linked headerAt nodeRefusal andThen children node childrenAt walkOf limited countUnder judgedWith ruled ownKnown ownUnknown checked verdict hasRoom readingOf
 read s = numbersOf (readingOf s lent)
 
 unfoldable after : List ℕ → (places : List ℕ) → List ℕ
@@ -107,7 +107,8 @@ rows-in-turn = (refl, refl, refl, refl, refl)
 
 -- all rules of all rows before the first link: row 1's link reaches no node, and the answer is row 2's 14 or 15; where row 2 is
 -- right it is 16
-rules-before-links : (read (pair astray still) ≡ refusal 14 149) × (read (pair astray (upward 0x77)) ≡ refusal 15 173) × (read (pair astray timed) ≡ refusal 16 64)
+rules-before-links : (read (pair astray still) ≡ refusal 14 149) × (read (pair astray (upward 0x77)) ≡ refusal 15 173)
+    × (read (pair astray timed) ≡ refusal 16 64)
 unfolding read cast nodeOf property
 rules-before-links = (refl, refl, refl)
 

@@ -18,7 +18,8 @@ numberIn t i = getD t i 1
 pub record TableLeft (s t : List ℕ) : Type 0 where
   -- "table shorter than 8,192 numbers"
   pub untouched : length t < tableNumbers → (readingOf s t ≡ Refused 1 0) × (tableAfter s t ≡ t)
-  pub refused : tableNumbers ≤ length t → (n place : ℕ) → readingOf s t ≡ Refused n place → (i : ℕ) → i < tableNumbers → numberIn (tableAfter s t) i ≡ 0
+  pub refused : tableNumbers ≤ length t → (n place : ℕ) → readingOf s t ≡ Refused n place
+      → (i : ℕ) → i < tableNumbers → numberIn (tableAfter s t) i ≡ 0
   -- a row is eight numbers
   pub accepted : (a : Account) → readingOf s t ≡ Accepted a → (i : ℕ) → 8 * a .nodes ≤ i → i < tableNumbers → numberIn (tableAfter s t) i ≡ 0
   pub past : drop tableNumbers (tableAfter s t) ≡ drop tableNumbers t

@@ -1,5 +1,5 @@
 pub mod Reading
-pub mod Contract
+pub mod Private
 pub mod Acceptance
 pub mod Leaves
 pub mod Examples

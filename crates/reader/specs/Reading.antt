@@ -1,13 +1,15 @@
 -- Document 01's reading: "1 to 4; then nodes as they come ... Then, row by row: all 13, then 14, then all 15. Then links, row
 -- by row. ... The first found is the answer; all other numbers of it are 0."
-use Prim.Native.Nat.{ℕ, zero, suc, _+_, _-_}
-use mathlib.Core.Bool.{cond, _&&_}
+use Prim.Native.Nat.{ℕ, suc, _+_, _-_, _<_, _^_}
+use mathlib.Core.Bool.{cond}
 use mathlib.Core.List.{List, [], _∷_}
-use lib.Dec.{eqb}
 use lib.ListN.{length}
+use Rattle.base.specs.Refusals.{refusedOr}
 use Rattle.kinds.specs.Kinds.{bone, isKnown}
 use Rattle.table.specs.declared.Row.{Row}
+use Rattle.table.specs.declared.Which.the-variants.{OfKind}
 use Rattle.table.specs.Table.{hasRoom, cleared, filled}
+use Rattle.table.specs.Counts.{countUnder}
 use Rattle.format.specs.Rows.{bodyOf, ownBytes}
 use Rattle.judge.specs.declared.Judged.{Judged}
 use Rattle.judge.specs.Judge.{refusedNode, judged}
@@ -22,9 +24,8 @@ use Rattle.reader.specs.declared.Ruled.{Ruled}
 -- ---- 13 to 15, row by row
 
 -- "the Bone children of that Skeleton": the Bones under a parent
-unfoldable pub bonesUnder : List Row → (parent : ℕ) → ℕ
-bonesUnder [] parent = 0
-bonesUnder (r ∷ rs) parent = cond (eqb (r .kind) bone && eqb (r .parent) parent) (suc (bonesUnder rs parent)) (bonesUnder rs parent)
+abbrev pub bonesUnder : List Row → (parent : ℕ) → ℕ
+bonesUnder rows parent = countUnder (OfKind bone) rows parent
 
 -- an unknown node has no rules
 abbrev pub unjudged : Judged
@@ -48,14 +49,15 @@ counted j next = record {
   links = j .links + next .links;
 }
 
--- a row's refusal lies at its node's header plus the offset
-abbrev pub ruledBy : ℕ → (start : ℕ) → Judged → Ruled → Ruled
-ruledBy zero start j next = counted j next
-ruledBy (suc n) start j next = record { number = suc n; place = (start + j .at) - 24; faces = 0; degenerate = 0; links = 0 }
+abbrev pub uncounted : (number place : ℕ) → Ruled
+uncounted n place = record { number = n; place = place; faces = 0; degenerate = 0; links = 0 }
 
+-- a row's refusal lies at its node's header plus the offset
 unfoldable pub ruled : (s : List ℕ) (all rows : List Row) → Ruled
-ruled s all [] = record { number = 0; place = 0; faces = 0; degenerate = 0; links = 0 }
-ruled s all (r ∷ rs) = let j = judgedRow s all r in ruledBy (j .number) (r .start) j (ruled s all rs)
+ruled s all [] = uncounted 0 0
+ruled s all (r ∷ rs) =
+    let j = judgedRow s all r in
+    refusedOr (j .number) (uncounted (j .number) (r .start + j .at - 24)) (counted j (ruled s all rs))
 
 -- ---- own bytes of known and of unknown nodes
 unfoldable pub ownKnown : List Row → ℕ
@@ -80,22 +82,18 @@ accountOf s rows ruled linked = record {
   links = linked .links;
 }
 
-abbrev pub byNumber : ℕ → (place : ℕ) → Reading → Reading
-byNumber zero place next = next
-byNumber (suc n) place next = Refused (suc n) place
-
 -- 13 to 17 of a file's rows
 unfoldable pub checked : (s : List ℕ) → List Row → Reading
 checked s rows =
     let rules = ruled s rows rows in
     let links = linked s rows in
-    byNumber (rules .number) (rules .place)
-    (byNumber (links .number) (links .place)
+    refusedOr (rules .number) (Refused (rules .number) (rules .place))
+    (refusedOr (links .number) (Refused (links .number) (links .place))
     (Accepted (accountOf s rows rules links)))
 
 -- 2 to 17 of any bytes
 unfoldable pub verdict : List ℕ → Reading
-verdict s = let w = limited s in byNumber (w .number) (w .at) (checked s (w .rows))
+verdict s = let w = limited s in refusedOr (w .number) (Refused (w .number) (w .at)) (checked s (w .rows))
 
 -- 1 to 17. 1: "table shorter than 8,192 numbers (1,024 rows)"
 unfoldable pub readingOf : (s t : List ℕ) → Reading
@@ -103,12 +101,17 @@ readingOf s t = cond (hasRoom t) (verdict s) (Refused 1 0)
 
 -- "On 1 the table is untouched; on others its first 8,192 numbers are 0. On acceptance the numbers after the rows, up to
 -- 8,192, are 0. Numbers past 8,192 never change."
-abbrev pub leftBy : Reading → (rows : List Row) (t : List ℕ) → List ℕ
-leftBy (Accepted a) rows t = filled rows t
-leftBy (Refused n place) rows t = cleared t
+abbrev pub tableLeft : Reading → (rows : List Row) (t : List ℕ) → List ℕ
+tableLeft (Accepted a) rows t = filled rows t
+tableLeft (Refused n place) rows t = cleared t
 
 unfoldable pub tableAfter : (s t : List ℕ) → List ℕ
-tableAfter s t = cond (hasRoom t) (leftBy (verdict s) (limited s .rows) t) t
+tableAfter s t = cond (hasRoom t) (tableLeft (verdict s) (limited s .rows) t) t
+
+-- an account's numbers are of 32 bits
+abbrev pub Small : Reading → Type 0
+Small (Accepted a) = (a .known .0 < 2 ^ 32) × (a .unknown .0 < 2 ^ 32) × (a .faces .0 < 2 ^ 32) × (a .degenerate < 2 ^ 32)
+Small (Refused n place) = Unit {0}
 
 -- ---- document 01's numbers of an answer
 pub record Numbers : Type 0 where

@@ -1,6 +1,6 @@
 // The reader: refusals 1 to 17 in order, the rows in the lent table, and the charges.
 ghost use mathlib.Core.Path.{_≡_};
-ghost use Prim.Native.Nat.{ℕ, _≤_, _<_};
+ghost use Prim.Native.Nat.{_≤_};
 ghost use lib.ListN.{length, getD};
 ghost use Rattle.base.specs.Limits.{mostBytes, mostRows};
 ghost use Rattle.table.specs.Table.{cleared, rowsAt};
@@ -9,8 +9,8 @@ ghost use Rattle.format.specs.Rows.{bodyOf};
 ghost use Rattle.links.specs.Links.{linksOf, linked};
 ghost use Rattle.walk.specs.Walk.{flagsOf};
 ghost use Rattle.reader.specs.declared.Reading.the-variants.{Refused};
-ghost use Rattle.reader.specs.Reading.{judgedWith, ruled, ownKnown, ownUnknown, checked, readingOf, tableAfter, numbersOf};
-ghost use Rattle.reader.specs.Contract.{RowsOk, BoneParents, Counted, leftIn, Small};
+ghost use Rattle.reader.specs.Reading.{judgedWith, ruled, ownKnown, ownUnknown, checked, readingOf, tableAfter, numbersOf, Small};
+ghost use Rattle.reader.specs.Private.{RowsOk, Counted, leftIn};
 
 // What is answered of an accepted file: its nodes and flags; the own bytes of its known and of its unknown nodes; its
 // faces, and how many of them are degenerate; its links.
@@ -31,22 +31,6 @@ pub enum Reading {
 }
 
 // ---- 13 to 15
-
-// Counts the Bones under each row.
-fn count_bones(table: &[u32], nodes: usize, bones: &mut [u32])
-    requires { ⌜ (nodes ≤ mostRows) × (length (now bones) ≡ mostRows) × ((p : ℕ) → getD (now bones) p 0 ≡ 0) × BoneParents (now table) nodes ⌝ }
-    ensures { λ _. ⌜ Counted (now (bones .exit)) (rowsAt (now (table .entry)) 0 nodes) ⌝ }
-{
-    let mut i: usize = 0;
-    while i < nodes {
-        let row = table::row_at(table, i);
-        if row.kind == kinds::BONE {
-            let parent = row.parent as usize;
-            bones[parent] = bones[parent] + 1;
-        }
-        i += 1;
-    }
-}
 
 // The Bones under a row; none where there is no such row.
 fn beside(bones: &[u32], parent: u32) -> u32
@@ -126,7 +110,7 @@ fn rules_of(file: &[u8], table: &[u32], nodes: usize, bones: &[u32]) -> Ruled
 
 // ---- 16 and 17
 
-// The links of a file, of which the rules have counted so many.
+// The links of a file, of which the rules have counted `links`.
 fn links_of(file: &[u8], table: &[u32], nodes: usize, links: u32) -> links::Linked
     requires { ⌜ (nodes ≤ mostRows) × (links ≡ length (linksOf (now file) (rowsAt (now table) 0 nodes))) ⌝ }
     ensures { λ r. ⌜ r ≡ linked (now (file .entry)) (rowsAt (now (table .entry)) 0 nodes) ⌝ }
@@ -176,7 +160,7 @@ fn own_of(table: &[u32], nodes: usize) -> Own
 // ---- the answer
 
 // A refusal, which clears the rows.
-fn refused(number: u32, place: u32, rows: &mut [u32]) -> Reading
+fn refuse_and_clear(number: u32, place: u32, rows: &mut [u32]) -> Reading
     ensures { λ r. ⌜ (r ≡ Refused number place) × (now (rows .exit) ≡ cleared (now (rows .entry))) ⌝ }
 {
     table::clear(rows);
@@ -190,15 +174,14 @@ fn checked(file: &[u8], table: &mut [u32], nodes: u32, flags: u32) -> Reading
     ensures table { λ r. ⌜ now (table .exit) ≡ leftIn r (now (table .entry)) ⌝ }
 {
     let n = nodes as usize;
-    let mut bones = [0u32; base::MOST_ROWS];
-    count_bones(table, n, &mut bones);
+    let bones = table::count_under(table, n, table::Which::OfKind(kinds::BONE));
     let rules = rules_of(file, table, n, &bones);
     if rules.number != 0 {
-        return refused(rules.number, rules.place as u32, table);
+        return refuse_and_clear(rules.number, rules.place as u32, table);
     }
     let links = links_of(file, table, n, rules.links);
     if links.number != 0 {
-        return refused(links.number, links.place as u32, table);
+        return refuse_and_clear(links.number, links.place as u32, table);
     }
     let own = own_of(table, n);
     let known = own.known;
@@ -231,7 +214,7 @@ pub fn read(file: &[u8], table: &mut [u32]) -> Reading
     table::clear(table);
     let w = walk::walk(file, table);
     if w.number != 0 {
-        return refused(w.number, w.place, table);
+        return refuse_and_clear(w.number, w.place, table);
     }
     checked(file, table, w.nodes, w.flags)
 }

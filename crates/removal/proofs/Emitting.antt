@@ -5,15 +5,9 @@ use mathlib.Core.Bool.{Bool, true, false}
 use mathlib.Core.List.{List, [], _∷_, map}
 use Rattle.table.specs.declared.Row.{Row}
 use Rattle.format.specs.Rows.{bodyOf, ownBytes}
-use Rattle.emit.specs.Emission.{under, sizes, nodesBytes, roots, fileBytes}
+use Rattle.emit.specs.Emission.{sizesUnder, nodesBytes, roots, fileBytes}
 use Rattle.writer.specs.Forest.{movedTo, laidOut}
 use Rattle.removal.specs.Left.{unmarkedOf, renumberedFrom}
-
-under-laid : (p at : ℕ) (rs : List Row) (zs : List ℕ) → under p (laidOut at rs) zs ≡ under p rs zs
-unfolding under laidOut
-under-laid p at [] zs = refl
-under-laid p at (r ∷ rs) [] = refl
-under-laid p at (r ∷ rs) (z ∷ zs) = rw (under-laid p (at + ownBytes r) rs zs)
 
 roots-laid : (at : ℕ) (rs : List Row) → roots (laidOut at rs) ≡ roots rs
 unfolding roots laidOut
@@ -28,12 +22,13 @@ module _ (s s′ : List ℕ) where
   unfolding laidOut
   first-moved at r rs e = (cc, cc)
 
-  sizes-laid : (at k : ℕ) (rs : List Row) → Moved at rs → sizes s′ k (laidOut at rs) ≡ sizes s k rs
-  unfolding sizes laidOut
-  sizes-laid at k [] e = refl
-  sizes-laid at k (r ∷ rs) e =
+  sizes-laid : (p at k : ℕ) (rs : List Row) → Moved at rs → sizesUnder s′ p k (laidOut at rs) ≡ sizesUnder s p k rs
+  unfolding sizesUnder laidOut
+  sizes-laid p at k [] e = refl
+  sizes-laid p at k (r ∷ rs) e =
       let moved = first-moved at r rs e in
-      rw (sizes-laid (at + ownBytes r) (suc k) rs (moved .1), moved .0, under-laid k (at + ownBytes r) rs (sizes s (suc k) rs))
+      let later : ℕ = at + ownBytes r in
+      rw (sizes-laid p later (suc k) rs (moved .1), sizes-laid k later (suc k) rs (moved .1), moved .0)
 
   nodes-laid : (at k : ℕ) (rs : List Row) → Moved at rs → nodesBytes s′ k (laidOut at rs) ≡ nodesBytes s k rs
   unfolding nodesBytes laidOut
@@ -41,7 +36,7 @@ module _ (s s′ : List ℕ) where
   nodes-laid at k (r ∷ rs) e =
       let moved = first-moved at r rs e in
       let later : ℕ = at + ownBytes r in
-      rw (sizes-laid later (suc k) rs (moved .1), moved .0, under-laid k later rs (sizes s (suc k) rs), nodes-laid later (suc k) rs (moved .1))
+      rw (sizes-laid k later (suc k) rs (moved .1), moved .0, nodes-laid later (suc k) rs (moved .1))
 
   pub file-laid : (flags : ℕ) (rs : List Row) → map (bodyOf s′) (laidOut 16 rs) ≡ map (bodyOf s) rs
       → fileBytes flags s′ (laidOut 16 rs) ≡ fileBytes flags s rs

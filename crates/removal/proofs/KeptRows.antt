@@ -21,7 +21,7 @@ use Rattle.format.proofs.Rows.{part, length-rows, own-rows}
 use Rattle.writer.specs.Forest.{movedTo, laidOut}
 use Rattle.writer.proofs.Order.{none-laid}
 use Rattle.removal.specs.Tally.{countFall}
-use Rattle.removal.specs.Left.{unmarked, numberOf, Stays, ParentStays, renumbered, renumberedFrom, rowsLeft}
+use Rattle.removal.specs.Left.{unmarked, newNumber, Stays, ParentStays, renumbered, renumberedFrom, rowsLeft}
 use Rattle.removal.proofs.Marked.{Marked, mend, mkn, mun, bare, kept, marks, Falls, SameNode, Left, none, gone, same, length-marks, count-kept}
 use Rattle.removal.proofs.Marking.{unmarked-append, unmarked-marks}
 
@@ -56,7 +56,7 @@ module _ (all : List Row) (marked : List Bool) where
 
 -- a parent's number once the marked rows are gone
 abbrev parentLeft : List Bool → ℕ → ℕ
-parentLeft marked p = cond (eqb p noParent) noParent (numberOf marked p)
+parentLeft marked p = cond (eqb p noParent) noParent (newNumber marked p)
 
 -- these marks stand from `row` on, and of those before them row′ are unmarked
 record MarksFrom (marked ms : List Bool) (row row′ : ℕ) : Type 0 where

@@ -21,7 +21,7 @@ use Rattle.links.proofs.Splits.{by-link, link-none}
 use Rattle.reader.specs.Reading.{ownKnown, ownUnknown}
 use Rattle.reader.specs.Acceptance.{rowFaces, facesOf}
 use Rattle.removal.specs.Tally.{sumOverMarked}
-use Rattle.removal.specs.Left.{unmarked, numberOf, Stays, unmarkedOf, rowsLeft, LinkStays, movedLink}
+use Rattle.removal.specs.Left.{unmarked, newNumber, Stays, unmarkedOf, rowsLeft, LinkStays, movedLink}
 use Rattle.removal.proofs.Marked.{SameNode, Left, none, gone, same}
 use Rattle.removal.proofs.Targets.{target-at, unlike}
 
@@ -91,7 +91,7 @@ module _ {A : Type 0} where
   onward (y ∷ l) (suc i) e = onward l i e
 
 -- the number of the row after a marked row, and after one that is left
-pub number-gone : (ms : List Bool) (i : ℕ) {rest : List Bool} → drop i ms ≡ true ∷ rest → numberOf ms (suc i) ≡ numberOf ms i
+pub number-gone : (ms : List Bool) (i : ℕ) {rest : List Bool} → drop i ms ≡ true ∷ rest → newNumber ms (suc i) ≡ newNumber ms i
 unfolding unmarked
 number-gone [] zero e = refl
 number-gone [] (suc i) e = refl
@@ -100,7 +100,7 @@ number-gone (false ∷ ms) zero e = cc
 number-gone (true ∷ ms) (suc i) e = number-gone ms i e
 number-gone (false ∷ ms) (suc i) e = ap suc (number-gone ms i e)
 
-pub number-same : (ms : List Bool) (i : ℕ) {rest : List Bool} → drop i ms ≡ false ∷ rest → numberOf ms (suc i) ≡ suc (numberOf ms i)
+pub number-same : (ms : List Bool) (i : ℕ) {rest : List Bool} → drop i ms ≡ false ∷ rest → newNumber ms (suc i) ≡ suc (newNumber ms i)
 unfolding unmarked
 number-same [] zero e = cc
 number-same [] (suc i) e = cc
@@ -112,7 +112,7 @@ number-same (false ∷ ms) (suc i) e = ap suc (number-same ms i e)
 module _ (s s′ : List ℕ) (ms : List Bool) where
   -- what a link to a known kind reaches
   reached-from : (kind hash : ℕ) → isKnown kind ≡ true → (i : ℕ) {rs : List Row} {rest : List Bool} {rs′ : List Row}
-      → drop i ms ≡ rest → Left s s′ rs rest rs′ → reached kind hash (numberOf ms i) rs′ ≡ map (numberOf ms) (reached kind hash i rs)
+      → drop i ms ≡ rest → Left s s′ rs rest rs′ → reached kind hash (newNumber ms i) rs′ ≡ map (newNumber ms) (reached kind hash i rs)
   unfolding reached
   reached-from kind hash k i e none = refl
   reached-from kind hash k i e (gone {r = r} u l) =
@@ -155,9 +155,9 @@ module _ (s s′ : List ℕ) (ms : List Bool) where
 
   module _ (rows rows′ : List Row) (whole : Left s s′ rows ms rows′) (laid : rows′ ≡ rowsLeft rows ms) where
     -- the links of row i, whose body is the same but starts at another place
-    module _ (kind i : ℕ) (r r′ : Row) (from : getD rows i blank ≡ r) (to : getD rows′ (numberOf ms i) blank ≡ r′) (body : List ℕ) where
+    module _ (kind i : ℕ) (r r′ : Row) (from : getD rows i blank ≡ r) (to : getD rows′ (newNumber ms i) blank ≡ r′) (body : List ℕ) where
       links-at : (starts : List ℕ)
-          → linksAt rows′ (linesOf kind) (numberOf ms i) (r′ .start) body starts
+          → linksAt rows′ (linesOf kind) (newNumber ms i) (r′ .start) body starts
           ≡ map (movedLink rows ms) (linksAt rows (linesOf kind) i (r .start) body starts)
       unfolding linksAt unmarked
       links-at [] = refl
@@ -172,8 +172,8 @@ module _ (s s′ : List ℕ) (ms : List Bool) where
 
     -- the links of the rows from row i on
     links-from : (i : ℕ) {rs : List Row} {rest : List Bool} {rs′ : List Row}
-        → drop i rows ≡ rs → drop i ms ≡ rest → drop (numberOf ms i) rows′ ≡ rs′ → Left s s′ rs rest rs′
-        → linksFrom s′ rows′ (numberOf ms i) rs′ ≡ map (movedLink rows ms) (linksFrom s rows i rs)
+        → drop i rows ≡ rs → drop i ms ≡ rest → drop (newNumber ms i) rows′ ≡ rs′ → Left s s′ rs rest rs′
+        → linksFrom s′ rows′ (newNumber ms i) rs′ ≡ map (movedLink rows ms) (linksFrom s rows i rs)
     unfolding linksFrom
     links-from i a b c none = refl
     links-from i a b c (gone u l) =
@@ -182,8 +182,8 @@ module _ (s s′ : List ℕ) (ms : List Bool) where
         rw u (rw (← number) more)
     links-from i {rs = r ∷ rs} {rs′ = r′ ∷ rs′} a b c (same n l) =
         let number = number-same ms i b in
-        let more = links-from (suc i) (onward rows i a) (onward ms i b) (ap (λ j. drop j rows′) number ∙ onward rows′ (numberOf ms i) c) l in
-        let row = links-at (r .kind) i r r′ (here rows i blank a) (here rows′ (numberOf ms i) blank c) (bodyOf s r) in
+        let more = links-from (suc i) (onward rows i a) (onward ms i b) (ap (λ j. drop j rows′) number ∙ onward rows′ (newNumber ms i) c) l in
+        let row = links-at (r .kind) i r r′ (here rows i blank a) (here rows′ (newNumber ms i) blank c) (bodyOf s r) in
         rw (map-append (movedLink rows ms) (rowLinks s rows i r) (linksFrom s rows (suc i) rs), ← more, number, n .kind, n .body, n .properties)
         (by-test (isKnown (r .kind)) (λ t. rw (t, row)) (λ t. rw t))
 

@@ -15,7 +15,7 @@ use Rattle.base.proofs.Lists.{each-append, each-both, each-map}
 use Rattle.valid.specs.Nodes.{Node, nodesOf, meshFaces, allFaces, NodeProperty, propertiesFrom, IsLink, IsNode, IsOnly, NodeLink, ReachesOne, LinksAre}
 use Rattle.valid.proofs.Picks.{picks-map, picks-each, picks-holds, each-some}
 use Rattle.reader.proofs.InStep.{bare-faces}
-use Rattle.removal.specs.Left.{unmarked, numberOf, Stays, unmarkedOf, NodeLinkStays, movedSource, movedNodeLink}
+use Rattle.removal.specs.Left.{unmarked, newNumber, Stays, unmarkedOf, NodeLinkStays, movedSource, movedNodeLink}
 use Rattle.removal.proofs.Marked.{Marked, mend, mkn, mun, bare, kept, marks}
 use Rattle.removal.proofs.StillValid.{well-kept}
 use Rattle.removal.proofs.Targets.{ToKnown, targets-known}
@@ -61,19 +61,19 @@ module _ (ms : List Bool) where
   abbrev moveAll : List NodeProperty → List NodeProperty
   moveAll xs = map (movedSource ms) xs
 
-  own : (i : ℕ) (kind : ℕ) (ps : List Property) → map (λ p. record { node = numberOf ms i; kind = kind; property = p }) ps
+  own : (i : ℕ) (kind : ℕ) (ps : List Property) → map (λ p. record { node = newNumber ms i; kind = kind; property = p }) ps
       ≡ moveAll (map (λ p. record { node = i; kind = kind; property = p }) ps)
   own i kind [] = refl
-  own i kind (p ∷ ps) = ap (λ xs. record { node = numberOf ms i; kind = kind; property = p } ∷ xs) (own i kind ps)
+  own i kind (p ∷ ps) = ap (λ xs. record { node = newNumber ms i; kind = kind; property = p } ∷ xs) (own i kind ps)
 
   properties-left : (i : ℕ) {ns : List Node} {rest : List Bool} {ns′ : List Node} → drop i ms ≡ rest → LeftNodes ns rest ns′
-      → propertiesFrom (numberOf ms i) ns′ ≡ moveAll (propertiesFrom i ns)
+      → propertiesFrom (newNumber ms i) ns′ ≡ moveAll (propertiesFrom i ns)
   properties-left i e none = refl
   properties-left i e (gone {n} {ns} {ns′ = ns′} u p l) =
       rw p (ap (λ j. propertiesFrom j ns′) (sym (number-gone ms i e)) ∙ properties-left (suc i) (onward ms i e) l)
   properties-left i e (same {n} {ns} {ns′ = ns′} l) =
       let these : List NodeProperty = map (λ p. record { node = i; kind = n .kind; property = p }) (n .properties) in
-      let more : propertiesFrom (suc (numberOf ms i)) ns′ ≡ moveAll (propertiesFrom (suc i) ns) =
+      let more : propertiesFrom (suc (newNumber ms i)) ns′ ≡ moveAll (propertiesFrom (suc i) ns) =
       ap (λ j. propertiesFrom j ns′) (sym (number-same ms i e)) ∙ properties-left (suc i) (onward ms i e) l in
       rw (own i (n .kind) (n .properties), more) (sym (map-append (movedSource ms) these (propertiesFrom (suc i) ns)))
 
@@ -96,7 +96,7 @@ module _ (ms : List Bool) where
 -- ---- a node of a known kind
 module _ (kind hash : ℕ) (isOne : isKnown kind ≡ true) where
   node-stays : {ns : List Node} {ms : List Bool} {ns′ : List Node} → LeftNodes ns ms ns′ → (m : ℕ) → IsNode ns kind hash m
-      → IsNode ns′ kind hash (numberOf ms m) × Stays ms m
+      → IsNode ns′ kind hash (newNumber ms m) × Stays ms m
   unfolding unmarked
   node-stays none m h = absurd (omega (arith, h .0))
   node-stays (gone u e l) zero h = absurd (false≢true (sym u ∙ ap isKnown (h .1) ∙ isOne))
@@ -107,7 +107,7 @@ module _ (kind hash : ℕ) (isOne : isKnown kind ≡ true) where
   pub record From (ns : List Node) (ms : List Bool) (j : ℕ) : Type 0 where
     pub old : ℕ
     pub was : IsNode ns kind hash old
-    pub now : numberOf ms old ≡ j
+    pub now : newNumber ms old ≡ j
 
   node-was : {ns : List Node} {ms : List Bool} {ns′ : List Node} → LeftNodes ns ms ns′ → (j : ℕ) → IsNode ns′ kind hash j → From ns ms j
   unfolding unmarked
@@ -121,10 +121,10 @@ module _ (kind hash : ℕ) (isOne : isKnown kind ≡ true) where
       record { old = suc (ih .old); was = (omega (arith, ih .was .0), ih .was .1, ih .was .2); now = ap suc (ih .now) }
 
   only-stays : {ns : List Node} {ms : List Bool} {ns′ : List Node} → LeftNodes ns ms ns′ → (m : ℕ) → IsOnly ns kind hash m
-      → IsOnly ns′ kind hash (numberOf ms m) × Stays ms m
+      → IsOnly ns′ kind hash (newNumber ms m) × Stays ms m
   only-stays {ms = ms} l m h =
       let here = node-stays l m (h .0) in
-      ((here .0, λ j k. let from = node-was l j k in sym (from .now) ∙ ap (numberOf ms) (h .1 (from .old) (from .was))), here .1)
+      ((here .0, λ j k. let from = node-was l j k in sym (from .now) ∙ ap (newNumber ms) (h .1 (from .old) (from .was))), here .1)
 
 -- ---- links
 each-of-map : {A B : Type 0} (Q : B → Type 0) (g : A → B) (xs : List A) → Each Q (map g xs) → Each (λ x. Q (g x)) xs

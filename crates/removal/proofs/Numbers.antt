@@ -8,12 +8,12 @@ use mathlib.Core.Option.{some}
 use mathlib.Core.List.{List, [], _∷_}
 use lib.ListN.{getD}
 use Rattle.removal.specs.Tally.{rowNumbered}
-use Rattle.removal.specs.Left.{unmarked, numberOf, Stays, unmarkedOf}
+use Rattle.removal.specs.Left.{unmarked, newNumber, Stays, unmarkedOf}
 use Rattle.removal.specs.Numbers.{SameNumber, OnlyNumber, NoNumber, SameRow}
 use Rattle.removal.proofs.Marking.{numbered-none}
 
 -- the first row is row b
-numbered : (b : ℕ) (marks : List Bool) (i : ℕ) → getD marks i true ≡ false → rowNumbered b marks (numberOf marks i) ≡ some (b + i)
+numbered : (b : ℕ) (marks : List Bool) (i : ℕ) → getD marks i true ≡ false → rowNumbered b marks (newNumber marks i) ≡ some (b + i)
 unfolding rowNumbered unmarked
 numbered b [] i e = absurd (true≢false e)
 numbered b (true ∷ marks) zero e = absurd (true≢false e)
@@ -29,7 +29,7 @@ record Numbered (b : ℕ) (marks : List Bool) (n i : ℕ) : Type 0 where
   place : ℕ
   from : b + place ≡ i
   stays : Stays marks place
-  number : numberOf marks place ≡ n
+  number : newNumber marks place ≡ n
 
 some-same : (i j : ℕ) → some i ≡ some j → i ≡ j
 some-same i j e = cc

@@ -20,7 +20,7 @@ use Rattle.format.proofs.Rows.{length-rows}
 use Rattle.format.proofs.Within.{Under, rows-under}
 use Rattle.removal.specs.Trimmer.{lowered, mended, withoutFrom, without}
 use Rattle.removal.specs.Tally.{noMarks, sumOverMarked, countFall}
-use Rattle.removal.specs.Left.{unmarked, numberOf, renumbered, renumberedFrom}
+use Rattle.removal.specs.Left.{unmarked, newNumber, renumbered, renumberedFrom}
 
 -- ---- sums over the marked rows
 over-none : (x : ℕ → Row → ℕ) (j : ℕ) (rs : List Row) → sumOverMarked x j rs (noMarks rs) ≡ 0
@@ -40,20 +40,20 @@ over-one x j (suc k) (r ∷ rs) h =
     omega (arith, rw next at (over-one x (suc j) k rs (omega arith)))
 
 -- ---- numbers among the unmarked rows
-number-none : (p : ℕ) (rs : List Row) → p ≤ length rs → numberOf (noMarks rs) p ≡ p
+number-none : (p : ℕ) (rs : List Row) → p ≤ length rs → newNumber (noMarks rs) p ≡ p
 unfolding unmarked
 number-none zero rs h = refl
 number-none (suc p) [] h = absurd (omega arith)
 number-none (suc p) (r ∷ rs) h = ap suc (number-none p rs (omega arith))
 
-number-before : (p k : ℕ) (rs : List Row) → k < length rs → p ≤ k → numberOf (set (noMarks rs) k true) p ≡ p
+number-before : (p k : ℕ) (rs : List Row) → k < length rs → p ≤ k → newNumber (set (noMarks rs) k true) p ≡ p
 unfolding unmarked
 number-before zero k rs h l = refl
 number-before (suc p) k [] h l = absurd (omega arith)
 number-before (suc p) zero (r ∷ rs) h l = absurd (omega arith)
 number-before (suc p) (suc k) (r ∷ rs) h l = ap suc (number-before p k rs (omega arith) (omega arith))
 
-number-after : (p k : ℕ) (rs : List Row) → p ≤ length rs → k < p → numberOf (set (noMarks rs) k true) p ≡ p - 1
+number-after : (p k : ℕ) (rs : List Row) → p ≤ length rs → k < p → newNumber (set (noMarks rs) k true) p ≡ p - 1
 unfolding unmarked
 number-after zero k rs h l = absurd (omega arith)
 number-after (suc p) k [] h l = absurd (omega arith)
@@ -72,7 +72,7 @@ module _ (all : List Row) (k : ℕ) (few : length all ≤ 1024) (there : k < len
   abbrev marked : List Bool
   marked = set (noMarks all) k true
 
-  same-parent : (r : Row) → Among (length all) r → lowered k (r .parent) ≡ cond (eqb (r .parent) noParent) noParent (numberOf marked (r .parent))
+  same-parent : (r : Row) → Among (length all) r → lowered k (r .parent) ≡ cond (eqb (r .parent) noParent) noParent (newNumber marked (r .parent))
   same-parent r (inl h) = rw (eq-eqb (r .parent) noParent h) (by-test (ltb k (r .parent)) (λ t. rw t h) (λ t. rw t h))
   same-parent r (inr h) =
       rw (ne-eqb (r .parent) noParent (λ e. omega arith))

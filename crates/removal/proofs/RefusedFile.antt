@@ -12,7 +12,7 @@ use Rattle.reader.specs.Reading.{readingOf}
 use Rattle.reader.specs.Reading.{tableAfter as readTable}
 use Rattle.reader.proofs.Numbers.{refused-some}
 use Rattle.reader.proofs.Exactly.{in-room}
-use Rattle.emit.specs.Emission.{refused, leftBy}
+use Rattle.emit.specs.Emission.{refusedWriting, outputLeft}
 use Rattle.removal.specs.Trimmer.{trimmedOf, trimmedOutput, trimmedTable}
 use Rattle.removal.specs.RefusedFile.{RefusedFile}
 
@@ -29,12 +29,12 @@ module _ (s t : List ℕ) (n place : ℕ) (r : readingOf s t ≡ Refused n place
   table-read = by-test (hasRoom t) with-room without-room
 
   module _ (k : ℕ) (out : List ℕ) where
-    answer : trimmedOf s k t (length out) ≡ refused n place
+    answer : trimmedOf s k t (length out) ≡ refusedWriting n place
     unfolding trimmedOf
     answer = rw r
 
     output : trimmedOutput s k t out ≡ out
-    unfolding trimmedOutput leftBy
+    unfolding trimmedOutput outputLeft
     output = rw (answer, ne-eqb n 0 (refused-some s t n place r))
 
     table : trimmedTable s k t (length out) ≡ readTable s t

@@ -26,9 +26,9 @@ use Rattle.reader.specs.Reading.{ruled, accountOf, readingOf}
 use Rattle.reader.proofs.Exactly.{valid-rows, valid-verdict, in-room, answersTheRules}
 use Rattle.reader.proofs.Whole.{short-table}
 use Rattle.emit.specs.declared.Written.{Written}
-use Rattle.emit.specs.Emission.{refused, done, leftBy}
+use Rattle.emit.specs.Emission.{refusedWriting, writingDone, outputLeft}
 use Rattle.removal.specs.Trimmer.{removalOf, newFile, trimmedOf, trimmedOutput, trimmedTable}
-use Rattle.removal.specs.Tally.{Tallied, refusal, byRow, fileLeft, tallyStep}
+use Rattle.removal.specs.Tally.{Tallied, refusedTally, byRow, fileLeft, tallyStep}
 use Rattle.removal.specs.RemovalSequence.{Trimming, answerTo, fileFrom, fedBy, IsRead, Removable, Goes, Leaves}
 use Rattle.removal.proofs.Marked.{Marked, bare, kept, marks}
 use Rattle.removal.proofs.Marking.{At, stands-at, Stands, numbered-at, numbered-none, unmarked-marks, at-left, kind-at, kind-left, mark, bare-mark, marks-mark, own-at, length-mark}
@@ -60,22 +60,22 @@ some-room t h = le-ltb (length t) 8192 (hasRoom-fits t h)
 
 -- ---- the file after an answer
 module _ (s : List ℕ) (c : Trimming) where
-  same-file : (n place : ℕ) → answerTo s c ≡ refused (suc n) place → fileFrom s c ≡ s
+  same-file : (n place : ℕ) → answerTo s c ≡ refusedWriting (suc n) place → fileFrom s c ≡ s
   same-file n place e = rw (e, ne-eqb (suc n) 0 (λ z. omega (arith, z)))
 
-  written-file : answerTo s c ≡ done (length (newFile s (c .row))) → fileFrom s c ≡ newFile s (c .row)
-  unfolding trimmedOutput leftBy
+  written-file : answerTo s c ≡ writingDone (length (newFile s (c .row))) → fileFrom s c ≡ newFile s (c .row)
+  unfolding trimmedOutput outputLeft
   written-file e = rw e (take-append-seam (newFile s (c .row)) _)
 
-  leaves-refused : (n place : ℕ) → answerTo s c ≡ refused (suc n) place → Leaves s c
-  unfolding trimmedOutput leftBy trimmedTable
+  leaves-refused : (n place : ℕ) → answerTo s c ≡ refusedWriting (suc n) place → Leaves s c
+  unfolding trimmedOutput outputLeft trimmedTable
   leaves-refused n place e = record {
     output = rw (e, ne-eqb (suc n) 0 (λ z. omega (arith, z)));
     table = rw (e, ne-eqb (suc n) 0 (λ z. omega (arith, z)));
   }
 
-  leaves-written : answerTo s c ≡ done (length (newFile s (c .row))) → Leaves s c
-  unfolding trimmedOutput leftBy trimmedTable
+  leaves-written : answerTo s c ≡ writingDone (length (newFile s (c .row))) → Leaves s c
+  unfolding trimmedOutput outputLeft trimmedTable
   leaves-written e = record {
     output = rw (e, take-append-seam (newFile s (c .row)) (drop (length (newFile s (c .row))) (c .output)));
     table = rw (e, take-append-seam (newFile s (c .row)) (drop (length (newFile s (c .row))) (c .output)));
@@ -116,7 +116,7 @@ module _ (flags : ℕ) (m : Marked) (v : Valid flags (bare m)) (c : Trimming) wh
   length-left = length-rows (kept m) noParent 0 16
 
   -- a refusal of both
-  refuse : (n : ℕ) → answerTo s c ≡ refused (suc n) 0 → told ≡ refusal (suc n) (marks m) → (Removable s rows c → ⊥) → Step flags m c
+  refuse : (n : ℕ) → answerTo s c ≡ refusedWriting (suc n) 0 → told ≡ refusedTally (suc n) (marks m) → (Removable s rows c → ⊥) → Step flags m c
   refuse n a t stays = record {
     after = m;
     same = refl;
@@ -188,10 +188,10 @@ module _ (flags : ℕ) (m : Marked) (v : Valid flags (bare m)) (c : Trimming) wh
 
       removed : ltb (length (c .output)) (length (fileOf flags (kept (mark a)))) ≡ false → Step flags m c
       removed t =
-          let answer : answerTo s c ≡ done (length (fileOf flags (kept (mark a)))) = answered ∙ rw (there a, kind-new a, t) in
-          let both : told ≡ record { answer = done (length (fileOf flags (kept (mark a)))); marks = set (marks m) i true }
+          let answer : answerTo s c ≡ writingDone (length (fileOf flags (kept (mark a)))) = answered ∙ rw (there a, kind-new a, t) in
+          let both : told ≡ record { answer = writingDone (length (fileOf flags (kept (mark a)))); marks = set (marks m) i true }
           = told-of a ∙ rw (kind-old a, tally-new, t) in
-          let written = written-file s c (answer ∙ ap (λ l. done (length l)) (sym new)) ∙ new in
+          let written = written-file s c (answer ∙ ap (λ l. writingDone (length l)) (sym new)) ∙ new in
           record {
             after = mark a;
             same = bare-mark a;
@@ -213,7 +213,7 @@ module _ (flags : ℕ) (m : Marked) (v : Valid flags (bare m)) (c : Trimming) wh
               );
               gone = written ∙ rw answer (sym (one-goes flags m v a));
             };
-            leaves = leaves-written s c (answer ∙ ap (λ l. done (length l)) (sym new));
+            leaves = leaves-written s c (answer ∙ ap (λ l. writingDone (length l)) (sym new));
           }
 
     by-node : {z : Bool} {i : ℕ} → At m z k i → Step flags m c

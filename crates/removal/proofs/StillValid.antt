@@ -8,7 +8,7 @@ use lib.ListN.{length, length-append}
 use Rattle.le.specs.Le.{val}
 use Rattle.kinds.specs.declared.Parent.{Parent}
 use Rattle.kinds.specs.declared.Parent.the-variants.{None, Kind}
-use Rattle.kinds.specs.Kinds.{bone, isKnown, lineOf, lineIn, lines}
+use Rattle.kinds.specs.Kinds.{bone, isKnown, parentsOf, parentsIn, parentsTable}
 use Rattle.rules.specs.Table.{lines as rules}
 use Rattle.format.specs.Forest.{Forest, count, encode, fileHeader, fileOf}
 use Rattle.format.specs.Layout.{Property, WellFormed, Placed}
@@ -38,7 +38,7 @@ unfolding fileOf
 length-file flags f = length-append (fileHeader (count f) flags) (encode f) ∙ rw (length-fileHeader (count f) flags)
 
 bone-known : isKnown bone ≡ true
-unfolding isKnown lineOf lineIn lines
+unfolding isKnown parentsOf parentsIn parentsTable
 bone-known = refl
 
 pub bones-kept : (m : Marked) → WellFormed (bare m) → bones (kept m) ≡ bones (bare m)

@@ -10,7 +10,7 @@ use lib.Seq.{take-at}
 use Rattle.le.specs.Le.{numberAt, le}
 use Rattle.le.proofs.Laws.{val-le}
 use Rattle.kinds.specs.declared.Parent.the-variants.{None}
-use Rattle.kinds.specs.Kinds.{root, lines, lineIn, lineOf, isKnown, mayStand}
+use Rattle.kinds.specs.Kinds.{root, parentsTable, parentsIn, parentsOf, isKnown, mayStand}
 use Rattle.kinds.proofs.Tops.{top-root}
 use Rattle.table.specs.declared.Row.{Row}
 use Rattle.table.specs.Table.{noParent}
@@ -27,7 +27,7 @@ use Rattle.removal.proofs.Falls.{falls, size-in, known-header, known-bo
 -- ---- at the top stand known nodes, which stay
 
 root-known : isKnown root ≡ true
-unfolding isKnown lineOf lineIn lines
+unfolding isKnown parentsOf parentsIn parentsTable
 root-known = refl
 
 not-top : (k : ℕ) → isKnown k ≡ false → mayStand None k ≡ true → ⊥

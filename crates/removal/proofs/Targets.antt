@@ -7,8 +7,7 @@ use mathlib.Core.Bool.{Bool, true, false}
 use mathlib.Core.List.{List}
 use lib.Dec.{eqb}
 use borrow.Author.Tests.{ne-eqb}
-use Rattle.kinds.specs.Kinds.{isKnown, lineOf, lineIn}
-use Rattle.kinds.specs.Kinds.{lines as kindLines}
+use Rattle.kinds.specs.Kinds.{isKnown, parentsOf, parentsIn, parentsTable}
 use Rattle.rules.specs.Table.{Line, lines, linkTo}
 use Rattle.rules.specs.Rules.{linesOf, ifLink}
 use Rattle.rules.proofs.Laws.{all, ruled}
@@ -23,7 +22,7 @@ abbrev tells : Line → Bool
 tells l = ifLink (l .held) isKnown true
 
 lines-tell : all tells lines ≡ true
-unfolding all lines isKnown lineOf lineIn kindLines
+unfolding all lines isKnown parentsOf parentsIn parentsTable
 lines-tell = refl
 
 abbrev pub ToKnown : Line → Type 0

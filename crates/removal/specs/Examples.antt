@@ -5,12 +5,12 @@ use mathlib.Core.Bool.{true, false}
 use mathlib.Core.List.{List, [], _∷_, _++_, map}
 use lib.ListN.{length, take, drop, replicate}
 use Rattle.le.specs.Le.{val, numberAt, le}
-use Rattle.names.specs.Names.{bytesOk, same, decimal, number, numbered}
-use Rattle.kinds.specs.Kinds.{root, model, mesh, material, lineIn, lineOf, isKnown, standsAtTop, standsUnder, mayStand}
-use Rattle.kinds.specs.Kinds.{lines as kindLines}
+use Rattle.names.specs.Names.{bytesOk, same, readDigits, number, numbered}
+use Rattle.kinds.specs.Kinds.{root, model, mesh, material, parentsIn, parentsOf, isKnown, standsAtTop, standsUnder, mayStand, parentsTable}
 use Rattle.table.specs.declared.Row.{Row}
 use Rattle.table.specs.Table.{noParent, fields, hasRoom, zeroed, cleared, flat, filled}
-use Rattle.props.specs.Step.{headerRefusal, dataRefusal, toZero, dataOf, nameAt, stepAt}
+use Rattle.table.specs.Counts.{countUnder}
+use Rattle.props.specs.Step.{toZero, nameAt, stepAt}
 use Rattle.body.specs.Body.{pass, properties, firstNamed}
 use Rattle.faces.specs.Faces.{widthOf, facesIn, below, degenerate}
 use Rattle.base.specs.Letters.{letters}
@@ -23,12 +23,12 @@ use Rattle.judge.specs.Valued.{faultOf, valued, nodeFaces, nodeLinks}
 use Rattle.judge.specs.Judge.{verdictAt, judgedAt, judged}
 use Rattle.format.specs.Forest.{header, fileHeader}
 use Rattle.links.specs.Links.{Link, reached, linksAt, linksFrom, linksOf, resolved, linked}
-use Rattle.walk.specs.Walk.{headerAt, nodeRefusal, andThen, children, knownNode, nodeBy, node, nodeAt, childrenAt, walkOf, limited}
-use Rattle.reader.specs.Reading.{bonesUnder, judgedWith, ruled, ownKnown, ownUnknown, checked, verdict, readingOf}
+use Rattle.walk.specs.Walk.{headerAt, nodeRefusal, andThen, children, node, childrenAt, walkOf, limited}
+use Rattle.reader.specs.Reading.{judgedWith, ruled, ownKnown, ownUnknown, checked, verdict, readingOf}
 use Rattle.reader.specs.Reading.{tableAfter as readTable}
 use Rattle.emit.specs.declared.Written.{Written}
-use Rattle.emit.specs.Emission.{under, sizes, nodesBytes, roots, fileBytes, refused, done}
-use Rattle.emit.specs.Emission.{leftBy as emitLeft}
+use Rattle.emit.specs.Emission.{sizesUnder, nodesBytes, roots, fileBytes, refusedWriting, writingDone}
+use Rattle.emit.specs.Emission.{outputLeft as emitLeft}
 use Rattle.writer.specs.Forest.{laidOut}
 use Rattle.removal.specs.Trimmer.{withoutFrom, newFile, trimmedOf, trimmedOutput, trimmedTable}
 use Rattle.removal.specs.Tally.{noMarks, rowNumbered, sumOverMarked, isAround, reducedHeader, nodesLeft, fileLeft, tallyStep, answers, marksAfter}
@@ -41,11 +41,11 @@ pub record Ended : Type 0 where
   pub file : List ℕ
 
 unfoldable byRun : List ℕ → List Trimming → Ended
-unfolding val numberAt bytesOk same decimal number numbered kindLines lineIn lineOf isKnown standsAtTop standsUnder mayStand hasRoom headerRefusal dataRefusal toZero dataOf nameAt stepAt pass properties firstNamed widthOf facesIn below degenerate letters lines lists ruleIn ofKind linesOf isText isOneOf le lengthOf valueOf typesOf besideOf typed misses lacks faultOf valued nodeFaces nodeLinks verdictAt judgedAt judged header fileHeader reached linksAt linksFrom resolved linked headerAt nodeRefusal andThen children knownNode nodeBy node nodeAt childrenAt walkOf limited bonesUnder judgedWith ruled ownKnown ownUnknown checked verdict readingOf under sizes nodesBytes roots fileBytes emitLeft withoutFrom newFile trimmedOf trimmedOutput answersOf fileAfter
+unfolding val numberAt bytesOk same readDigits number numbered parentsTable parentsIn parentsOf isKnown standsAtTop standsUnder mayStand hasRoom toZero nameAt stepAt pass properties firstNamed widthOf facesIn below degenerate letters lines lists ruleIn ofKind linesOf isText isOneOf le lengthOf valueOf typesOf besideOf typed misses lacks faultOf valued nodeFaces nodeLinks verdictAt judgedAt judged header fileHeader reached linksAt linksFrom resolved linked headerAt nodeRefusal andThen children node childrenAt walkOf limited countUnder judgedWith ruled ownKnown ownUnknown checked verdict readingOf sizesUnder nodesBytes roots fileBytes emitLeft withoutFrom newFile trimmedOf trimmedOutput answersOf fileAfter
 byRun s list = record { answers = answersOf s list; file = fileAfter s list }
 
 unfoldable byTally : List ℕ → List Row → List Trimming → Ended
-unfolding val numberAt kindLines lineIn lineOf isKnown le rowNumbered sumOverMarked isAround reducedHeader nodesLeft fileLeft tallyStep answers marksAfter
+unfolding val numberAt parentsTable parentsIn parentsOf isKnown le rowNumbered sumOverMarked isAround reducedHeader nodesLeft fileLeft tallyStep answers marksAfter
 byTally s rows list = record {
   answers = answers s rows (noMarks rows) (map fedBy list);
   file = fileLeft s rows (marksAfter s rows (noMarks rows) (map fedBy list));
@@ -57,7 +57,7 @@ pub record Lent : Type 0 where
   pub output : List ℕ
 
 unfoldable lentAfter : (s : List ℕ) (k : ℕ) (t out : List ℕ) → Lent
-unfolding flat filled zeroed cleared readTable trimmedTable val numberAt bytesOk same decimal number numbered kindLines lineIn lineOf isKnown standsAtTop standsUnder mayStand hasRoom headerRefusal dataRefusal toZero dataOf nameAt stepAt pass properties firstNamed widthOf facesIn below degenerate letters lines lists ruleIn ofKind linesOf isText isOneOf le lengthOf valueOf typesOf besideOf typed misses lacks faultOf valued nodeFaces nodeLinks verdictAt judgedAt judged header fileHeader reached linksAt linksFrom resolved linked headerAt nodeRefusal andThen children knownNode nodeBy node nodeAt childrenAt walkOf limited bonesUnder judgedWith ruled ownKnown ownUnknown checked verdict readingOf under sizes nodesBytes roots fileBytes emitLeft withoutFrom newFile trimmedOf trimmedOutput
+unfolding flat filled zeroed cleared readTable trimmedTable val numberAt bytesOk same readDigits number numbered parentsTable parentsIn parentsOf isKnown standsAtTop standsUnder mayStand hasRoom toZero nameAt stepAt pass properties firstNamed widthOf facesIn below degenerate letters lines lists ruleIn ofKind linesOf isText isOneOf le lengthOf valueOf typesOf besideOf typed misses lacks faultOf valued nodeFaces nodeLinks verdictAt judgedAt judged header fileHeader reached linksAt linksFrom resolved linked headerAt nodeRefusal andThen children node childrenAt walkOf limited countUnder judgedWith ruled ownKnown ownUnknown checked verdict readingOf sizesUnder nodesBytes roots fileBytes emitLeft withoutFrom newFile trimmedOf trimmedOutput
 lentAfter s k t out = record { table = trimmedTable s k t (length out); output = trimmedOutput s k t out }
 
 -- the same, with a table of 8,193 numbers
@@ -94,11 +94,11 @@ e10 = cast (head root 51 1 ++ (head private 27 0 ++ (97 ∷ 98 ∷ 99 ∷ [])))
 e3 : List ℕ
 e3 = cast (head root 24 0)
 
-e10-trimmed : byRun e10 (trim 1 ∷ []) ≡ record { answers = done 40 ∷ []; file = e3 }
+e10-trimmed : byRun e10 (trim 1 ∷ []) ≡ record { answers = writingDone 40 ∷ []; file = e3 }
 unfolding byRun cast head e10 e3
 e10-trimmed = refl
 
-e10-tallied : byTally e10 (row root noParent 40 40 1 ∷ row private 0 64 67 0 ∷ []) (trim 1 ∷ []) ≡ record { answers = done 40 ∷ []; file = e3 }
+e10-tallied : byTally e10 (row root noParent 40 40 1 ∷ row private 0 64 67 0 ∷ []) (trim 1 ∷ []) ≡ record { answers = writingDone 40 ∷ []; file = e3 }
 unfolding byTally cast head e10 e3
 e10-tallied = refl
 
@@ -135,7 +135,7 @@ Both list told after =
 withoutAB : List ℕ
 withoutAB = cast (head root 74 2 ++ (head model 24 0 ++ (head private 26 0 ++ (3 ∷ 3 ∷ []))))
 
-a-and-b : Both (trim 2 ∷ trim 2 ∷ []) (done 115 ∷ done 90 ∷ []) withoutAB × Both (trim 3 ∷ trim 2 ∷ []) (done 117 ∷ done 90 ∷ []) withoutAB
+a-and-b : Both (trim 2 ∷ trim 2 ∷ []) (writingDone 115 ∷ writingDone 90 ∷ []) withoutAB × Both (trim 3 ∷ trim 2 ∷ []) (writingDone 117 ∷ writingDone 90 ∷ []) withoutAB
 unfolding byRun byTally cast head file rows withoutAB
 a-and-b = ((refl, refl), (refl, refl))
 
@@ -143,7 +143,7 @@ a-and-b = ((refl, refl), (refl, refl))
 withoutAC : List ℕ
 withoutAC = cast (head root 73 1 ++ (head model 49 1 ++ (head private 25 0 ++ (2 ∷ []))))
 
-a-and-c : Both (trim 2 ∷ trim 3 ∷ []) (done 115 ∷ done 89 ∷ []) withoutAC × Both (trim 4 ∷ trim 2 ∷ []) (done 116 ∷ done 89 ∷ []) withoutAC
+a-and-c : Both (trim 2 ∷ trim 3 ∷ []) (writingDone 115 ∷ writingDone 89 ∷ []) withoutAC × Both (trim 4 ∷ trim 2 ∷ []) (writingDone 116 ∷ writingDone 89 ∷ []) withoutAC
 unfolding byRun byTally cast head file rows withoutAC
 a-and-c = ((refl, refl), (refl, refl))
 
@@ -162,7 +162,7 @@ bytes-left = refl
 before : List ℕ
 before = cast (head root 99 2 ++ (head private 26 0 ++ (1 ∷ 1 ∷ head model 49 1 ++ (head private 25 0 ++ (2 ∷ [])))))
 
-renumbers : byRun before (trim 1 ∷ []) ≡ record { answers = done 89 ∷ []; file = withoutAC }
+renumbers : byRun before (trim 1 ∷ []) ≡ record { answers = writingDone 89 ∷ []; file = withoutAC }
 unfolding byRun cast head before withoutAC
 renumbers = refl
 
@@ -195,11 +195,11 @@ abbrev link : (row property target : ℕ) → Link
 link row property target = record { row = row; property = property; targets = target ∷ [] }
 
 -- the Mesh and its Material each have a lower row, and the link's property lies 26 bytes earlier
-link-moves : (byRun noted (trim 1 ∷ []) ≡ record { answers = done 168 ∷ []; file = linkedBy 152 1 [] })
+link-moves : (byRun noted (trim 1 ∷ []) ≡ record { answers = writingDone 168 ∷ []; file = linkedBy 152 1 [] })
     × (linksOf noted notedRows ≡ link 3 133 4 ∷ [])
     × (movedLink notedRows (false ∷ true ∷ false ∷ false ∷ false ∷ []) (link 3 133 4) ≡ link 2 107 3)
     × (linksOf (linkedBy 152 1 []) (rowsLeft notedRows (false ∷ true ∷ false ∷ false ∷ false ∷ [])) ≡ link 2 107 3 ∷ [])
-unfolding val numberAt bytesOk same decimal number numbered kindLines lineIn lineOf isKnown headerRefusal dataRefusal toZero dataOf nameAt stepAt pass properties lists ruleIn ofKind linesOf letters lines reached linksAt linksFrom le header sumOverMarked unmarked renumberedFrom laidOut rowsLeft byRun cast head linkedBy noted notedRows
+unfolding val numberAt bytesOk same readDigits number numbered parentsTable parentsIn parentsOf isKnown toZero nameAt stepAt pass properties lists ruleIn ofKind linesOf letters lines reached linksAt linksFrom le header sumOverMarked unmarked renumberedFrom laidOut rowsLeft byRun cast head linkedBy noted notedRows
 link-moves = (refl, refl, refl, refl)
 
 -- ---- with refusals between: 1 before 30; 30; 31; 32 by one byte; then A with just enough room; the same four again, as rows
@@ -212,14 +212,14 @@ mixed = short 9 ∷ trim 5 ∷ into 0 1 ∷ into 114 2 ∷ into 115 2 ∷ short 
 
 abbrev told : List Written
 told =
-    refused 1 0 ∷ refused 30 0 ∷ refused 31 0 ∷ refused 32 0 ∷ done 115 ∷
-    refused 1 0 ∷ refused 30 0 ∷ refused 31 0 ∷ refused 32 0 ∷ done 89 ∷ []
+    refusedWriting 1 0 ∷ refusedWriting 30 0 ∷ refusedWriting 31 0 ∷ refusedWriting 32 0 ∷ writingDone 115 ∷
+    refusedWriting 1 0 ∷ refusedWriting 30 0 ∷ refusedWriting 31 0 ∷ refusedWriting 32 0 ∷ writingDone 89 ∷ []
 
 with-refusals : Both mixed told withoutAC
 unfolding byRun byTally cast head file rows withoutAC
 with-refusals = (refl, refl)
 
 -- a file that is refused, with the reader's number and place
-refused-file : byRun (cast (head model 24 0)) (trim 0 ∷ []) ≡ record { answers = refused 6 16 ∷ []; file = cast (head model 24 0) }
+refused-file : byRun (cast (head model 24 0)) (trim 0 ∷ []) ≡ record { answers = refusedWriting 6 16 ∷ []; file = cast (head model 24 0) }
 unfolding byRun cast head
 refused-file = refl

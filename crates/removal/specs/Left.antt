@@ -22,10 +22,10 @@ unmarked [] = 0
 unmarked (true ∷ marks) = unmarked marks
 unmarked (false ∷ marks) = suc (unmarked marks)
 
-abbrev pub numberOf : List Bool → (i : ℕ) → ℕ
-numberOf marks i = unmarked (take i marks)
+abbrev pub newNumber : List Bool → (i : ℕ) → ℕ
+newNumber marks i = unmarked (take i marks)
 
--- row i stays: it is there, and unmarked. Only of such a row is `numberOf` the number (Numbers.antt).
+-- row i stays: it is there, and unmarked. Only of such a row is `newNumber` the number (Numbers.antt).
 abbrev pub Stays : List Bool → (i : ℕ) → Type 0
 Stays marks i = getD marks i true ≡ false
 
@@ -46,7 +46,7 @@ renumbered all marked i r = record {
   kind = r .kind;
   low = r .low;
   high = r .high;
-  parent = cond (eqb (r .parent) noParent) noParent (numberOf marked (r .parent));
+  parent = cond (eqb (r .parent) noParent) noParent (newNumber marked (r .parent));
   start = r .start;
   end = r .end;
   properties = r .properties;
@@ -92,8 +92,8 @@ pub record InHeader (Related : (row marked : ℕ) → Type 0) (first : ℕ) (row
   pub stays : Stays marks row
   pub isMarked : getD marks marked false ≡ true
   pub related : Related row marked
-  pub from : getD (rowsLeft rows marks) (numberOf marks row) blank .start + first ≤ at + 24
-  pub before : at + 24 < getD (rowsLeft rows marks) (numberOf marks row) blank .start + first + 4
+  pub from : getD (rowsLeft rows marks) (newNumber marks row) blank .start + first ≤ at + 24
+  pub before : at + 24 < getD (rowsLeft rows marks) (newNumber marks row) blank .start + first + 4
 
 -- in the size of a node around a marked one; in the child count of a marked one's parent
 abbrev pub InSize : (rows : List Row) (marks : List Bool) (at : ℕ) → Type 0
@@ -110,10 +110,10 @@ NodeLinkStays marks x = Stays marks (x .source .node) × Stays marks (x .target)
 
 -- a link with its nodes renumbered; its property is the same
 abbrev pub movedSource : List Bool → NodeProperty → NodeProperty
-movedSource marks x = record { node = numberOf marks (x .node); kind = x .kind; property = x .property }
+movedSource marks x = record { node = newNumber marks (x .node); kind = x .kind; property = x .property }
 
 abbrev pub movedNodeLink : List Bool → NodeLink → NodeLink
-movedNodeLink marks x = record { source = movedSource marks (x .source); target = numberOf marks (x .target) }
+movedNodeLink marks x = record { source = movedSource marks (x .source); target = newNumber marks (x .target) }
 
 -- a link's row and the rows that it reaches stay
 abbrev pub LinkStays : List Bool → Link → Type 0
@@ -122,7 +122,7 @@ LinkStays marks l = Stays marks (l .row) × Each (Stays marks) (l .targets)
 -- a link with its rows renumbered, and its property as far into its body as it was
 abbrev pub movedLink : List Row → List Bool → Link → Link
 movedLink rows marks l = record {
-  row = numberOf marks (l .row);
-  property = getD (rowsLeft rows marks) (numberOf marks (l .row)) blank .start + (l .property - getD rows (l .row) blank .start);
-  targets = map (numberOf marks) (l .targets);
+  row = newNumber marks (l .row);
+  property = getD (rowsLeft rows marks) (newNumber marks (l .row)) blank .start + (l .property - getD rows (l .row) blank .start);
+  targets = map (newNumber marks) (l .targets);
 }

@@ -91,27 +91,27 @@ pub record Tallied : Type 0 where
   pub marks : List Bool
 
 -- a refusal, "with place and length 0", marks nothing
-abbrev pub refusal : (number : ℕ) → List Bool → Tallied
-refusal n marks = record { answer = record { number = n; place = 0; length = 0 }; marks = marks }
+abbrev pub refusedTally : (number : ℕ) → List Bool → Tallied
+refusedTally n marks = record { answer = record { number = n; place = 0; length = 0 }; marks = marks }
 
 -- 32 where the output is too short; else the new length, and the row is marked: `marked` has it marked, `marks` has not
 abbrev pub byRoom : (new room : ℕ) (marked marks : List Bool) → Tallied
 byRoom new room marked marks =
-    cond (ltb room new) (refusal 32 marks) (record { answer = record { number = 0; place = 0; length = new }; marks = marked })
+    cond (ltb room new) (refusedTally 32 marks) (record { answer = record { number = 0; place = 0; length = new }; marks = marked })
 
 -- 30 where there is no such row, 31 where its kind is known
 abbrev pub byRow : Option ℕ → (s : List ℕ) → List Row → List Bool → (room : ℕ) → Tallied
-byRow none s rows marks room = refusal 30 marks
+byRow none s rows marks room = refusedTally 30 marks
 byRow (some i) s rows marks room =
     let marked = set marks i true in
-    cond (isKnown (getD rows i blank .kind)) (refusal 31 marks)
+    cond (isKnown (getD rows i blank .kind)) (refusedTally 31 marks)
     (byRoom (length (fileLeft s rows marked)) room marked marks)
 
 -- "It answers the first that holds of 1 table short, 30 no such number, 31 kind known, 32 output short, with place and length 0;
 -- else it marks that row and answers the new length."
 unfoldable pub tallyStep : (s : List ℕ) → List Row → List Bool → Fed → Tallied
 tallyStep s rows marks fed =
-    cond (ltb (fed .table) tableNumbers) (refusal 1 marks) (byRow (rowNumbered 0 marks (fed .row)) s rows marks (fed .output))
+    cond (ltb (fed .table) tableNumbers) (refusedTally 1 marks) (byRow (rowNumbered 0 marks (fed .row)) s rows marks (fed .output))
 
 -- the answers to a list, and the marks after it
 unfoldable pub answers : (s : List ℕ) → List Row → List Bool → List Fed → List Written

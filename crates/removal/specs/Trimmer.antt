@@ -15,7 +15,7 @@ use Rattle.reader.specs.declared.Reading.the-variants.{Accepted, Refused}
 use Rattle.reader.specs.Reading.{readingOf}
 use Rattle.reader.specs.Reading.{tableAfter as readTable}
 use Rattle.emit.specs.declared.Written.{Written}
-use Rattle.emit.specs.Emission.{fileBytes, refused, done, leftBy}
+use Rattle.emit.specs.Emission.{fileBytes, refusedWriting, writingDone, outputLeft}
 
 -- ---- a row taken out
 
@@ -56,15 +56,15 @@ newFile s k = fileBytes (flagsOf s) s (without k (limited s .rows))
 -- 30 to 32 of a file with these rows, by the length of the new file
 abbrev pub removalOf : (rows : List Row) (k new room : ℕ) → Written
 removalOf rows k new room =
-    cond (leb (length rows) k) (refused 30 0)
-    (cond (isKnown (getD rows k blank .kind)) (refused 31 0)
-    (cond (ltb room new) (refused 32 0)
-    (done new)))
+    cond (leb (length rows) k) (refusedWriting 30 0)
+    (cond (isKnown (getD rows k blank .kind)) (refusedWriting 31 0)
+    (cond (ltb room new) (refusedWriting 32 0)
+    (writingDone new)))
 
 -- "the reader's refusals", or what comes where there is none
 abbrev pub byReading : Reading → Written → Written
 byReading (Accepted a) next = next
-byReading (Refused n place) next = refused n place
+byReading (Refused n place) next = refusedWriting n place
 
 -- a trimming's number, place and length, for any file, row number and table, and an output of any length
 unfoldable pub trimmedOf : (s : List ℕ) (k : ℕ) (t : List ℕ) (room : ℕ) → Written
@@ -74,7 +74,7 @@ trimmedOf s k t room = byReading (readingOf s t) (removalOf (limited s .rows) k 
 
 -- the output: on success the new file at its start; else as it was
 unfoldable pub trimmedOutput : (s : List ℕ) (k : ℕ) (t out : List ℕ) → List ℕ
-trimmedOutput s k t out = leftBy (trimmedOf s k t (length out) .number) (newFile s k) out
+trimmedOutput s k t out = outputLeft (trimmedOf s k t (length out) .number) (newFile s k) out
 
 -- the table: on success as a reading of the new file leaves it; else cleared, and left where it has no room (1)
 unfoldable pub trimmedTable : (s : List ℕ) (k : ℕ) (t : List ℕ) (room : ℕ) → List ℕ

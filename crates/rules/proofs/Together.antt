@@ -89,7 +89,7 @@ module _ (kind : ℕ) {span : Span} (s : Spanned kind span) where
   counted = rw of-span (length-take-le (span .to - span .from) (drop (span .from) lines) (omega (arith, s .3, length-drop (span .from) lines, many)))
 
   module _ (rows : List (List ℕ)) where
-    -- so many were put, and this is in the rows then
+    -- n were put, and this is in the rows then
     abbrev pub Put : ℕ → List (List ℕ) → Type 0
     Put n after =
         (n ≡ length (fitting (linesOf kind) (length rows)))

@@ -5,7 +5,7 @@ use mathlib.Core.Path.{_≡_, refl}
 use mathlib.Core.Bool.{Bool, true, false}
 use mathlib.Core.List.{List, [], _∷_, _++_, map}
 use lib.ListN.{length}
-use Rattle.names.specs.Names.{same, decimal, number}
+use Rattle.names.specs.Names.{same, readDigits, number}
 use Rattle.names.specs.Names.{numbered as numberIn}
 use Rattle.kinds.specs.Kinds.{root, model, mesh, curve, material, file}
 use Rattle.base.specs.Letters.{letters}
@@ -23,7 +23,7 @@ unfolding lines
 linking = refl
 
 unfoldable found : ℕ → String → Line
-unfolding letters lines lists same numberIn decimal number ruleIn ofKind linesOf
+unfolding letters lines lists same numberIn readDigits number ruleIn ofKind linesOf
 found kind name = ruleOf kind (letters name)
 
 abbrev colours : Line
@@ -36,7 +36,8 @@ mesh-names = refl
 
 -- m is a link of a Mesh, text of a Curve, and free on a Model
 same-name : (found mesh "m" ∷ found curve "m" ∷ found model "m" ∷ found root "n" ∷ []) ≡
-    rule mesh "m" plain (only long) single optional (linkTo material) ∷ rule curve "m" plain (only string) single required (oneOf modes) ∷ free ∷ free ∷ []
+    rule mesh "m" plain (only long) single optional (linkTo material) ∷
+    rule curve "m" plain (only string) single required (oneOf modes) ∷ free ∷ free ∷ []
 unfolding found letters
 same-name = refl
 

@@ -95,7 +95,7 @@ module _ (t : List ℕ) where
       rw (hasRow-cleared j, hasRoom-hasRow j h b, cleared-in h)
       (rowFrom-same (zeroed 8192 t) [] (j * 8) 0 λ i c. getD-zeroed 8192 t (j * 8 + i) (omega arith))
 
-  -- only what is behind the rows matters
+  -- only what is after the rows matters
   cleared-same : (s : List ℕ) → hasRoom t ≡ true → length s ≡ length t → drop 8192 s ≡ drop 8192 t → cleared s ≡ cleared t
   unfolding cleared
   cleared-same s h l e = rw (hasRoom-length s t l, h) (zeroed-same 8192 s t e)

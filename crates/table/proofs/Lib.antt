@@ -2,4 +2,5 @@ pub mod Rows
 pub mod Clearing
 pub mod Plans
 pub mod Rests
+pub mod Counts
 pub mod Filled

@@ -82,7 +82,7 @@ length-putRows t k (r ∷ rs) = length-putRows (withRow t k r) (suc k) rs ∙ le
 pub hasRow-putRows : (t : List ℕ) (k : ℕ) (rs : List Row) (j : ℕ) → hasRow (putRows t k rs) j ≡ hasRow t j
 hasRow-putRows t k rs j = hasRow-length (putRows t k rs) t j (length-putRows t k rs)
 
--- a row before the rows put, or behind them
+-- a row before the rows put, or after them
 pub rowAt-putRows-other : (t : List ℕ) (k : ℕ) (rs : List Row) (j : ℕ) → (k ≤ j → k + length rs ≤ j) → rowAt (putRows t k rs) j ≡ rowAt t j
 unfolding putRows
 rowAt-putRows-other t k [] j h = refl

@@ -5,7 +5,9 @@ use mathlib.Core.Bool.{true, false}
 use mathlib.Core.List.{List, [], _∷_}
 use lib.ListN.{getD, replicate}
 use Rattle.table.specs.declared.Row.{Row}
-use Rattle.table.specs.Table.{hasRow, rowAt, withRow, putRows, hasRoom, zeroed, cleared, flat, filled}
+use Rattle.table.specs.declared.Which.the-variants.{All, OfKind}
+use Rattle.table.specs.Table.{noParent, hasRow, rowAt, withRow, putRows, hasRoom, zeroed, cleared, flat, filled}
+use Rattle.table.specs.Counts.{countUnder}
 
 -- a row, and three numbers of a second
 abbrev eleven : List ℕ
@@ -72,3 +74,14 @@ last-cleared = (refl, refl)
 some-filled : (getD (filled (low ∷ []) (replicate 8193 7)) 7 9 ≡ 8) × (getD (filled (low ∷ []) (replicate 8193 7)) 8 9 ≡ 0) × (getD (filled (low ∷ []) (replicate 8193 7)) 8192 9 ≡ 7)
 unfolding flat filled
 some-filled = (refl, refl, refl)
+
+-- a row under no parent, two rows of kind 7 and one of kind 8 under row 0, and one of kind 7 under row 1
+abbrev under : (kind parent : ℕ) → Row
+under kind parent = record { kind = kind; low = 0; high = 0; parent = parent; start = 0; end = 0; properties = 0; children = 0 }
+
+abbrev family : List Row
+family = under 7 noParent ∷ under 7 0 ∷ under 8 0 ∷ under 7 0 ∷ under 7 1 ∷ []
+
+some-counted : (countUnder All family 0 ≡ 3) × (countUnder (OfKind 7) family 0 ≡ 2) × (countUnder (OfKind 8) family 1 ≡ 0) × (countUnder All family noParent ≡ 1)
+unfolding countUnder
+some-counted = (refl, refl, refl, refl)

@@ -43,7 +43,7 @@ blank = rowFrom [] 0
 unfoldable pub rowAt : List ℕ → ℕ → Row
 rowAt t k = cond (hasRow t k) (rowFrom t (k * 8)) blank
 
--- so many rows of the table, from row k on
+-- n rows of the table, from row k on
 unfoldable pub rowsAt : List ℕ → (k n : ℕ) → List Row
 rowsAt t k zero = []
 rowsAt t k (suc n) = rowAt t k ∷ rowsAt t (suc k) n

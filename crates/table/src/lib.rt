@@ -1,10 +1,11 @@
 // The table: rows of eight numbers in a lent slice. No other crate knows where a row's numbers lie.
 ghost use mathlib.Core.Path.{_≡_};
-ghost use Prim.Native.Nat.{_+_, _*_, _≤_};
-ghost use lib.ListN.{length};
+ghost use Prim.Native.Nat.{ℕ, _+_, _*_, _≤_, _<_, min};
+ghost use lib.ListN.{length, getD};
 ghost use lib.Seq.{sets};
-ghost use Rattle.base.specs.Limits.{tableNumbers};
-ghost use Rattle.table.specs.Table.{blank, hasRow, rowFrom, rowAt, fields, withRow, hasRoom, zeroed, cleared, rowCount, isPlan};
+ghost use Rattle.base.specs.Limits.{mostRows, tableNumbers};
+ghost use Rattle.table.specs.Table.{blank, hasRow, rowFrom, rowAt, rowsAt, fields, withRow, hasRoom, zeroed, cleared, rowCount, isPlan};
+ghost use Rattle.table.specs.Counts.{isCounted, countUnder};
 
 // A node: its kind, the halves of its hash, its parent's row (0xFFFFFFFF for none), where its body starts and ends, its
 // property count and its child count.
@@ -144,4 +145,41 @@ pub fn is_plan(numbers: &[u32]) -> bool
     ensures { λ r. ⌜ r ≡ isPlan (now (numbers .entry)) ⌝ }
 {
     (numbers.len() % 8 == 0) & (numbers.len() / 8 <= base::MOST_ROWS)
+}
+
+// Which rows are counted: all, or those of a kind.
+pub enum Which {
+    All,
+    OfKind(u32),
+}
+
+fn is_counted(which: Which, row: Row) -> bool
+    ensures { λ r. ⌜ r ≡ isCounted which row ⌝ }
+{
+    match which {
+        Which::All => true,
+        Which::OfKind(kind) => row.kind == kind,
+    }
+}
+
+// Counts, of the first rows of a table, at most 1,024, those under each parent: place p has the count of row p.
+pub fn count_under(numbers: &[u32], rows: usize, which: Which) -> [u32; base::MOST_ROWS]
+    ensures { λ r. ⌜ ((p : ℕ) → p < mostRows → getD r p 0 ≡ countUnder which (rowsAt (now (numbers .entry)) 0 (min rows mostRows)) p) ⌝ }
+{
+    let n = if rows < base::MOST_ROWS {
+        rows
+    } else {
+        base::MOST_ROWS
+    };
+    let mut counts = [0u32; base::MOST_ROWS];
+    let mut i: usize = 0;
+    while i < n {
+        let row = row_at(numbers, i);
+        let parent = row.parent as usize;
+        if is_counted(which, row) & (parent < base::MOST_ROWS) {
+            counts[parent] = counts[parent] + 1;
+        }
+        i += 1;
+    }
+    counts
 }

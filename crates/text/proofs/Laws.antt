@@ -10,7 +10,7 @@ use lib.Seq.{sets, length-sets, length-take-le, take-all, take-suc, drop-cons, t
 use borrow.Author.Tests.{lt-ltb, le-ltb, le-leb, lt-leb, leb-true, leb-false}
 use Rattle.base.proofs.Tests.{by-test}
 use Rattle.base.proofs.Stores.{sets-append, set-sets}
-use Rattle.text.specs.Text.{fitted, written, behind, glyph, digits, sizeIn, decimalSize}
+use Rattle.text.specs.Text.{fitted, withText, placeAfter, glyph, digits, digitCount, decimalSize}
 
 -- ---- room
 fits : (t : List ℕ) (room : ℕ) → length t ≤ room → fitted t room ≡ t
@@ -28,22 +28,22 @@ no-room (b ∷ t) = unfit (b ∷ t) 0 (omega arith)
 
 module _ (out : List ℕ) (at : ℕ) (t : List ℕ) where
   -- nothing is put, and the place stays
-  nothing : fitted t (length out - at) ≡ [] → (at ≡ behind out at t) × (out ≡ written out at t)
-  unfolding behind written
+  nothing : fitted t (length out - at) ≡ [] → (at ≡ placeAfter out at t) × (out ≡ withText out at t)
+  unfolding placeAfter withText
   nothing e = (rw e (sym (add-zero at)), rw e)
 
-  pub put-outside : length out < at → (at ≡ behind out at t) × (out ≡ written out at t)
+  pub put-outside : length out < at → (at ≡ placeAfter out at t) × (out ≡ withText out at t)
   put-outside h = let e : length out - at ≡ 0 = omega arith in nothing (rw e (no-room t))
 
-  pub put-short : length out < at + length t → (at ≡ behind out at t) × (out ≡ written out at t)
+  pub put-short : length out < at + length t → (at ≡ placeAfter out at t) × (out ≡ withText out at t)
   put-short h = by-test (leb at (length out))
       (λ e. nothing (unfit t (length out - at) (omega (arith, leb-true at (length out) e))))
       (λ e. put-outside (leb-false at (length out) e))
 
-  -- the place behind lies in the buffer
-  pub behind-within : at ≤ length out → {r : ℕ} {last : List ℕ} → (r ≡ behind out at t) × (last ≡ written out at t) → r ≤ length last
-  unfolding behind written
-  behind-within h p =
+  -- the place after lies in the buffer
+  pub after-within : at ≤ length out → {r : ℕ} {last : List ℕ} → (r ≡ placeAfter out at t) × (last ≡ withText out at t) → r ≤ length last
+  unfolding placeAfter withText
+  after-within h p =
       let room = length out - at in
       let same = ap length (p .1) ∙ length-sets out at (fitted t room) in
       by-test (leb (length t) room)
@@ -55,17 +55,17 @@ module _ (out : List ℕ) (at : ℕ) (t : List ℕ) where
     room : fitted t (length out - at) ≡ t
     room = fits t (length out - at) (omega arith)
 
-    pub behind-put : behind out at t ≡ at + length t
-    unfolding behind
-    behind-put = rw room
+    pub after-put : placeAfter out at t ≡ at + length t
+    unfolding placeAfter
+    after-put = rw room
 
-    pub written-put : written out at t ≡ sets out at t
-    unfolding written
+    pub written-put : withText out at t ≡ sets out at t
+    unfolding withText
     written-put = rw room
 
 -- ---- how many digits a number has
-pub one-digit : (left n : ℕ) → 0 < left → n < 10 → sizeIn left n ≡ 1
-unfolding sizeIn
+pub one-digit : (left n : ℕ) → 0 < left → n < 10 → digitCount left n ≡ 1
+unfolding digitCount
 one-digit zero n h l = absurd (omega arith)
 one-digit (suc left) n h l = rw (lt-ltb n 10 l)
 
@@ -73,16 +73,16 @@ pub tenth : (k n : ℕ) → n < 10 ^ suc k → n / 10 < 10 ^ k
 tenth k n h = div-lt-iff-lt-mul {k = 10} {x = n} {y = 10 ^ k} (omega arith) .1 (rw (← pow-suc 10 k) h)
 
 module _ (n : ℕ) (h : 10 ≤ n) where
-  pub more-digits : (left : ℕ) → n < 10 ^ left → (2 ≤ left) × (sizeIn left n ≡ suc (sizeIn (left - 1) (n / 10))) × (n / 10 < 10 ^ (left - 1))
-  unfolding sizeIn
+  pub more-digits : (left : ℕ) → n < 10 ^ left → (2 ≤ left) × (digitCount left n ≡ suc (digitCount (left - 1) (n / 10))) × (n / 10 < 10 ^ (left - 1))
+  unfolding digitCount
   more-digits zero l = absurd (omega arith)
   more-digits (suc zero) l = absurd (omega arith)
   more-digits (suc (suc m)) l =
       let e : suc (suc m) - 1 ≡ suc m = omega arith in
       (omega arith, rw (le-ltb n 10 h, e), rw e (tenth (suc m) n l))
 
-size-most : (most n : ℕ) → sizeIn most n ≤ most
-unfolding sizeIn
+size-most : (most n : ℕ) → digitCount most n ≤ most
+unfolding digitCount
 size-most zero n = omega arith
 size-most (suc m) n =
     by-test (ltb n 10)
@@ -151,10 +151,10 @@ stored-all d at base all out (suc l) rest h s = absurd (omega arith)
 -- ---- a label, and then digits
 pub label-digits : (out : List ℕ) (at : ℕ) (label number : List ℕ) (k : ℕ) {first both : List ℕ} → length number ≡ k → (at + length label) + k ≤ length out
     → first ≡ sets out at label → both ≡ sets first (at + length label) number
-    → ((at + length label) + k ≡ behind out at (label ++ number)) × (both ≡ written out at (label ++ number))
+    → ((at + length label) + k ≡ placeAfter out at (label ++ number)) × (both ≡ withText out at (label ++ number))
 label-digits out at label number k {first} {both} e h p q =
     let long : length (label ++ number) ≡ length label + k = length-append label number ∙ ap (λ n. length label + n) e in
     let room : at + length (label ++ number) ≤ length out = omega arith in (
-      omega (arith, behind-put out at (label ++ number) room),
+      omega (arith, after-put out at (label ++ number) room),
       rw (q, p) (sym (written-put out at (label ++ number) room ∙ sets-append out at label number)),
     )

@@ -11,9 +11,9 @@ use borrow.Author.Tests.{lt-ltb, le-leb, ltb-true, ltb-false}
 use Rattle.base.proofs.Tests.{by-test}
 use Rattle.names.specs.declared.Numeral.the-variants.{Is, Not}
 use Rattle.names.specs.Names.{isDigit}
-use Rattle.names.specs.Names.{decimal as numeral}
-use Rattle.text.specs.Text.{glyph, digits, sizeIn}
-use Rattle.text.specs.Statements.{ReadsBack, OfZero, NoLeadingZero}
+use Rattle.names.specs.Names.{readDigits as numeral}
+use Rattle.text.specs.Text.{glyph, digits, digitCount}
+use Rattle.text.specs.Statements.{DecimalReadsBack, OfZero, NoLeadingZero}
 use Rattle.text.proofs.Laws.{tenth, length-digits}
 
 -- a number below ten is told by one digit
@@ -43,21 +43,21 @@ digits-read (suc k) n h =
     ∙ ap Is (omega (arith, glyph-is (n % 10) below, div-add-mod' n 10))
 
 -- as many digits as there are hold the number
-size-holds : (most n : ℕ) → n < 10 ^ most → n < 10 ^ sizeIn most n
-unfolding sizeIn
+size-holds : (most n : ℕ) → n < 10 ^ most → n < 10 ^ digitCount most n
+unfolding digitCount
 size-holds zero n h = h
 size-holds (suc m) n h =
     by-test (ltb n 10)
     (λ e. rw e (ltb-true n 10 e))
     (λ e.
-    let more = div-lt-iff-lt-mul {k = 10} {x = n} {y = 10 ^ sizeIn m (n / 10)} (omega arith) .0 (size-holds m (n / 10) (tenth m n h)) in
-    rw (e, pow-suc 10 (sizeIn m (n / 10))) more)
+    let more = div-lt-iff-lt-mul {k = 10} {x = n} {y = 10 ^ digitCount m (n / 10)} (omega arith) .0 (size-holds m (n / 10) (tenth m n h)) in
+    rw (e, pow-suc 10 (digitCount m (n / 10))) more)
 
-pub readsBack : ReadsBack
-readsBack n h = digits-read (sizeIn 20 n) n (size-holds 20 n h)
+pub readsBack : DecimalReadsBack
+readsBack n h = digits-read (digitCount 20 n) n (size-holds 20 n h)
 
 pub ofZero : OfZero
-unfolding glyph digits sizeIn
+unfolding glyph digits digitCount
 ofZero = refl
 
 -- a number of no digits is zero
@@ -65,14 +65,14 @@ some : (p n : ℕ) → 1 ≤ n → n < 10 ^ p → 0 < p
 some zero n l h = absurd (omega arith)
 some (suc p) n l h = omega arith
 
-leads : (most n : ℕ) → 1 ≤ n → n < 10 ^ most → getD (digits 10 (sizeIn most n) n) 0 0 ≡ 48 → ⊥
-unfolding sizeIn digits
+leads : (most n : ℕ) → 1 ≤ n → n < 10 ^ most → getD (digits 10 (digitCount most n) n) 0 0 ≡ 48 → ⊥
+unfolding digitCount digits
 leads zero n l h e = omega arith
 leads (suc m) n l h e =
     by-test (ltb n 10)
     (λ t. omega (arith, rw t at e, glyph-is (n % 10) (mod-lt n {m = 10} (omega arith)), ltb-true n 10 t))
     (λ t.
-    let p = sizeIn m (n / 10) in
+    let p = digitCount m (n / 10) in
     let more = ltb-false n 10 t in
     let long : 0 < length (digits 10 p (n / 10)) = rw (length-digits 10 p (n / 10)) (some p (n / 10) (omega arith) (size-holds m (n / 10) (tenth m n h))) in
     leads m (n / 10) (omega arith) (tenth m n h) (sym (List·getD-append (digits 10 p (n / 10)) (glyph (n % 10) ∷ []) 0 0 long) ∙ rw t at e))

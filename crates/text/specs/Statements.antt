@@ -4,12 +4,12 @@ use mathlib.Core.Path.{_≡_}
 use mathlib.Core.List.{[], _∷_}
 use lib.ListN.{getD}
 use Rattle.names.specs.declared.Numeral.the-variants.{Is}
-use Rattle.names.specs.Names.{decimal as numeral}
+use Rattle.names.specs.Names.{readDigits as numeral}
 use Rattle.text.specs.Text.{decimal}
 
 -- `numeral 0` reads digits; a number of 64 bits is below 10 ^ 20
-abbrev pub ReadsBack : Type 0
-ReadsBack = (n : ℕ) → n < 10 ^ 20 → numeral 0 (decimal n) ≡ Is n
+abbrev pub DecimalReadsBack : Type 0
+DecimalReadsBack = (n : ℕ) → n < 10 ^ 20 → numeral 0 (decimal n) ≡ Is n
 
 -- 48 is `0`
 abbrev pub OfZero : Type 0

@@ -4,7 +4,7 @@ ghost use mathlib.Core.List.{_++_};
 ghost use Prim.Native.Nat.{_+_, _≤_, _<_};
 ghost use lib.ListN.{length};
 ghost use lib.Seq.{sets};
-ghost use Rattle.text.specs.Text.{written, behind, digits, decimal, hexadecimal};
+ghost use Rattle.text.specs.Text.{withText, placeAfter, digits, decimal, hexadecimal};
 ghost use Rattle.text.specs.Text.{glyph as Text·glyph, decimalSize as Text·decimalSize};
 
 fn glyph(d: u64) -> u8
@@ -42,11 +42,11 @@ fn write_digits(out: &mut [u8], at: usize, n: u64, base: u64, k: usize)
     }
 }
 
-// A label, and behind it the k lowest digits of a number in a base.
+// A label, and after it the k lowest digits of a number in a base.
 fn put_number(out: &mut [u8], at: usize, label: &[u8], n: u64, base: u64, k: usize) -> usize
     requires { ⌜ (2 ≤ base) × (base ≤ 16) ⌝ }
-    ensures place { λ r. ⌜ r ≡ behind (now (out .entry)) at (now (label .entry) ++ digits base k n) ⌝ }
-    ensures output { λ r. ⌜ now (out .exit) ≡ written (now (out .entry)) at (now (label .entry) ++ digits base k n) ⌝ }
+    ensures place { λ r. ⌜ r ≡ placeAfter (now (out .entry)) at (now (label .entry) ++ digits base k n) ⌝ }
+    ensures output { λ r. ⌜ now (out .exit) ≡ withText (now (out .entry)) at (now (label .entry) ++ digits base k n) ⌝ }
 {
     if out.len() < at {
         return at;
@@ -64,28 +64,28 @@ fn put_number(out: &mut [u8], at: usize, label: &[u8], n: u64, base: u64, k: usi
     next + k
 }
 
-// Puts a text at this place if all of it has room there, and answers the place behind it; else answers the place itself, and
+// Puts a text at this place if all of it has room there, and answers the place after it; else answers the place itself, and
 // leaves the buffer. The two below do likewise.
 pub fn put(out: &mut [u8], at: usize, text: &[u8]) -> usize
-    ensures place { λ r. ⌜ r ≡ behind (now (out .entry)) at (now (text .entry)) ⌝ }
-    ensures output { λ r. ⌜ now (out .exit) ≡ written (now (out .entry)) at (now (text .entry)) ⌝ }
+    ensures place { λ r. ⌜ r ≡ placeAfter (now (out .entry)) at (now (text .entry)) ⌝ }
+    ensures output { λ r. ⌜ now (out .exit) ≡ withText (now (out .entry)) at (now (text .entry)) ⌝ }
 {
-    // A label with no digits behind it.
+    // A label with no digits after it.
     put_number(out, at, text, 0, 10, 0)
 }
 
 // A label and a number in decimal.
 pub fn put_decimal(out: &mut [u8], at: usize, label: &[u8], n: u64) -> usize
-    ensures place { λ r. ⌜ r ≡ behind (now (out .entry)) at (now (label .entry) ++ decimal n) ⌝ }
-    ensures output { λ r. ⌜ now (out .exit) ≡ written (now (out .entry)) at (now (label .entry) ++ decimal n) ⌝ }
+    ensures place { λ r. ⌜ r ≡ placeAfter (now (out .entry)) at (now (label .entry) ++ decimal n) ⌝ }
+    ensures output { λ r. ⌜ now (out .exit) ≡ withText (now (out .entry)) at (now (label .entry) ++ decimal n) ⌝ }
 {
     put_number(out, at, label, n, 10, decimal_size(n))
 }
 
 // A label and a number in hexadecimal, of eight digits.
 pub fn put_hexadecimal(out: &mut [u8], at: usize, label: &[u8], n: u32) -> usize
-    ensures place { λ r. ⌜ r ≡ behind (now (out .entry)) at (now (label .entry) ++ hexadecimal n) ⌝ }
-    ensures output { λ r. ⌜ now (out .exit) ≡ written (now (out .entry)) at (now (label .entry) ++ hexadecimal n) ⌝ }
+    ensures place { λ r. ⌜ r ≡ placeAfter (now (out .entry)) at (now (label .entry) ++ hexadecimal n) ⌝ }
+    ensures output { λ r. ⌜ now (out .exit) ≡ withText (now (out .entry)) at (now (label .entry) ++ hexadecimal n) ⌝ }
 {
     put_number(out, at, label, n as u64, 16, 8)
 }

@@ -13,15 +13,15 @@ use Rattle.reader.specs.declared.Account.{Account}
 use Rattle.reader.specs.declared.Reading.{Reading}
 use Rattle.reader.specs.declared.Reading.the-variants.{Accepted, Refused}
 use Rattle.reader.specs.Reading.{verdict, readingOf}
-use Rattle.reader.specs.Reading.{leftBy as readLeft}
+use Rattle.reader.specs.Reading.{tableLeft as readLeft}
 use Rattle.reader.specs.Reading.{tableAfter as readTable}
 use Rattle.reader.proofs.Exactly.{in-room, has-room}
 use Rattle.reader.proofs.Accepted.{nodes-are, flags-are, table-left, few}
 use Rattle.emit.specs.declared.Written.{Written}
-use Rattle.emit.specs.Emission.{refused}
+use Rattle.emit.specs.Emission.{refusedWriting}
 use Rattle.removal.specs.Trimmer.{newFile, trimmedOf, trimmedOutput, trimmedTable}
 use Rattle.removal.proofs.RefusedFile.{refusedFile}
-use Rattle.trimmer.specs.Contract.{Read, leftWithout}
+use Rattle.trimmer.specs.Private.{Read, leftWithout}
 use Rattle.trimmer.proofs.Answers.{Ends}
 
 -- a reading into a filled table
@@ -71,7 +71,7 @@ module _ (s t : List ℕ) (bytes : AreBytes s) (a : Account) (r : readingOf s t 
 
 -- a file that is refused
 pub trimmed-refused : (s t : List ℕ) (n place k : ℕ) (out : List ℕ) (t′ : List ℕ) → readingOf s t ≡ Refused n place → t′ ≡ readTable s t
-    → (refused n place ≡ trimmedOf s k t (length out)) × ((out ≡ trimmedOutput s k t out) × (t′ ≡ trimmedTable s k t (length out)))
+    → (refusedWriting n place ≡ trimmedOf s k t (length out)) × ((out ≡ trimmedOutput s k t out) × (t′ ≡ trimmedTable s k t (length out)))
 trimmed-refused s t n place k out t′ r e =
     let is = refusedFile s t n place k out r in
     (sym (is .0), (sym (is .1), e ∙ sym (is .2)))

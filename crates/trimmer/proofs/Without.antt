@@ -18,12 +18,12 @@ use Rattle.walk.specs.Walk.{limited}
 use Rattle.reader.specs.Reading.{tableAfter as readTable}
 use Rattle.reader.proofs.Accepted.{few}
 use Rattle.emit.specs.declared.Written.{Written}
-use Rattle.emit.specs.Emission.{fileBytes, done, emission, leftBy, outputOf}
+use Rattle.emit.specs.Emission.{fileBytes, writingDone, emission, outputLeft, outputOf}
 use Rattle.writer.specs.Forest.{laidOut}
 use Rattle.writer.proofs.Plans.{length-laid}
 use Rattle.removal.specs.Trimmer.{withoutFrom, without, newFile}
 use Rattle.removal.proofs.NewFile.{NewFile, new-file-of, length-from}
-use Rattle.trimmer.specs.Contract.{Read, Removes}
+use Rattle.trimmer.specs.Private.{Read, Removes}
 
 -- ---- a row taken out of any rows
 pub taken-out : (t : List ℕ) (k p n : ℕ) → k < n → n ≤ 1024 → hasRoom t ≡ true → t ≡ filled (rowsAt t 0 n) t
@@ -94,15 +94,15 @@ module _ {s t : List ℕ} {k p n f room : ℕ} (bytes : AreBytes s) (r : Removes
     unfolding newFile
     bytes-are = rw rows-put (ap (λ g. fileBytes g s stay) (r .read .flags))
 
-    pub emitted : (w : Written) → w ≡ emission f s (rowsAt t′ 0 (min (n - 1) 1024)) room → w ≡ done (length (newFile s k))
+    pub emitted : (w : Written) → w ≡ emission f s (rowsAt t′ 0 (min (n - 1) 1024)) room → w ≡ writingDone (length (newFile s k))
     unfolding emission
     emitted w h = h ∙ rw (bytes-are, le-ltb 16777216 (length (newFile s k)) (new .short), le-ltb room (length (newFile s k)) (r .fits))
 
-    pub put : (out o : List ℕ) → length out ≡ room → o ≡ outputOf f s (rowsAt t′ 0 (min (n - 1) 1024)) out → o ≡ leftBy 0 (newFile s k) out
+    pub put : (out o : List ℕ) → length out ≡ room → o ≡ outputOf f s (rowsAt t′ 0 (min (n - 1) 1024)) out → o ≡ outputLeft 0 (newFile s k) out
     put out o h e =
-        let answer : emission f s (rowsAt t′ 0 (min (n - 1) 1024)) (length out) ≡ done (length (newFile s k)) = rw h (emitted _ refl) in
-        e ∙ ap (λ (w : Written). leftBy (w .number) (fileBytes f s (rowsAt t′ 0 (min (n - 1) 1024))) out) answer
-        ∙ ap (λ bs. leftBy 0 bs out) bytes-are
+        let answer : emission f s (rowsAt t′ 0 (min (n - 1) 1024)) (length out) ≡ writingDone (length (newFile s k)) = rw h (emitted _ refl) in
+        e ∙ ap (λ (w : Written). outputLeft (w .number) (fileBytes f s (rowsAt t′ 0 (min (n - 1) 1024))) out) answer
+        ∙ ap (λ bs. outputLeft 0 bs out) bytes-are
 
     pub laid : putRows t′ 0 (laidOut 16 (rowsAt t′ 0 (n - 1))) ≡ readTable (newFile s k) t
     laid = rw rows-left (ap (λ u. putRows u 0 (laidOut 16 stay)) taken ∙ put-filled t stay (laidOut 16 stay) (r .read .room) few-stay (length-laid 16 stay) ∙ sym (new .read t (r .read .room)))

@@ -1,1 +1,1 @@
-pub mod Contract
+pub mod Private

@@ -8,10 +8,10 @@ ghost use Rattle.table.specs.Table.{rowsAt, putRows, hasRoom, cleared, filled};
 ghost use Rattle.format.specs.Rows.{ownBytes, allOwnBytes};
 ghost use Rattle.walk.specs.Walk.{limited};
 ghost use Rattle.reader.specs.Reading.{tableAfter};
-ghost use Rattle.emit.specs.Emission.{emittedRows, refused, done, emission, leftBy, outputOf};
+ghost use Rattle.emit.specs.Emission.{emittedRows, refusedWriting, writingDone, emission, outputLeft, outputOf};
 ghost use Rattle.writer.specs.Forest.{movedTo, laidOut};
 ghost use Rattle.removal.specs.Trimmer.{lowered, mended, withoutFrom, newFile, removalOf, trimmedOf, trimmedOutput, trimmedTable};
-ghost use Rattle.trimmer.specs.Contract.{Read, Removes, leftWithout};
+ghost use Rattle.trimmer.specs.Private.{Read, Removes, leftWithout};
 
 // ---- a row taken out
 
@@ -126,14 +126,10 @@ fn lay_out(table: &mut [u32], rows: usize)
 
 // A refusal of 30 to 32, which clears the rows.
 fn refuse(number: u32, table: &mut [u32]) -> emit::Written
-    ensures { λ r. ⌜ (r ≡ refused number 0) × (now (table .exit) ≡ cleared (now (table .entry))) ⌝ }
+    ensures { λ r. ⌜ (r ≡ refusedWriting number 0) × (now (table .exit) ≡ cleared (now (table .entry))) ⌝ }
 {
     table::clear(table);
-    emit::Written {
-        number,
-        place: 0,
-        length: 0,
-    }
+    emit::refused(number, 0)
 }
 
 // Writes the file of a table's first rows while they tell where their bodies lie in the source, and only then places the
@@ -166,8 +162,8 @@ fn rewrite(
     out: &mut [u8],
 ) -> emit::Written
     requires { ⌜ Removes (now file) (now table) k above nodes flags (length (now out)) ⌝ }
-    ensures result { λ r. ⌜ r ≡ done (length (newFile (now (file .entry)) k)) ⌝ }
-    ensures output { λ r. ⌜ now (out .exit) ≡ leftBy 0 (newFile (now (file .entry)) k) (now (out .entry)) ⌝ }
+    ensures result { λ r. ⌜ r ≡ writingDone (length (newFile (now (file .entry)) k)) ⌝ }
+    ensures output { λ r. ⌜ now (out .exit) ≡ outputLeft 0 (newFile (now (file .entry)) k) (now (out .entry)) ⌝ }
     ensures table { λ r. ⌜ now (table .exit) ≡ tableAfter (newFile (now (file .entry)) k) (now (table .entry)) ⌝ }
 {
     take_out(table, nodes, k, above);
@@ -195,7 +191,7 @@ fn remove(
     requires { ⌜ Read (now file) (now table) nodes flags ⌝ }
     ensures result { λ r. ⌜ r
         ≡ removalOf (limited (now (file .entry)) .rows) k (length (newFile (now (file .entry)) k)) (length (now (out .entry))) ⌝ }
-    ensures output { λ r. ⌜ now (out .exit) ≡ leftBy (r .number) (newFile (now (file .entry)) k) (now (out .entry)) ⌝ }
+    ensures output { λ r. ⌜ now (out .exit) ≡ outputLeft (r .number) (newFile (now (file .entry)) k) (now (out .entry)) ⌝ }
     ensures table { λ r. ⌜ now (table .exit) ≡ leftWithout (r .number) (now (file .entry)) k (now (table .entry)) ⌝ }
 {
     let n = nodes as usize;
@@ -222,10 +218,6 @@ pub fn trim(file: &[u8], row: usize, table: &mut [u32], out: &mut [u8]) -> emit:
     let reading = reader::read(file, table);
     match reading {
         reader::Reading::Accepted(a) => remove(file, row, table, a.nodes, a.flags, out),
-        reader::Reading::Refused { number, place } => emit::Written {
-            number,
-            place,
-            length: 0,
-        },
+        reader::Reading::Refused { number, place } => emit::refused(number, place),
     }
 }

@@ -10,10 +10,10 @@ use lib.Seq.{take-append-seam, drop-append-seam}
 use borrow.Author.Tests.{eqb-false, ne-eqb, leb-true, le-leb, lt-ltb, le-ltb, ltb-true, ltb-false}
 use Rattle.base.proofs.Tests.{by-test}
 use Rattle.names.specs.Names.{same, isDigit, number}
-use Rattle.names.specs.Names.{decimal as numeral}
+use Rattle.names.specs.Names.{readDigits as numeral}
 use Rattle.names.specs.Names.{numbered as numberIn}
 use Rattle.names.proofs.Laws.{same-eq, same-refl, number-long}
-use Rattle.text.specs.Text.{glyph, digits, sizeIn, decimal}
+use Rattle.text.specs.Text.{glyph, digits, digitCount, decimal}
 use Rattle.rules.specs.Rules.{isNumber}
 use Rattle.valid.specs.Lines.{Numbered}
 use Rattle.valid.proofs.Says.{Says}
@@ -24,19 +24,19 @@ unfolding glyph
 digit d h = rw (lt-ltb d 10 h)
 
 one : (n : ℕ) → n < 10 → decimal n ≡ (48 + n) ∷ []
-unfolding sizeIn digits
+unfolding digitCount digits
 one n h =
     let same : n % 10 ≡ n = omega arith in
     rw (lt-ltb n 10 h, same, digit n h)
 
 two : (n : ℕ) → 10 ≤ n → n < 100 → decimal n ≡ (48 + n / 10) ∷ (48 + n % 10) ∷ []
-unfolding sizeIn digits
+unfolding digitCount digits
 two n h k =
     let low : n / 10 % 10 ≡ n / 10 = omega arith in
     rw (le-ltb n 10 h, lt-ltb (n / 10) 10 (omega arith), low, digit (n / 10) (omega arith), digit (n % 10) (omega arith))
 
 three : (n : ℕ) → 100 ≤ n → n < 1000 → decimal n ≡ (48 + n / 10 / 10) ∷ (48 + n / 10 % 10) ∷ (48 + n % 10) ∷ []
-unfolding sizeIn digits
+unfolding digitCount digits
 three n h k =
     let low : n / 10 / 10 % 10 ≡ n / 10 / 10 = omega arith in
     rw (le-ltb n 10 (omega arith), le-ltb (n / 10) 10 (omega arith), lt-ltb (n / 10 / 10) 10 (omega arith), low, digit (n / 10 / 10) (omega arith), digit (n / 10 % 10) (omega arith), digit (n % 10) (omega arith))

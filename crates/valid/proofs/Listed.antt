@@ -7,7 +7,7 @@ use mathlib.Core.List.{List, [], _∷_, _++_}
 use lib.Dec.{eqb}
 use borrow.Author.Tests.{eq-eqb, eqb-true, not-true}
 use Rattle.base.proofs.Tests.{by-test}
-use Rattle.names.specs.Names.{same, decimal, number}
+use Rattle.names.specs.Names.{same, readDigits, number}
 use Rattle.names.specs.Names.{numbered as numberIn}
 use Rattle.rules.specs.Table.{Line, lines, free}
 use Rattle.base.specs.Letters.{letters}
@@ -66,7 +66,7 @@ allClear [] = true
 allClear (l ∷ ls) = all (clear l) ls && allClear ls
 
 table-clear : allClear lines ≡ true
-unfolding allClear all startAlike numberIn number decimal same letters lines
+unfolding allClear all startAlike numberIn number readDigits same letters lines
 table-clear = refl
 
 pub all-each : {A : Type 0} (test : A → Bool) (xs : List A) → all test xs ≡ true → Each (λ x. test x ≡ true) xs

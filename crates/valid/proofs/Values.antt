@@ -12,7 +12,7 @@ use borrow.Author.Tests.{eq-eqb, eqb-true}
 use Rattle.le.specs.Le.{val, numberAt}
 use Rattle.base.proofs.Tests.{by-test}
 use Rattle.props.specs.declared.Size.the-variants.{Bytes}
-use Rattle.props.specs.Types.{sizeOf, byte, short, int, long, float, v4, string}
+use Rattle.props.specs.Types.{elementSize, byte, short, int, long, float, v4, string}
 use Rattle.faces.specs.Faces.{widthOf}
 use Rattle.rules.specs.Table.{Types, only, N, keyType, anyType}
 use Rattle.rules.specs.Rules.{isN, takes}
@@ -49,7 +49,7 @@ pub takes-number : {types : Types} (code : ℕ) → Takes types code → types �
 takes-number code h e = says-N code .1 (rw e at h)
 
 -- ---- numbers of b h i
-pub width-size : (code : ℕ) → isN code ≡ true → sizeOf code ≡ Bytes (widthOf code)
+pub width-size : (code : ℕ) → isN code ≡ true → elementSize code ≡ Bytes (widthOf code)
 unfolding widthOf
 width-size code h =
     by-test (eqb code 0x62) (λ e. rw e)

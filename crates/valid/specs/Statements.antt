@@ -4,7 +4,7 @@ use mathlib.Core.Path.{_≡_}
 use mathlib.Core.Logic.{_↔_}
 use mathlib.Core.List.{List}
 use Rattle.props.specs.declared.Size.the-variants.{Bytes}
-use Rattle.props.specs.Types.{sizeOf}
+use Rattle.props.specs.Types.{elementSize}
 use Rattle.faces.specs.Faces.{widthOf}
 use Rattle.format.specs.Forest.{Forest}
 use Rattle.base.specs.Lists.{Each}
@@ -17,7 +17,7 @@ use Rattle.valid.specs.Nodes.{nodesOf}
 
 -- "`N` any of `b h i`, read unsigned": the width that a value of b, h or i is read with is the element size of its type
 abbrev pub WidthIsSize : Type 0
-WidthIsSize = (code : ℕ) → IsN code → sizeOf code ≡ Bytes (widthOf code)
+WidthIsSize = (code : ℕ) → IsN code → elementSize code ≡ Bytes (widthOf code)
 
 -- well-formed nodes are of one list of nodes with their properties
 abbrev pub OneNodeList : Type 0

@@ -7,7 +7,7 @@ use mathlib.Core.List.{List, [], _∷_, _++_, append-nil, append-assoc}
 use lib.ListN.{length, take, drop, getD, set, replicate, drop-of-length-le}
 use lib.Seq.{take-all, take-suc-set, drop-cons}
 use Rattle.le.specs.Le.{numberAt}
-use Rattle.vectors.specs.Buffers.{space, rising, numbersFrom, taking, checksumFrom}
+use Rattle.vectors.specs.Buffers.{space, rising, numbersRead, taking, checksumFrom}
 
 -- ---- numbers stored one after the other: those that are stored, and those that are left, are the whole
 
@@ -29,12 +29,12 @@ module _ (n i : ℕ) where
   unfolding rising
   rising-none v h = let none : n - i ≡ 0 = omega arith in rw none
 
-  pub numbers-more : (s : List ℕ) → i < n → numbersFrom s i (n - i) ≡ numberAt 4 s (i * 4) ∷ numbersFrom s (i + 1) (n - (i + 1))
-  unfolding numbersFrom
-  numbers-more s h = let one : n - i ≡ suc (n - (i + 1)) = omega arith in ap (numbersFrom s i) one ∙ ap (λ k. numberAt 4 s (i * 4) ∷ numbersFrom s k (n - (i + 1))) (sym (add-one i))
+  pub numbers-more : (s : List ℕ) → i < n → numbersRead s i (n - i) ≡ numberAt 4 s (i * 4) ∷ numbersRead s (i + 1) (n - (i + 1))
+  unfolding numbersRead
+  numbers-more s h = let one : n - i ≡ suc (n - (i + 1)) = omega arith in ap (numbersRead s i) one ∙ ap (λ k. numberAt 4 s (i * 4) ∷ numbersRead s k (n - (i + 1))) (sym (add-one i))
 
-  pub numbers-none : (s : List ℕ) → n ≤ i → numbersFrom s i (n - i) ≡ []
-  unfolding numbersFrom
+  pub numbers-none : (s : List ℕ) → n ≤ i → numbersRead s i (n - i) ≡ []
+  unfolding numbersRead
   numbers-none s h = let none : n - i ≡ 0 = omega arith in rw none
 
 -- ---- checksums, for every type of number

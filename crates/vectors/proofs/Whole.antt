@@ -17,9 +17,9 @@ use Rattle.props.specs.declared.Size.the-variants.{Bytes, Text, NoSuch}
 use Rattle.props.specs.declared.Step.{Step}
 use Rattle.props.specs.declared.Step.the-variants.{Past, Refused}
 use Rattle.props.specs.Step.{stepAt}
-use Rattle.props.specs.Types.{sizeOf}
+use Rattle.props.specs.Types.{elementSize}
 use Rattle.table.specs.Table.{hasRoom}
-use Rattle.plan.specs.Plan.{judged}
+use Rattle.plan.specs.Plan.{planRefusal}
 use Rattle.lookup.specs.declared.Found.{Found}
 use Rattle.lookup.specs.declared.Found.the-variants.{At}
 use Rattle.lookup.specs.declared.Found.the-variants.{Refused as Refused′}
@@ -33,7 +33,7 @@ use Rattle.vectors.specs.Leaves.{writtenLine, leafLine}
 use Rattle.vectors.specs.Listings.{listNumbers}
 use Rattle.vectors.specs.Outputs.{putNumbers, intoOutput, outputLine}
 use Rattle.vectors.specs.Parts.{sizeLine, nameLine, numeralLine, stepLine, indexNumbers, partLine}
-use Rattle.vectors.specs.Rows.{placesOf, foundNumbers, seenNumbers, tableNumbers, tableLine, lookupNumbers, queryLine, rowLine}
+use Rattle.vectors.specs.Rows.{placesOf, foundNumbers, seenNumbers, rowTable, tableLine, lookupNumbers, queryLine, rowLine}
 use Rattle.vectors.specs.Statements.{HasAll}
 use Rattle.vectors.specs.Trims.{trimNumbers, trimLine}
 use Rattle.vectors.specs.Writes.{firstOf, partsNumbers, planNumbers, writeNumbers}
@@ -82,7 +82,7 @@ step (Refused n) = short (omega arith)
 part : (f : Frame) (first second : List ℕ) → AtMost 12 (partLine f first second)
 unfolding partLine nameLine indexNumbers
 part f first second =
-    either (eqb (f .function) 10) (size (sizeOf (f .x % 65536)))
+    either (eqb (f .function) 10) (size (elementSize (f .x % 65536)))
     (either (eqb (f .function) 11) (either (ltb 65535 (length first)) (short (omega arith)) (short (omega arith)))
     (either (eqb (f .function) 12) (short (omega arith))
     (either (eqb (f .function) 13) (numeral (numbered first second))
@@ -97,7 +97,7 @@ found (At start end) = short (omega arith)
 found (Refused′ n) = short (omega arith)
 
 row : (f : Frame) (first second : List ℕ) → AtMost 12 (rowLine f first second)
-unfolding rowLine tableLine tableNumbers seenNumbers queryLine lookupNumbers
+unfolding rowLine tableLine rowTable seenNumbers queryLine lookupNumbers
 row f first second =
     let w = lookupOf first (numbersIn second (f .y)) (f .x) (drop (f .y * 4) second) in
     either (eqb (f .function) 19) (either (ltb 8300 (length first / 4)) (short (omega arith)) (short (omega arith)))
@@ -119,7 +119,7 @@ unfolding writeNumbers planNumbers partsNumbers
 write f s block room =
     either (ltb 8300 (length block / 4)) (short (omega arith))
     (either (eqb (f .function) 34) (short (omega arith))
-    (two-more (either (eqb (judged s (firstOf (numbersIn block (length block / 4)) (f .x)) .number) 0) (short (omega arith)) (short (omega arith)))))
+    (two-more (either (eqb (planRefusal s (firstOf (numbersIn block (length block / 4)) (f .x)) .number) 0) (short (omega arith)) (short (omega arith)))))
 
 trim : (f : Frame) (s block : List ℕ) (room : ℕ) → AtMost 11 (trimLine f s block room)
 unfolding trimLine trimNumbers

@@ -18,13 +18,13 @@ abbrev pub filling : (seed n : ℕ) → List ℕ
 filling seed n = rising n (seed % 256)
 
 -- n numbers of 4 bytes each, one after the other, from the i-th on
-unfoldable pub numbersFrom : (s : List ℕ) (i n : ℕ) → List ℕ
-numbersFrom s i zero = []
-numbersFrom s i (suc n) = numberAt 4 s (i * 4) ∷ numbersFrom s (suc i) n
+unfoldable pub numbersRead : (s : List ℕ) (i n : ℕ) → List ℕ
+numbersRead s i zero = []
+numbersRead s i (suc n) = numberAt 4 s (i * 4) ∷ numbersRead s (suc i) n
 
 -- the first n numbers of 4 bytes each
 abbrev pub numbersIn : (s : List ℕ) (n : ℕ) → List ℕ
-numbersIn s n = numbersFrom s 0 n
+numbersIn s n = numbersRead s 0 n
 
 -- a checksum takes one number more
 unfoldable pub taking : (sum n : ℕ) → ℕ

@@ -6,8 +6,7 @@ use lib.Dec.{eqb, ltb}
 use lib.ListN.{replicate}
 use Rattle.table.specs.Table.{hasRoom, cleared}
 use Rattle.walk.specs.declared.Answer.{Answer as Walked}
-use Rattle.walk.specs.Walk.{answer}
-use Rattle.walk.specs.Walk.{tableAfter as walkedInto}
+use Rattle.walk.specs.Walk.{answer, tableWalked}
 use Rattle.reader.specs.declared.Reading.{Reading}
 use Rattle.reader.specs.Reading.{Numbers, numbersOf, readingOf, tableAfter}
 use Rattle.vectors.specs.declared.frame.Frame.{Frame}
@@ -23,7 +22,7 @@ walkNumbers s t = cond (hasRoom t) (walkedNumbers (answer s)) (1 ∷ 0 ∷ 0 ∷
 
 -- a walk into any table, which is cleared where the file is refused
 unfoldable pub walkedTable : (s t : List ℕ) → List ℕ
-walkedTable s t = cond (eqb (answer s .number) 0) (walkedInto s t) (cleared (walkedInto s t))
+walkedTable s t = cond (eqb (answer s .number) 0) (tableWalked s t) (cleared (tableWalked s t))
 
 unfoldable pub walkTable : (s t : List ℕ) → List ℕ
 walkTable s t = cond (hasRoom t) (walkedTable s (cleared t)) t

@@ -14,9 +14,9 @@ use Rattle.props.specs.declared.Size.{Size}
 use Rattle.props.specs.declared.Size.the-variants.{Bytes, Text, NoSuch}
 use Rattle.props.specs.declared.Step.{Step}
 use Rattle.props.specs.declared.Step.the-variants.{Past, Refused}
-use Rattle.props.specs.Types.{sizeOf}
+use Rattle.props.specs.Types.{elementSize}
 use Rattle.props.specs.Step.{stepAt}
-use Rattle.body.specs.Body.{Walked, properties, exactly, answerOf, indexOf}
+use Rattle.body.specs.Body.{PropertyWalk, properties, exactly, endOf, indexOf}
 use Rattle.vectors.specs.declared.frame.Frame.{Frame}
 use Rattle.vectors.specs.Answers.{bit}
 use Rattle.vectors.specs.Buffers.{checksum}
@@ -46,16 +46,16 @@ stepLine (Past p next) = 0 ∷ p .name ∷ p .start ∷ next .at ∷ []
 stepLine (Refused n) = n ∷ 0 ∷ 0 ∷ 0 ∷ []
 
 -- 17: the index of a walk over properties, and the walk's end alone
-unfoldable pub indexNumbers : Walked → List ℕ
+unfoldable pub indexNumbers : PropertyWalk → List ℕ
 indexNumbers w =
-    indexOf w .number ∷ indexOf w .count ∷ answerOf w .number ∷ answerOf w .at ∷ checksum (indexOf w .starts) ∷ []
+    indexOf w .number ∷ indexOf w .count ∷ endOf w .number ∷ endOf w .at ∷ checksum (indexOf w .starts) ∷ []
 
 -- 10 to 17, and, as every other number, 18: names and bodies are blocks; codes, kinds and places are x and y
 unfoldable pub partLine : Frame → (first second : List ℕ) → List ℕ
 partLine f first second =
     let function = f .function in
     let count = f .y % 4294967296 in
-    cond (eqb function 10) (sizeLine (sizeOf (f .x % 65536)))
+    cond (eqb function 10) (sizeLine (elementSize (f .x % 65536)))
     (cond (eqb function 11) (nameLine first)
     (cond (eqb function 12) (bit (same first second) ∷ [])
     (cond (eqb function 13) (numeralLine (numbered first second))

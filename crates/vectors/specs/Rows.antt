@@ -32,13 +32,13 @@ rowIn s = record {
 unfoldable pub seenNumbers : (t : List ℕ) (k : ℕ) → List ℕ
 seenNumbers t k = bit (hasRow t k) ∷ (fields (rowAt t k) ++ (bit (hasRoom t) ∷ []))
 
-unfoldable pub tableNumbers : (t : List ℕ) (k : ℕ) → Row → List ℕ
-tableNumbers t k r = seenNumbers t k ++ (checksum (withRow t k r) ∷ checksum (cleared (withRow t k r)) ∷ [])
+unfoldable pub rowTable : (t : List ℕ) (k : ℕ) → Row → List ℕ
+rowTable t k r = seenNumbers t k ++ (checksum (withRow t k r) ∷ checksum (cleared (withRow t k r)) ∷ [])
 
 -- the table is in the block, with nothing after it but a part of a number; one over 8,300 numbers is not lent
 unfoldable pub tableLine : (k : ℕ) (block row : List ℕ) → List ℕ
 tableLine k block row =
-    cond (ltb 8300 (length block / 4)) [] (tableNumbers (numbersIn block (length block / 4)) k (rowIn row))
+    cond (ltb 8300 (length block / 4)) [] (rowTable (numbersIn block (length block / 4)) k (rowIn row))
 
 -- ---- 20: the lookup's number, a place of 0, where the data lies, and the data
 

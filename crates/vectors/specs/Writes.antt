@@ -6,7 +6,7 @@ use lib.Dec.{eqb, ltb}
 use lib.ListN.{length}
 use Rattle.table.specs.declared.Row.{Row}
 use Rattle.table.specs.Table.{rowsAt}
-use Rattle.plan.specs.Plan.{judged}
+use Rattle.plan.specs.Plan.{planRefusal}
 use Rattle.emit.specs.declared.Written.{Written}
 use Rattle.emit.specs.Emission.{emission, outputOf}
 use Rattle.writer.specs.Writer.{writtenOf, outputAfter}
@@ -25,14 +25,14 @@ firstOf plan n = rowsAt plan 0 (min n 1024)
 unfoldable pub partsNumbers : (plan : List ℕ) (n flags : ℕ) (s : List ℕ) (room : ℕ) → List ℕ
 partsNumbers plan n flags s room =
     let rows = firstOf plan n in
-    let judgement = judged s rows in
-    judgement .number ∷ judgement .row ∷
-    cond (eqb (judgement .number) 0) (writtenNumbers (emission flags s rows room)) (0 ∷ 0 ∷ 0 ∷ [])
+    let wrong = planRefusal s rows in
+    wrong .number ∷ wrong .place ∷
+    cond (eqb (wrong .number) 0) (writtenNumbers (emission flags s rows room)) (0 ∷ 0 ∷ 0 ∷ [])
 
 unfoldable pub partsOutput : (plan : List ℕ) (n flags : ℕ) (s out : List ℕ) → List ℕ
 partsOutput plan n flags s out =
     let rows = firstOf plan n in
-    cond (eqb (judged s rows .number) 0) (outputOf flags s rows out) out
+    cond (eqb (planRefusal s rows .number) 0) (outputOf flags s rows out) out
 
 -- ---- 34, whose flags are x; and every other number as 35, whose rows are the first x, and whose flags are the seed
 

@@ -18,29 +18,29 @@ pub fn run(f: Frame, out: &mut [u8], first: &[u8], second: &[u8]) -> Answer
     Answer::one(listing::put(out, line(f.x, first, second)) as u64)
 }
 
-fn line(which: u64, block: &[u8], fields: &[u8]) -> listing::Line
+fn line(which: u64, block: &[u8], fields: &[u8]) -> listing::TextLine
     ensures { λ r. ⌜ r ≡ lineIn which (now (block .entry)) (now (fields .entry)) ⌝ }
 {
     match which {
-        0 => listing::Line::Summary {
+        0 => listing::TextLine::Summary {
             flags: le::u32_at(block, 0),
             nodes: le::u32_at(block, 8),
             bytes: le::u64_at(block, 16),
         },
-        1 => listing::Line::Node {
+        1 => listing::TextLine::Node {
             index: le::u32_at(block, 0),
             row: rows::parsed(fields),
         },
-        2 => listing::Line::FileHeader,
-        3 => listing::Line::Faces {
+        2 => listing::TextLine::FileHeader,
+        3 => listing::TextLine::Faces {
             faces: faces::Faces(le::u64_at(block, 0)),
             degenerate: le::u64_at(block, 8),
         },
-        4 => listing::Line::Total(le::u64_at(block, 0)),
-        5 => listing::Line::Refusal {
+        4 => listing::TextLine::Total(le::u64_at(block, 0)),
+        5 => listing::TextLine::Refusal {
             number: le::u32_at(block, 0),
             place: le::u32_at(block, 8),
         },
-        _ => listing::Line::TooLong,
+        _ => listing::TextLine::TooLong,
     }
 }

@@ -3,7 +3,7 @@ use crate::answer::Answer;
 use crate::buffers;
 use crate::frame::Frame;
 ghost use mathlib.Core.Path.{_≡_};
-ghost use Rattle.props.specs.Types.{sizeOf};
+ghost use Rattle.props.specs.Types.{elementSize};
 ghost use Rattle.props.specs.Step.{stepAt};
 ghost use Rattle.names.specs.Names.{numbered};
 ghost use Rattle.body.specs.Body.{properties};
@@ -44,9 +44,9 @@ fn above(parent: u64) -> kinds::Parent
 }
 
 fn element(code: u16) -> Answer
-    ensures { λ r. ⌜ r ≡ answered (sizeLine (sizeOf code)) ⌝ }
+    ensures { λ r. ⌜ r ≡ answered (sizeLine (elementSize code)) ⌝ }
 {
-    match props::size_of(code) {
+    match props::element_size(code) {
         props::Size::Bytes(n) => Answer::two(1, n as u64),
         props::Size::Text => Answer::two(2, 0),
         props::Size::NoSuch => Answer::two(0, 0),
@@ -78,9 +78,9 @@ fn step(body: &[u8], at: usize) -> Answer
 {
     let cursor = props::Cursor { at };
     match cursor.step(body) {
-        props::Step::Past { property, next } => {
-            let name = property.name;
-            let start = property.start;
+        props::Step::Past { offsets, next } => {
+            let name = offsets.name;
+            let start = offsets.start;
             let end = next.at;
             Answer::four(0, name as u64, start as u64, end as u64)
         }

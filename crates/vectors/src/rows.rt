@@ -7,7 +7,7 @@ ghost use mathlib.Core.Path.{_≡_};
 ghost use lib.ListN.{length};
 ghost use Rattle.vectors.specs.Answers.{answered};
 ghost use Rattle.vectors.specs.Buffers.{numbersIn};
-ghost use Rattle.vectors.specs.Rows.{rowIn, seenNumbers, tableNumbers, tableLine, foundNumbers, lookupNumbers, queryLine, rowLine};
+ghost use Rattle.vectors.specs.Rows.{rowIn, seenNumbers, rowTable, tableLine, foundNumbers, lookupNumbers, queryLine, rowLine};
 
 // 19: the table in the first block; row x read, then put from the second block, then all rows cleared.
 // 20: bytes in the first block; y numbers of a table and then a name in the second; row x.
@@ -36,7 +36,7 @@ fn table(row: usize, numbers: &[u8], fields: &[u8]) -> Answer
 fn lent(table: &mut [u32], row: usize, numbers: &[u8], fields: &[u8]) -> Answer
     ensures { λ r. do
       let t = numbersIn (now (numbers .entry)) (length (now (table .entry)))
-      ⌜ r ≡ answered (tableNumbers t row (rowIn (now (fields .entry)))) ⌝ }
+      ⌜ r ≡ answered (rowTable t row (rowIn (now (fields .entry)))) ⌝ }
 {
     buffers::numbers(table, numbers);
     let seen = seen(table, row);

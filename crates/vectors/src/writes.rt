@@ -50,9 +50,9 @@ fn parts(rows: usize, flags: u32, out: &mut [u8], source: &[u8], plan: &[u32]) -
     ensures result { λ r. ⌜ r ≡ answered (partsNumbers (now (plan .entry)) rows flags (now (source .entry)) (length (now (out .entry)))) ⌝ }
     ensures output { λ _. ⌜ now (out .exit) ≡ partsOutput (now (plan .entry)) rows flags (now (source .entry)) (now (out .entry)) ⌝ }
 {
-    let judged = plan::judge(plan, rows, source);
-    let answer = Answer::two(judged.number as u64, judged.row as u64);
-    if judged.number != 0 {
+    let refusal = plan::refusal(plan, rows, source);
+    let answer = Answer::two(refusal.number as u64, refusal.place as u64);
+    if refusal.number != 0 {
         return answer.push_two(0, 0).push(0);
     }
     with_written(answer, emit::emit(plan, rows, source, flags, out))

@@ -11,7 +11,7 @@ use lib.Seq.{take-at, drop-at, drop-append-seam}
 use borrow.Author.Tests.{le-ltb, le-leb}
 use Rattle.kinds.specs.declared.Parent.{Parent}
 use Rattle.kinds.specs.declared.Parent.the-variants.{None, Kind}
-use Rattle.kinds.specs.Kinds.{isKnown, mayStand}
+use Rattle.kinds.specs.Kinds.{mayStand}
 use Rattle.table.specs.declared.Row.{Row}
 use Rattle.table.specs.Table.{noParent}
 use Rattle.format.specs.Forest.{Forest, end, known, unknown, count, nodes, encode, header, fileHeader, fileOf}
@@ -20,11 +20,9 @@ use Rattle.format.specs.Layout.{WellFormed, WellFormedFile, Placed, Few}
 use Rattle.format.proofs.Headers.{length-header, header-drop, length-fileHeader, fileHeader-drop, fileHeader-first, fileHeader-version, fileHeader-roots, fileHeader-flags}
 use Rattle.format.proofs.Rows.{length-rows, rows-unknown, rows-known}
 use Rattle.format.proofs.Bodies.{body-good}
-use Rattle.walk.specs.declared.Header.{Header}
-use Rattle.walk.specs.Walk.{Walked, behind, unknownNode, knownNode, inside, nodeAt, childrenAt, headerAt, nodeRefusal, walkOf}
+use Rattle.walk.specs.Walk.{Walked, afterRows, nodeAt, childrenAt, headerAt, nodeRefusal, walkOf}
 use Rattle.walk.specs.Statements.{Complete, Others}
-use Rattle.walk.proofs.Laws.{node-unknown, node-known, body-passed}
-use Rattle.walk.proofs.Lists.{list-done}
+use Rattle.walk.proofs.Laws.{node-unknown, node-passed, list-done}
 use Rattle.walk.proofs.Outcomes.{headed, header-at, verdict, Shallow, shallow-most, shallow-below, Whole, Bars, bars-more, told, Barred, Outcome, list-barred, Begins, list-on, judged}
 
 -- ---- an unknown node, and those next to it
@@ -68,7 +66,7 @@ module _ (parent : Parent) (above depth at row : ℕ) (k h p c : ℕ) (rest : Li
       (λ m e q.
       let head = header-at k unknownSize h p c (rest ++ encode next) (wf .1) in
       list-on parent above depth at row unknownBytes (unknown k h p c rest next) next unknownSize unknownRows (unknown-begins m)
-      (node-unknown parent above depth at row unknownBytes e (ap (λ i. isKnown (i .kind)) head ∙ wf .0) ∙ ap (λ i. unknownNode i above at) head)
+      (node-unknown parent above depth at row unknownBytes head (rw head at e) (wf .0))
       (o q))
 
 -- ---- a known node, the nodes below it, and those next to it
@@ -115,28 +113,20 @@ module _ (parent : Parent) (above depth at row : ℕ) (k h p : ℕ) (body : List
   abbrev below : Walked
   below = childrenAt (Kind k) row (depth + 1) (count kids) (at + 24 + length body) (row + 1) (encode kids)
 
-  known-inside : (n : ℕ) → n ≡ knownSize → take (n - 24) (drop 24 knownBytes) ≡ body ++ encode kids
-  known-inside n e =
-      let long : length (body ++ encode kids) ≡ n - 24 = simp length-append (omega (arith, e)) in
-      ap (take (n - 24)) (header-drop k knownSize h p (count kids) (body ++ (encode kids ++ encode next))
+  known-inside : take (knownSize - 24) (drop 24 knownBytes) ≡ body ++ encode kids
+  known-inside =
+      let long : length (body ++ encode kids) ≡ knownSize - 24 = simp length-append (omega arith) in
+      ap (take (knownSize - 24)) (header-drop k knownSize h p (count kids) (body ++ (encode kids ++ encode next))
       ∙ sym (append-assoc body (encode kids) (encode next)))
-      ∙ take-at (body ++ encode kids) (encode next) (n - 24) long
+      ∙ take-at (body ++ encode kids) (encode next) (knownSize - 24) long
 
-  -- a known node of good properties, with its children in the bytes behind them
-  known-passed : (i : Header) (x : List ℕ) → x ≡ body ++ encode kids → i ≡ headed k knownSize h p (count kids)
-      → knownNode childrenAt i above depth at row x ≡ behind (nodeRow k h above (at + 24) (at + 24 + length body) p (count kids) ∷ []) below
-  known-passed i x e f =
-      let good = body-good p body (encode kids) (wf .3) in
-      rw (e, f)
-      (body-passed (headed k knownSize h p (count kids)) above depth at row (body ++ encode kids) (good .0)
-      ∙ rw (good .1, drop-append-seam body (encode kids)))
-
+  -- its properties are good, and its children lie in the bytes after them
   known-node : nodeRefusal (headerAt knownBytes) (length knownBytes) parent row depth ≡ 0
-      → nodeAt parent above depth at row knownBytes ≡ behind (nodeRow k h above (at + 24) (at + 24 + length body) p (count kids) ∷ []) below
+      → nodeAt parent above depth at row knownBytes ≡ afterRows (nodeRow k h above (at + 24) (at + 24 + length body) p (count kids) ∷ []) below
   known-node e =
-      node-known parent above depth at row knownBytes e (ap (λ i. isKnown (i .kind)) known-head ∙ wf .0)
-      ∙ known-passed (headerAt knownBytes) (inside (headerAt knownBytes) knownBytes)
-      (known-inside (headerAt knownBytes .size) (ap (λ i. i .size) known-head)) known-head
+      let good = body-good p body (encode kids) (wf .3) in
+      node-passed parent above depth at row knownBytes known-head (rw known-head at e) (wf .0) (rw known-inside (good .0))
+      ∙ rw (known-inside, good .1, drop-append-seam body (encode kids))
 
   known-outcome : (mayStand parent k ≡ true → row < 1024 → Outcome (Kind k) row (at + 24 + length body) (row + 1) kids below)
       → (row + length knownRows ≤ 1024 → Outcome parent above (at + knownSize) (row + length knownRows) next
@@ -147,13 +137,13 @@ module _ (parent : Parent) (above depth at row : ℕ) (k h p : ℕ) (body : List
       (λ m e q. by m (known-node e) (o m q))
     where
       by : mayStand parent k ≡ true → nodeAt parent above depth at row knownBytes
-          ≡ behind (nodeRow k h above (at + 24) (at + 24 + length body) p (count kids) ∷ []) below
+          ≡ afterRows (nodeRow k h above (at + 24) (at + 24 + length body) p (count kids) ∷ []) below
           → Outcome (Kind k) row (at + 24 + length body) (row + 1) kids below
           → Outcome parent above at row (known k h p body kids next) (childrenAt parent above depth (suc (count next)) at row knownBytes)
       by m e (inl o) =
           let far : at + 24 + length body + length (encode kids) ≡ at + knownSize = omega arith in
           list-on parent above depth at row knownBytes (known k h p body kids next) next knownSize knownRows (known-begins m (o .placed))
-          (e ∙ ap (behind (nodeRow k h above (at + 24) (at + 24 + length body) p (count kids) ∷ [])) (o .is) ∙ rw far)
+          (e ∙ ap (afterRows (nodeRow k h above (at + 24) (at + 24 + length body) p (count kids) ∷ [])) (o .is) ∙ rw far)
           (others (omega (arith, o .few, known-listed)))
       by m e (inr o) =
           list-barred parent above depth at row knownBytes (known k h p body kids next) (count next)

@@ -14,11 +14,11 @@ use Rattle.format.specs.Forest.{Forest, end, known, unknown, count, nodes, enco
 use Rattle.format.specs.Rows.{nodeRow, rows}
 use Rattle.format.specs.Layout.{GoodBody, Fits, WellFormed, Placed}
 use Rattle.format.proofs.Rows.{length-rows, rows-unknown, rows-known}
-use Rattle.walk.specs.Walk.{Walked, behind, nodeAt, childrenAt}
-use Rattle.walk.proofs.Lists.{list-over, list-done, list-next, list-first}
+use Rattle.walk.specs.Walk.{Walked, afterRows, nodeAt, childrenAt}
+use Rattle.walk.proofs.Laws.{list-over, list-done, list-next, list-first}
 
 -- ---- the nodes of a list, and the first of them
--- so many nodes fill the bytes
+-- c nodes fill the bytes
 pub record Nodes (parent : Parent) (above c at row : ℕ) (bs : List ℕ) (w : Walked) : Type 0 where
   pub forest : Forest
   pub bytes : bs ≡ encode forest
@@ -99,7 +99,7 @@ list-none parent above depth at row (b ∷ bs) r e =
     absurd (omega (arith, sym (ap (λ w. w .number) (list-over parent above depth at row (b ∷ bs) (omega arith))) ∙ e))
 
 list-more : (parent : Parent) (above c at row : ℕ) (bs : List ℕ) (v w : Walked) → (f : First parent above at row bs v)
-    → Nodes parent above c (v .at) (row + length (v .rows)) (drop (v .at - at) bs) w → Nodes parent above (suc c) at row bs (behind (v .rows) w)
+    → Nodes parent above c (v .at) (row + length (v .rows)) (drop (v .at - at) bs) w → Nodes parent above (suc c) at row bs (afterRows (v .rows) w)
 list-more parent above c at row bs v w f n =
     let taken : v .at - at ≡ f .size = omega (arith, f .reached) in
     record {

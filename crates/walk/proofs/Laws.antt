@@ -1,135 +1,190 @@
--- The walk's own laws: its bound on the bytes never speaks, so that a node is walked by `nodeBy` with `childrenAt` for its
--- children; and what each of its cases comes to.
+-- The walk's own laws: its bound never speaks; and what each case of a node comes to.
 use Prim.Native.Nat.{ℕ, zero, suc, _+_, _-_, _≤_, _<_}
 use native.Mathlib.Omega.{arith}
 use mathlib.Core.Path.{_≡_, refl, ap, sym, _∙_}
-use mathlib.Core.Bool.{Bool, true, false}
+use mathlib.Core.Bool.{true, false}
 use mathlib.Core.List.{List, [], _∷_}
+use lib.Dec.{ltb}
 use lib.ListN.{length, drop, length-drop, length-take}
-use borrow.Author.Tests.{lt-ltb, le-ltb}
+use borrow.Author.Tests.{lt-ltb, le-ltb, ltb-true, ltb-false}
+use Rattle.base.specs.Refusals.{refusedOr}
+use Rattle.base.proofs.Refusals.{goes-on, is-refused, by-refusal}
+use Rattle.base.proofs.Tests.{by-test}
 use Rattle.kinds.specs.declared.Parent.{Parent}
 use Rattle.kinds.specs.declared.Parent.the-variants.{Kind}
 use Rattle.kinds.specs.Kinds.{isKnown}
-use Rattle.body.specs.Body.{properties}
+use Rattle.body.specs.Body.{PropertyWalk, properties}
 use Rattle.walk.specs.declared.Header.{Header}
-use Rattle.walk.specs.Walk.{Walked, refuse, behind, unless, onFrom, andThen, children, ChildWalk, unknownNode, knownNode, inside, byKind, nodeBy, node, nodeAt, childrenAt, headerAt, nodeRefusal, rowOf, limited}
+use Rattle.walk.specs.Walk.{Walked, refusedWalk, walkedTo, afterRows, andThen, inside, node, children, nodeAt, childrenAt, headerAt, nodeRefusal, rowOfHeader, limited}
 use Rattle.walk.specs.Statements.{Unbounded, Limited}
+use Rattle.walk.proofs.Cases.{passes}
 
--- ---- walks that differ only in how they go on
-unless-same : (n at : ℕ) (f g : Unit {0} → Walked) → f tt ≡ g tt → unless n at f ≡ unless n at g
-unless-same zero at f g e = e
-unless-same (suc n) at f g e = refl
+-- ---- a walk that is not refused goes onward, and a node takes some of the bytes
+abbrev Onward : ℕ → Walked → Type 0
+Onward at w = w .number ≡ 0 → at ≤ w .at
 
-byKind-same : (b : Bool) (f g : Unit {0} → Walked) (w : Walked) → f tt ≡ g tt → byKind b f w ≡ byKind b g w
-byKind-same true f g w e = e
-byKind-same false f g w e = refl
-
-onFrom-same : (n : ℕ) (w : Walked) (f g : ℕ → ℕ → Walked) → ((at m : ℕ) → f at m ≡ g at m) → onFrom n w f ≡ onFrom n w g
-onFrom-same zero w f g e = ap (behind (w .rows)) (e (w .at) (length (w .rows)))
-onFrom-same (suc n) w f g e = refl
-
-andThen-same : (w : Walked) (f g : ℕ → ℕ → Walked) → ((at m : ℕ) → f at m ≡ g at m) → andThen w f ≡ andThen w g
+then-onward : (at : ℕ) (w : Walked) (next : ℕ → ℕ → Walked) → Onward at w → (w .number ≡ 0 → Onward (w .at) (next (w .at) (length (w .rows)))) → Onward at (andThen w next)
 unfolding andThen
-andThen-same w f g e = onFrom-same (w .number) w f g e
+then-onward at w next h g =
+    by-refusal (Onward at) (w .number) w (afterRows (w .rows) (next (w .at) (length (w .rows)))) (λ z. h) (λ e z. omega (arith, h e, g e z))
 
--- walkers of a node that agree on at most so many bytes agree on lists of nodes in so many
-module _ (one two : ℕ → ℕ → List ℕ → Walked) (n : ℕ) (h : (at row : ℕ) (bs : List ℕ) → length bs ≤ n → one at row bs ≡ two at row bs) where
-  children-same : (k at row : ℕ) (bs : List ℕ) → length bs ≤ n → children one k at row bs ≡ children two k at row bs
-  unfolding children
-  children-same zero at row bs l = refl
-  children-same (suc k) at row bs l =
-      ap (λ w. andThen w (λ next m. children one k next (row + m) (drop (next - at) bs))) (h at row bs l)
-      ∙ andThen-same (two at row bs) _ _ (λ next m. children-same k next (row + m) (drop (next - at) bs) (simp length-drop (omega arith)))
+mutual
+  unfolding node
 
--- likewise walkers of children, for the node
-module _ (ks ls : ChildWalk) where
-  knownNode-same : (h : Header) (above depth at row : ℕ) (bs : List ℕ)
-      → ((p : Parent) (a d c at row : ℕ) (x : List ℕ) → length x ≤ length bs → ks p a d c at row x ≡ ls p a d c at row x)
-      → knownNode ks h above depth at row bs ≡ knownNode ls h above depth at row bs
-  unfolding knownNode
-  knownNode-same h above depth at row bs e =
-      let p = properties bs (h .properties) in
-      let end = at + 24 + p .at in
-      unless-same (p .number) end _ _
-      (ap (behind (rowOf h above (at + 24) end ∷ []))
-      (e (Kind (h .kind)) row (depth + 1) (h .children) end (row + 1) (drop (p .at) bs) (simp length-drop (omega arith))))
-
-  nodeBy-same : (parent : Parent) (above depth at row : ℕ) (bs : List ℕ)
-      → ((p : Parent) (a d c at row : ℕ) (x : List ℕ) → length x ≤ length bs - 24 → ks p a d c at row x ≡ ls p a d c at row x)
-      → nodeBy ks parent above depth at row bs ≡ nodeBy ls parent above depth at row bs
-  unfolding nodeBy
-  nodeBy-same parent above depth at row bs e =
+  node-onward : (n : ℕ) (parent : Parent) (above depth at row : ℕ) (bs : List ℕ) → Onward (at + 24) (node n parent above depth at row bs)
+  node-onward zero parent above depth at row bs = λ z. absurd (omega (arith, z))
+  node-onward (suc n) parent above depth at row bs =
       let h = headerAt bs in
-      let short : length (inside h bs) ≤ length bs - 24 = simp (length-take, length-drop) (omega arith) in
-      unless-same (nodeRefusal h (length bs) parent row depth) at _ _
-      (byKind-same (isKnown (h .kind)) _ _ (unknownNode h above at)
-      (knownNode-same h above depth at row (inside h bs) (λ p a d c at row x l. e p a d c at row x (omega (arith, l, short)))))
+      let p = properties (inside h bs) (h .properties) in
+      by-refusal (Onward (at + 24)) (nodeRefusal h (length bs) parent row depth) _ _ (λ r z. absurd (r z))
+      (λ right. by-test (isKnown (h .kind))
+      (λ t. rw t
+      (by-refusal (Onward (at + 24)) (p .number) _ _ (λ r z. absurd (r z))
+      (λ good z. omega (arith, children-onward n (Kind (h .kind)) row (depth + 1) (h .children) (at + 24 + p .at) (row + 1) (drop (p .at) (inside h bs)) z))))
+      (λ t. rw t (λ z. omega (arith, passes h (length bs) parent row depth right .own))))
 
+  children-onward : (n : ℕ) (parent : Parent) (above depth count at row : ℕ) (bs : List ℕ) → Onward at (children n parent above depth count at row bs)
+  children-onward zero parent above depth count at row bs = λ z. absurd (omega (arith, z))
+  children-onward (suc n) parent above depth zero at row bs = by-test (ltb 0 (length bs)) (λ t. rw t (λ z. absurd (omega (arith, z)))) (λ t. rw t (λ z. omega arith))
+  children-onward (suc n) parent above depth (suc k) at row bs =
+      then-onward at (node n parent above depth at row bs) _ (λ z. omega (arith, node-onward n parent above depth at row bs z))
+      (λ e. children-onward n parent above depth k _ _ _)
+
+-- ---- any bound will do that is greater than the number of bytes; for a node, also one that is equal to it
 -- under 24 bytes
-no-header : (ks : ChildWalk) (parent : Parent) (above depth at row : ℕ) (bs : List ℕ) → length bs < 24 → nodeBy ks parent above depth at row bs
-    ≡ refuse 5 at
-unfolding nodeBy nodeRefusal
-no-header ks parent above depth at row bs l = rw (lt-ltb (length bs) 24 l)
+no-header : (n : ℕ) (parent : Parent) (above depth at row : ℕ) (bs : List ℕ) → length bs < 24 → node n parent above depth at row bs ≡ refusedWalk 5 at
+unfolding node nodeRefusal
+no-header zero parent above depth at row bs l = refl
+no-header (suc n) parent above depth at row bs l = rw (lt-ltb (length bs) 24 l)
 
--- any bound will do that is no less than the bytes
-node-same : (n m : ℕ) (parent : Parent) (above depth at row : ℕ) (bs : List ℕ) → length bs ≤ n → length bs ≤ m
-    → node n parent above depth at row bs ≡ node m parent above depth at row bs
-unfolding node
-node-same zero zero parent above depth at row bs l k = refl
-node-same zero (suc m) parent above depth at row bs l k = sym (no-header _ parent above depth at row bs (omega arith))
-node-same (suc n) zero parent above depth at row bs l k = no-header _ parent above depth at row bs (omega arith)
-node-same (suc n) (suc m) parent above depth at row bs l k =
-    nodeBy-same _ _ parent above depth at row bs
-    (λ p a d c at row x short.
-    children-same (node n p a d) (node m p a d) (length x) (λ at row y less. node-same n m p a d at row y (omega arith) (omega arith)) c at row x
-    (omega arith))
+some-bytes : (n : ℕ) (parent : Parent) (above depth at row : ℕ) (bs : List ℕ) → node n parent above depth at row bs .number ≡ 0 → 24 ≤ length bs
+some-bytes n parent above depth at row bs z =
+    by-test (ltb (length bs) 24)
+    (λ t. absurd (omega (arith, sym (ap (λ w. w .number) (no-header n parent above depth at row bs (ltb-true _ _ t))) ∙ z))) (ltb-false _ _)
+
+-- what follows the properties of a node is shorter than it
+length-below : (h : Header) (bs : List ℕ) (p : ℕ) → length (drop p (inside h bs)) ≤ length bs - 24
+length-below h bs p = simp (length-drop, length-take) (omega arith)
+
+then-same : (w : Walked) (f g : ℕ → ℕ → Walked) → (w .number ≡ 0 → f (w .at) (length (w .rows)) ≡ g (w .at) (length (w .rows))) → andThen w f ≡ andThen w g
+unfolding andThen
+then-same w f g = by (w .number)
+  where
+    by : (n : ℕ) {x y : Walked} → (n ≡ 0 → x ≡ y) → refusedOr n w (afterRows (w .rows) x) ≡ refusedOr n w (afterRows (w .rows) y)
+    by zero e = ap (afterRows (w .rows)) (e refl)
+    by (suc n) e = refl
+
+mutual
+  unfolding node
+
+  node-same : (n m : ℕ) (parent : Parent) (above depth at row : ℕ) (bs : List ℕ) → length bs ≤ n → length bs ≤ m
+      → node n parent above depth at row bs ≡ node m parent above depth at row bs
+  node-same zero m parent above depth at row bs l k = sym (no-header m parent above depth at row bs (omega arith))
+  node-same (suc n) zero parent above depth at row bs l k = no-header (suc n) parent above depth at row bs (omega arith)
+  node-same (suc n) (suc m) parent above depth at row bs l k =
+      let h = headerAt bs in
+      let p = properties (inside h bs) (h .properties) in
+      by-test (ltb (length bs) 24)
+      (λ t. no-header (suc n) parent above depth at row bs (ltb-true _ _ t) ∙ sym (no-header (suc m) parent above depth at row bs (ltb-true _ _ t)))
+      (λ t. let short = length-below h bs (p .at) in
+      rw (children-same n m (Kind (h .kind)) row (depth + 1) (h .children) (at + 24 + p .at) (row + 1) (drop (p .at) (inside h bs))
+      (omega (arith, short, ltb-false (length bs) 24 t)) (omega (arith, short, ltb-false (length bs) 24 t))))
+
+  children-same : (n m : ℕ) (parent : Parent) (above depth count at row : ℕ) (bs : List ℕ) → length bs < n → length bs < m
+      → children n parent above depth count at row bs ≡ children m parent above depth count at row bs
+  children-same zero m parent above depth count at row bs l k = absurd (omega arith)
+  children-same (suc n) zero parent above depth count at row bs l k = absurd (omega arith)
+  children-same (suc n) (suc m) parent above depth zero at row bs l k = refl
+  children-same (suc n) (suc m) parent above depth (suc c) at row bs l k =
+      let w = node m parent above depth at row bs in
+      rw (node-same n m parent above depth at row bs (omega arith) (omega arith))
+      (then-same w _ _ (λ z.
+      let on = node-onward m parent above depth at row bs z in
+      let left = length-drop (w .at - at) bs in
+      let some = some-bytes m parent above depth at row bs z in
+      children-same n m parent above depth c (w .at) (row + length (w .rows)) (drop (w .at - at) bs) (omega (arith, on, left, some)) (omega (arith, on, left, some))))
 
 pub unbounded : Unbounded
-unfolding nodeAt childrenAt node
-unbounded parent above depth at row bs =
-    node-same (length bs) (suc (length bs)) parent above depth at row bs (omega arith) (omega arith)
-    ∙ nodeBy-same _ _ parent above depth at row bs
-    (λ p a d c at row x short.
-    children-same (node (length bs) p a d) (nodeAt p a d) (length x)
-    (λ at row y less. node-same (length bs) (length y) p a d at row y (omega arith) (omega arith)) c at row x (omega arith))
+unfolding nodeAt childrenAt
+unbounded n parent above depth count at row bs l = (
+  node-same n (suc (length bs)) parent above depth at row bs (omega arith) (omega arith),
+  children-same n (suc (length bs)) parent above depth count at row bs l (omega arith),
+)
 
 pub limited-is : Limited
 unfolding limited
 limited-is s = (λ h. rw (le-ltb 16777216 (length s) h), λ h. rw (lt-ltb 16777216 (length s) h))
 
--- ---- the cases of a node
-unless-refused : (n at : ℕ) (f : Unit {0} → Walked) → (n ≡ 0 → ⊥) → unless n at f ≡ refuse n at
-unless-refused zero at f z = absurd (z refl)
-unless-refused (suc n) at f z = refl
+-- ---- the cases of a node with this header
+module _ (parent : Parent) (above depth at row : ℕ) (bs : List ℕ) {h : Header} (is : headerAt bs ≡ h) where
+  pub node-refused : {n : ℕ} → nodeRefusal h (length bs) parent row depth ≡ n → (n ≡ 0 → ⊥) → nodeAt parent above depth at row bs ≡ refusedWalk n at
+  unfolding nodeAt node
+  node-refused {n} e z = rw (is, e) (is-refused n _ _ z)
 
+  module _ (right : nodeRefusal h (length bs) parent row depth ≡ 0) where
+    pub node-unknown : isKnown (h .kind) ≡ false
+        → nodeAt parent above depth at row bs ≡ afterRows (rowOfHeader h above (at + 24) (at + h .size) ∷ []) (walkedTo (at + h .size))
+    unfolding nodeAt node
+    node-unknown e = rw (is, right, e)
+
+    -- known, and refused for its properties; or with its children
+    module _ (known : isKnown (h .kind) ≡ true) where
+      abbrev p : PropertyWalk
+      p = properties (inside h bs) (h .properties)
+
+      pub node-bad : {n : ℕ} → p .number ≡ n → (n ≡ 0 → ⊥) → nodeAt parent above depth at row bs ≡ refusedWalk n (at + 24 + p .at)
+      unfolding nodeAt node
+      node-bad {n} e z = rw (is, right, known, e) (is-refused n _ _ z)
+
+      pub node-passed : p .number ≡ 0 → nodeAt parent above depth at row bs
+          ≡ afterRows (rowOfHeader h above (at + 24) (at + 24 + p .at) ∷ [])
+          (childrenAt (Kind (h .kind)) row (depth + 1) (h .children) (at + 24 + p .at) (row + 1) (drop (p .at) (inside h bs)))
+      unfolding nodeAt node
+      node-passed e =
+          let room = passes h (length bs) parent row depth right in
+          rw (is, right, known, e)
+          (ap (afterRows (rowOfHeader h above (at + 24) (at + 24 + p .at) ∷ []))
+          (unbounded (length bs) (Kind (h .kind)) row (depth + 1) (h .children) (at + 24 + p .at) (row + 1) (drop (p .at) (inside h bs))
+          (omega (arith, room .own, room .within, length-below h bs (p .at))) .1))
+
+-- ---- the cases of a list of nodes
 module _ (parent : Parent) (above depth at row : ℕ) (bs : List ℕ) where
-  -- refused for its header
-  pub node-refused : {n : ℕ} → nodeRefusal (headerAt bs) (length bs) parent row depth ≡ n → (n ≡ 0 → ⊥) → nodeAt parent above depth at row bs
-      ≡ refuse n at
-  unfolding nodeBy
-  node-refused {n} e z = unbounded parent above depth at row bs ∙ rw e (unless-refused n at _ z)
+  -- none are left
+  pub list-over : 0 < length bs → childrenAt parent above depth 0 at row bs ≡ refusedWalk 12 at
+  unfolding childrenAt children
+  list-over h = rw (lt-ltb 0 (length bs) h)
 
-  module _ (right : nodeRefusal (headerAt bs) (length bs) parent row depth ≡ 0) where
-    pub node-unknown : isKnown (headerAt bs .kind) ≡ false → nodeAt parent above depth at row bs ≡ unknownNode (headerAt bs) above at
-    unfolding nodeBy
-    node-unknown e = unbounded parent above depth at row bs ∙ rw (right, e)
+  pub list-done : length bs ≤ 0 → childrenAt parent above depth 0 at row bs ≡ walkedTo at
+  unfolding childrenAt children
+  list-done h = rw (le-ltb 0 (length bs) h)
 
-    pub node-known : isKnown (headerAt bs .kind) ≡ true → nodeAt parent above depth at row bs
-        ≡ knownNode childrenAt (headerAt bs) above depth at row (inside (headerAt bs) bs)
-    unfolding nodeBy
-    node-known e = unbounded parent above depth at row bs ∙ rw (right, e)
+  module _ (k : ℕ) where
+    abbrev others : ℕ → ℕ → Walked
+    others next rows = childrenAt parent above depth k next (row + rows) (drop (next - at) bs)
 
--- a known node, refused for its properties, or with its children
-module _ (h : Header) (above depth at row : ℕ) (bs : List ℕ) where
-  pub body-refused : {n : ℕ} → properties bs (h .properties) .number ≡ n → (n ≡ 0 → ⊥)
-      → knownNode childrenAt h above depth at row bs ≡ refuse n (at + 24 + properties bs (h .properties) .at)
-  unfolding knownNode
-  body-refused {n} e z = rw e (unless-refused n _ _ z)
+    list-is : childrenAt parent above depth (suc k) at row bs ≡ andThen (nodeAt parent above depth at row bs) others
+    unfolding nodeAt childrenAt children
+    list-is =
+        children-same (suc (length bs)) (suc (suc (length bs))) parent above depth (suc k) at row bs (omega arith) (omega arith)
+        ∙ then-same (nodeAt parent above depth at row bs) _ _ (λ z.
+        let w = nodeAt parent above depth at row bs in
+        unbounded (suc (length bs)) parent above depth k (w .at) (row + length (w .rows)) (drop (w .at - at) bs) (omega (arith, length-drop (w .at - at) bs)) .1)
 
-  pub body-passed : properties bs (h .properties) .number ≡ 0
-      → knownNode childrenAt h above depth at row bs
-      ≡ behind (rowOf h above (at + 24) (at + 24 + properties bs (h .properties) .at) ∷ [])
-      (childrenAt (Kind (h .kind)) row (depth + 1) (h .children) (at + 24 + properties bs (h .properties) .at) (row + 1)
-      (drop (properties bs (h .properties) .at) bs))
-  unfolding knownNode
-  body-passed e = rw e
+    -- the first is refused, and with it all
+    pub list-refused : (nodeAt parent above depth at row bs .number ≡ 0 → ⊥) → childrenAt parent above depth (suc k) at row bs
+        ≡ nodeAt parent above depth at row bs
+    unfolding andThen
+    list-refused h = list-is ∙ is-refused (nodeAt parent above depth at row bs .number) _ _ h
+
+    -- the first is done, and the others come after its rows
+    pub list-next : {w : Walked} → nodeAt parent above depth at row bs ≡ w → w .number ≡ 0
+        → childrenAt parent above depth (suc k) at row bs
+        ≡ afterRows (w .rows) (childrenAt parent above depth k (w .at) (row + length (w .rows)) (drop (w .at - at) bs))
+    unfolding andThen
+    list-next {w} e h = list-is ∙ rw e (goes-on (w .number) _ _ h)
+
+    pub list-first : childrenAt parent above depth (suc k) at row bs .number ≡ 0 → nodeAt parent above depth at row bs .number ≡ 0
+    unfolding andThen
+    list-first e =
+        let w = nodeAt parent above depth at row bs in
+        by-refusal (λ v. v .number ≡ 0 → w .number ≡ 0) (w .number) w _ (λ r z. absurd (r z)) (λ z v. z) (sym (ap (λ v. v .number) list-is) ∙ e)

@@ -1,5 +1,4 @@
 pub mod Laws
-pub mod Lists
 pub mod Cases
 pub mod Steps
 pub mod Nodes

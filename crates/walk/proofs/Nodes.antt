@@ -3,25 +3,25 @@ use Prim.Native.Nat.{ℕ, _+_, _-_, _≤_}
 use native.Mathlib.Omega.{arith}
 use mathlib.Core.Path.{_≡_, ap, sym, _∙_}
 use mathlib.Core.Bool.{true, false}
-use mathlib.Core.List.{List, [], _∷_}
-use lib.ListN.{length, drop, length-take, length-drop}
+use mathlib.Core.List.{List}
+use lib.ListN.{length, length-take, length-drop}
 use Rattle.le.proofs.Laws.{rest, rest-drop, length-rest}
 use Rattle.kinds.specs.declared.Parent.{Parent}
 use Rattle.kinds.specs.declared.Parent.the-variants.{Kind}
 use Rattle.kinds.specs.Kinds.{isKnown}
 use Rattle.table.specs.Table.{withRow}
 use Rattle.body.specs.declared.Passed.{Passed}
-use Rattle.body.specs.Body.{properties, answerOf}
+use Rattle.body.specs.Body.{properties, endOf}
 use Rattle.body.proofs.Places.{properties-end}
 use Rattle.walk.specs.declared.Header.{Header}
 use Rattle.walk.specs.declared.Reached.{Reached}
-use Rattle.walk.specs.Walk.{headerAt, nodeRefusal, behind, rowOf, knownNode, inside, nodeAt, childrenAt}
-use Rattle.walk.specs.Contract.{Came}
-use Rattle.walk.proofs.Laws.{node-refused, node-unknown, node-known, body-refused, body-passed}
+use Rattle.walk.specs.Walk.{headerAt, nodeRefusal, rowOfHeader, inside, nodeAt, childrenAt}
+use Rattle.walk.specs.Private.{Came}
+use Rattle.walk.proofs.Laws.{node-refused, node-unknown, node-bad, node-passed}
 use Rattle.walk.proofs.Cases.{Right, passes}
 use Rattle.walk.proofs.Steps.{stops, puts, then}
 
--- the bytes behind a node's header: its properties end within them, and its children have what is left
+-- the bytes after a node's header: its properties end within them, and its children have what is left
 module _ (h : Header) (bs : List ℕ) where
   pub length-inside : h .size ≤ length bs → length (inside h bs) ≡ h .size - 24
   length-inside fit = simp (length-take, length-drop) (omega arith)
@@ -29,35 +29,29 @@ module _ (h : Header) (bs : List ℕ) where
   pub length-left : h .size ≤ length bs → (p : ℕ) → length (rest (inside h bs) p) ≡ h .size - 24 - p
   length-left fit p = length-rest (inside h bs) p ∙ ap (λ n. n - p) (length-inside fit)
 
-  pub body-end : {p : Passed} → p ≡ answerOf (properties (inside h bs) (h .properties)) → p .at ≤ length (inside h bs)
+  pub body-end : {p : Passed} → p ≡ endOf (properties (inside h bs) (h .properties)) → p .at ≤ length (inside h bs)
   body-end e = omega (arith, ap (λ q. q .at) e, properties-end (inside h bs) (h .properties))
 
 module _ (parent : Parent) (above depth at row : ℕ) (bs t : List ℕ) {h : Header} (is : h ≡ headerAt bs) where
-  judged : {n : ℕ} → n ≡ nodeRefusal h (length bs) parent row depth → nodeRefusal (headerAt bs) (length bs) parent row depth ≡ n
-  judged e = ap (λ k. nodeRefusal k (length bs) parent row depth) (sym is) ∙ sym e
-
   -- its header is refused
   pub header-refused : {n : ℕ} → n ≡ nodeRefusal h (length bs) parent row depth → (n ≡ 0 → ⊥) → row ≤ 1024
       → Came (record { number = n; at = at; rows = row }) (nodeAt parent above depth at row bs) at row bs t t
   header-refused e z few =
-      stops (node-refused parent above depth at row bs (judged e) z) few (omega arith) (omega arith)
+      stops (node-refused parent above depth at row bs (sym is) (sym e) z) few (omega arith) (omega arith)
 
   module _ (right : nodeRefusal h (length bs) parent row depth ≡ 0) where
     found : Right h (length bs) parent row
     found = passes h (length bs) parent row depth right
 
     -- it is unknown
-    pub passed-over : isKnown (h .kind) ≡ false → {t′ : List ℕ} → t′ ≡ withRow t row (rowOf h above (at + 24) (at + h .size))
+    pub passed-over : isKnown (h .kind) ≡ false → {t′ : List ℕ} → t′ ≡ withRow t row (rowOfHeader h above (at + 24) (at + h .size))
         → Came (record { number = 0; at = at + h .size; rows = row + 1 }) (nodeAt parent above depth at row bs) at row bs t t′
     passed-over unknown put =
-        rw (node-unknown parent above depth at row bs (judged (sym right)) (rw is at unknown), ← is)
+        rw (node-unknown parent above depth at row bs (sym is) right unknown)
         (puts put (found .few) (omega arith) (omega (arith, found .within)))
 
     -- it is known, and its properties end within it
-    module _ (known : isKnown (h .kind) ≡ true) {p : Passed} (e : p ≡ answerOf (properties (inside h bs) (h .properties))) where
-      by-body : nodeAt parent above depth at row bs ≡ knownNode childrenAt h above depth at row (inside h bs)
-      by-body = node-known parent above depth at row bs (judged (sym right)) (rw is at known) ∙ rw (← is)
-
+    module _ (known : isKnown (h .kind) ≡ true) {p : Passed} (e : p ≡ endOf (properties (inside h bs) (h .properties))) where
       end : p .at + 24 ≤ length bs
       end = omega (arith, found .own, found .within, body-end h bs e, length-inside h bs (found .within))
 
@@ -65,17 +59,16 @@ module _ (parent : Parent) (above depth at row : ℕ) (bs t : List ℕ) {h : Hea
       pub body-bad : (p .number ≡ 0 → ⊥)
           → Came (record { number = p .number; at = at + 24 + p .at; rows = row }) (nodeAt parent above depth at row bs) at row bs t t
       body-bad z =
-          stops (by-body ∙ body-refused h above depth at row (inside h bs) (sym (ap (λ q. q .number) e)) z ∙ rw e)
+          stops (node-bad parent above depth at row bs (sym is) right known (sym (ap (λ q. q .number) e)) z ∙ rw e)
           (omega (arith, found .few)) (omega arith) (omega (arith, end))
 
       -- its row, and its children
-      pub with-children : p .number ≡ 0 → {u t′ : List ℕ} {r : Reached} → u ≡ withRow t row (rowOf h above (at + 24) (at + 24 + p .at))
+      pub with-children : p .number ≡ 0 → {u t′ : List ℕ} {r : Reached} → u ≡ withRow t row (rowOfHeader h above (at + 24) (at + 24 + p .at))
           → Came r (childrenAt (Kind (h .kind)) row (depth + 1) (h .children) (at + 24 + p .at) (row + 1) (rest (inside h bs) (p .at)))
           (at + 24 + p .at) (row + 1) (rest (inside h bs) (p .at)) u t′
           → Came r (nodeAt parent above depth at row bs) at row bs t t′
       with-children z put c =
-          let whole : nodeAt parent above depth at row bs ≡ behind (rowOf h above (at + 24) (at + 24 + p .at) ∷ [])
-          (childrenAt (Kind (h .kind)) row (depth + 1) (h .children) (at + 24 + p .at) (row + 1) (drop (p .at) (inside h bs)))
-          = by-body ∙ body-passed h above depth at row (inside h bs) (sym (ap (λ q. q .number) e) ∙ z) ∙ rw (ap (λ q. q .at) e) in
-          rw whole (then (puts put (found .few) (omega arith) (omega (arith, end))) (rw (rest-drop (inside h bs) (p .at)) at c)
+          let whole = node-passed parent above depth at row bs (sym is) right known (sym (ap (λ q. q .number) e) ∙ z) in
+          let ended = ap (λ q. q .at) e in
+          rw (whole, ← ended) (then (puts put (found .few) (omega arith) (omega (arith, end))) (rw (rest-drop (inside h bs) (p .at)) at c)
           (omega (arith, end, found .within, length-drop (p .at) (inside h bs), length-inside h bs (found .within))))

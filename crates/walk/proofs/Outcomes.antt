@@ -19,9 +19,8 @@ use Rattle.format.specs.Rows.{rows}
 use Rattle.format.specs.Layout.{Placed, Fits}
 use Rattle.format.proofs.Headers.{header-kind, header-size, header-low, header-high, header-properties, header-children}
 use Rattle.walk.specs.declared.Header.{Header}
-use Rattle.walk.specs.Walk.{Walked, behind, nodeAt, childrenAt, headerAt, nodeRefusal, tooMany}
-use Rattle.walk.proofs.Laws.{node-refused}
-use Rattle.walk.proofs.Lists.{list-next, list-refused}
+use Rattle.walk.specs.Walk.{Walked, afterRows, nodeAt, childrenAt, headerAt, nodeRefusal, tooMany}
+use Rattle.walk.proofs.Laws.{node-refused, list-next, list-refused}
 
 -- ---- how deep the rule of kinds lets a child lie
 abbrev pub Shallow : Parent → ℕ → Type 0
@@ -70,7 +69,7 @@ pub record Whole (parent : Parent) (above at row : ℕ) (f : Forest) (w : Walked
   pub placed : Placed parent f
   pub few : row + nodes f ≤ 1024
 
--- a refusal for a kind, or for so many nodes
+-- a refusal for a kind, or for the number of nodes
 abbrev pub Bars : (many number : ℕ) → Type 0
 Bars many n = (n ≡ 6) ⊎ ((n ≡ 7) × (1024 < many))
 
@@ -119,10 +118,10 @@ module _ (parent : Parent) (above depth at row : ℕ) (bs : List ℕ) (f next : 
       let taken : at + size - at ≡ size = omega arith in
       rw (list-next parent above depth at row bs (count next) e refl, taken, b .rest) (by w o)
     where
-      by : (w : Walked) → Outcome parent above (at + size) (row + length rs) next w → Outcome parent above at row f (behind rs w)
+      by : (w : Walked) → Outcome parent above (at + size) (row + length rs) next w → Outcome parent above at row f (afterRows rs w)
       by w (inl o) =
           let far : at + size + length (encode next) ≡ at + length (encode f) = omega (arith, b .long) in
-          inl (record { is = ap (behind rs) (o .is) ∙ rw (far, b .listed); placed = b .placed (o .placed); few = omega (arith, o .few, b .numbered) })
+          inl (record { is = ap (afterRows rs) (o .is) ∙ rw (far, b .listed); placed = b .placed (o .placed); few = omega (arith, o .few, b .numbered) })
       by w (inr o) = inr (record { number = bars-more _ (row + nodes f) (w .number) (omega (arith, b .numbered)) (o .number); barred = λ p q. o .barred (b .others p) (omega (arith, q, b .numbered)) })
 
 -- the first node by its kind and its row
@@ -141,4 +140,4 @@ judged parent above depth at row bs f c k v stands some on =
     (λ m. list-barred parent above depth at row bs f c (inl (number 6 (v ∙ rw m) (λ z. omega (arith, z)))) (λ p n. true≢false (sym (stands p) ∙ m)))
   where
     number : (n : ℕ) → nodeRefusal (headerAt bs) (length bs) parent row depth ≡ n → (n ≡ 0 → ⊥) → nodeAt parent above depth at row bs .number ≡ n
-    number n e z = ap (λ w. w .number) (node-refused parent above depth at row bs e z)
+    number n e z = ap (λ w. w .number) (node-refused parent above depth at row bs refl e z)

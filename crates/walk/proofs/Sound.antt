@@ -25,9 +25,9 @@ use Rattle.format.proofs.Headers.{length-header, header-of, header-fits, fileHe
 use Rattle.format.proofs.Bodies.{body-sound}
 use Rattle.body.proofs.Places.{properties-end}
 use Rattle.walk.specs.declared.Header.{Header}
-use Rattle.walk.specs.Walk.{Walked, refuse, behind, knownNode, inside, nodeAt, childrenAt, headerAt, nodeRefusal, rowOf, isCast, walkOf}
+use Rattle.walk.specs.Walk.{Walked, refusedWalk, afterRows, inside, nodeAt, childrenAt, headerAt, nodeRefusal, rowOfHeader, isCast, walkOf}
 use Rattle.walk.specs.Statements.{Sound}
-use Rattle.walk.proofs.Laws.{node-refused, node-unknown, node-known, body-refused, body-passed}
+use Rattle.walk.proofs.Laws.{node-refused, node-unknown, node-bad, node-passed}
 use Rattle.walk.proofs.Cases.{Right, passes}
 use Rattle.walk.proofs.Nodes.{length-inside}
 use Rattle.walk.proofs.Whole.{header-there}
@@ -38,17 +38,11 @@ module _ (parent : Parent) (above depth at row : ℕ) (bs : List ℕ) where
   header-right : (n : ℕ) → nodeRefusal (headerAt bs) (length bs) parent row depth ≡ n → nodeAt parent above depth at row bs .number ≡ 0 → n ≡ 0
   header-right zero e z = refl
   header-right (suc n) e z =
-      absurd (omega (arith, sym (ap (λ w. w .number) (node-refused parent above depth at row bs e (λ h. omega (arith, h)))) ∙ z))
-
-body-right : (h : Header) (above depth at row : ℕ) (bs : List ℕ) (n : ℕ) → properties bs (h .properties) .number ≡ n
-    → knownNode childrenAt h above depth at row bs .number ≡ 0 → n ≡ 0
-body-right h above depth at row bs zero e z = refl
-body-right h above depth at row bs (suc n) e z =
-    absurd (omega (arith, sym (ap (λ w. w .number) (body-refused h above depth at row bs e (λ i. omega (arith, i)))) ∙ z))
+      absurd (omega (arith, sym (ap (λ w. w .number) (node-refused parent above depth at row bs refl e (λ h. omega (arith, h)))) ∙ z))
 
 -- the node's header, as written
 module _ (bs : List ℕ) (y : AreBytes bs) where
-  row-of : (above start stop : ℕ) → rowOf (headerAt bs) above start stop
+  row-of : (above start stop : ℕ) → rowOfHeader (headerAt bs) above start stop
       ≡ nodeRow (headerAt bs .kind) (numberAt 8 bs 8) above start stop (headerAt bs .properties) (headerAt bs .children)
   unfolding headerAt
   row-of above start stop = rw (numberAt-short 4 4 bs 8 y, numberAt-high 4 4 bs 8 y)
@@ -73,7 +67,7 @@ module _ (bs : List ℕ) (y : AreBytes bs) where
         ∙ append-assoc a (take (n - 24) (drop 24 bs)) x
 
 walked-is : (r q : Row) (w : Walked) (to : ℕ) (qs : List Row) → r ≡ q → w .number ≡ 0 → w .at ≡ to → w .rows ≡ qs
-    → record { number = 0; at = to; rows = q ∷ qs } ≡ behind (r ∷ []) w
+    → record { number = 0; at = to; rows = q ∷ qs } ≡ afterRows (r ∷ []) w
 walked-is r q w to qs e n a s = sym (rw (e, n, a, s))
 
 module _ (parent : Parent) (above depth at row : ℕ) (bs : List ℕ) (y : AreBytes bs) (e : nodeRefusal (headerAt bs) (length bs) parent row depth ≡ 0)
@@ -101,7 +95,12 @@ module _ (parent : Parent) (above depth at row : ℕ) (bs : List ℕ) (y : AreBy
         let first = unknown-first parent above at row bs (h .kind) (h .size) hash (h .properties) (h .children) (r .stands) (of-widths bs y room)
         (r .within) x u (bytes-take (h .size - 24) (drop 24 bs) (bytes-drop 24 bs y)) rest-size (r .few) (as-written bs y room (h .size) (r .own))
         in
-        rw (node-unknown parent above depth at row bs e u, row-of bs y above (at + 24) (at + h .size)) first
+        rw (node-unknown parent above depth at row bs refl e u, row-of bs y above (at + 24) (at + h .size)) first
+
+    body-right : isKnown (h .kind) ≡ true → (n : ℕ) → properties x (h .properties) .number ≡ n → nodeAt parent above depth at row bs .number ≡ 0 → n ≡ 0
+    body-right u zero p z = refl
+    body-right u (suc n) p z =
+        absurd (omega (arith, sym (ap (λ w. w .number) (node-bad parent above depth at row bs refl e u p (λ i. omega (arith, i)))) ∙ z))
 
     module _ (u : isKnown (h .kind) ≡ true) (pass : properties x (h .properties) .number ≡ 0) where
       abbrev to : ℕ
@@ -110,8 +109,8 @@ module _ (parent : Parent) (above depth at row : ℕ) (bs : List ℕ) (y : AreBy
       abbrev w : Walked
       w = childrenAt (Kind (h .kind)) row (depth + 1) (h .children) (at + 24 + to) (row + 1) (drop to x)
 
-      is : nodeAt parent above depth at row bs ≡ behind (rowOf h above (at + 24) (at + 24 + to) ∷ []) w
-      is = node-known parent above depth at row bs e u ∙ body-passed h above depth at row x pass
+      is : nodeAt parent above depth at row bs ≡ afterRows (rowOfHeader h above (at + 24) (at + 24 + to) ∷ []) w
+      is = node-passed parent above depth at row bs refl e u pass
 
       known-sound : w .number ≡ 0 → Nodes (Kind (h .kind)) row (h .children) (at + 24 + to) (row + 1) (drop to x) w
           → First parent above at row bs (nodeAt parent above depth at row bs)
@@ -129,7 +128,7 @@ module _ (parent : Parent) (above depth at row : ℕ) (bs : List ℕ) (y : AreBy
           (λ l. as-written bs y room (h .size) (r .own) l
           ∙ ap (λ m. header (h .kind) (h .size) hash (h .properties) (h .children) ++ m)
           (ap (λ m. m ++ l) (sym halves) ∙ append-assoc body (encode (kids .forest)) l)) in
-          let same : rowOf h above (at + 24) (at + 24 + to)
+          let same : rowOfHeader h above (at + 24) (at + 24 + to)
           ≡ nodeRow (h .kind) hash above (at + 24) (at + 24 + length body) (h .properties) (h .children)
           = row-of bs y above (at + 24) (at + 24 + to)
           ∙ ap (λ n. nodeRow (h .kind) hash above (at + 24) (at + 24 + n) (h .properties) (h .children)) (sym long) in
@@ -143,9 +142,7 @@ module _ (parent : Parent) (above depth at row : ℕ) (bs : List ℕ) (y : AreBy
     known-node : (n : ℕ) → NodeSound n → length bs ≤ suc n → isKnown (h .kind) ≡ true → nodeAt parent above depth at row bs .number ≡ 0
         → First parent above at row bs (nodeAt parent above depth at row bs)
     known-node n one l u z =
-        let number : properties x (h .properties) .number ≡ 0
-        = body-right h above depth at row x (properties x (h .properties) .number) refl
-        (sym (ap (λ v. v .number) (node-known parent above depth at row bs e u)) ∙ z) in
+        let number : properties x (h .properties) .number ≡ 0 = body-right u (properties x (h .properties) .number) refl z in
         let done : w u number .number ≡ 0 = sym (ap (λ v. v .number) (is u number)) ∙ z in
         known-sound u number done
         (list-sound n one (Kind (h .kind)) row (depth + 1) (h .children) (at + 24 + to u number) (row + 1) (drop (to u number) x)
@@ -166,7 +163,7 @@ node-sound (suc n) parent above depth at row bs l y z =
     (unknown-sound parent above depth at row bs y right-header)
 
 -- ---- the file
-file-right : (a b : Bool) (w : Walked) → cond (not a) (refuse 3 0) (cond (not b) (refuse 4 4) w) .number ≡ 0 → (a ≡ true) × (b ≡ true)
+file-right : (a b : Bool) (w : Walked) → cond (not a) (refusedWalk 3 0) (cond (not b) (refusedWalk 4 4) w) .number ≡ 0 → (a ≡ true) × (b ≡ true)
 file-right true true w e = (refl, refl)
 file-right true false w e = absurd (omega (arith, e))
 file-right false b w e = absurd (omega (arith, e))

@@ -1,4 +1,4 @@
--- What a walk promises, built up: one that ends where it stands, a row, one walk behind another, and the loop over so many
+-- What a walk promises, built up: one that ends where it stands, a row, one walk after another, and the loop over a given number of
 -- nodes.
 use Prim.Native.Nat.{ℕ, suc, _+_, _-_, _<_, _≤_}
 use native.Mathlib.Omega.{arith}
@@ -13,12 +13,12 @@ use Rattle.table.specs.declared.Row.{Row}
 use Rattle.table.specs.Table.{withRow, putRows}
 use Rattle.table.proofs.Rows.{putRows-append, length-putRows}
 use Rattle.walk.specs.declared.Reached.{Reached}
-use Rattle.walk.specs.Walk.{Walked, refuse, done, behind, nodeAt, childrenAt}
-use Rattle.walk.specs.Contract.{Came}
-use Rattle.walk.proofs.Lists.{list-over, list-done, list-refused, list-next}
+use Rattle.walk.specs.Walk.{Walked, refusedWalk, walkedTo, afterRows, nodeAt, childrenAt}
+use Rattle.walk.specs.Private.{Came}
+use Rattle.walk.proofs.Laws.{list-over, list-done, list-refused, list-next}
 
 -- it ends with no row of its own
-pub stops : {n p at row : ℕ} {bs t : List ℕ} {w : Walked} → w ≡ refuse n p → row ≤ 1024 → at ≤ p → p ≤ at + length bs
+pub stops : {n p at row : ℕ} {bs t : List ℕ} {w : Walked} → w ≡ refusedWalk n p → row ≤ 1024 → at ≤ p → p ≤ at + length bs
     → Came (record { number = n; at = p; rows = row }) w at row bs t t
 unfolding putRows
 stops e few onward within = rw e record {
@@ -33,7 +33,7 @@ stops e few onward within = rw e record {
 
 -- a row, and then it stands at p
 pub puts : {p at row : ℕ} {bs t t′ : List ℕ} {r : Row} → t′ ≡ withRow t row r → row < 1024 → at ≤ p → p ≤ at + length bs
-    → Came (record { number = 0; at = p; rows = row + 1 }) (behind (r ∷ []) (done p)) at row bs t t′
+    → Came (record { number = 0; at = p; rows = row + 1 }) (afterRows (r ∷ []) (walkedTo p)) at row bs t t′
 unfolding putRows
 puts e few onward within = record {
   number = refl;
@@ -45,9 +45,9 @@ puts e few onward within = record {
   within = within;
 }
 
--- one walk, and another behind it
+-- one walk, and another after it
 pub then : {q r : Reached} {v w : Walked} {at row : ℕ} {bs cs t u t′ : List ℕ} → Came q v at row bs t u → Came r w (q .at) (q .rows) cs u t′
-    → q .at + length cs ≤ at + length bs → Came r (behind (v .rows) w) at row bs t t′
+    → q .at + length cs ≤ at + length bs → Came r (afterRows (v .rows) w) at row bs t t′
 then {q} {r} {v} {w} {at} {row} {bs} {cs} {t} {u} {t′} first second fit = record {
   number = second .number;
   reached = second .reached;
@@ -62,11 +62,11 @@ then {q} {r} {v} {w} {at} {row} {bs} {cs} {t} {u} {t′} first second fit = reco
 pub came-length : {r : Reached} {w : Walked} {at row : ℕ} {bs t t′ : List ℕ} → Came r w at row bs t t′ → length t′ ≡ length t
 came-length c = ap length (c .table) ∙ length-putRows _ _ _
 
--- where the loop over so many nodes stands: the rows put, and what is left
+-- where the loop over `count` nodes stands: the rows put, and what is left
 pub record Going (parent : Parent) (above depth count start row : ℕ) (bs t u : List ℕ) (at rows left : ℕ) : Type 0 where
   pub put : List Row
   pub came : Came (record { number = 0; at = at; rows = rows }) (record { number = 0; at = at; rows = put }) start row bs t u
-  pub whole : childrenAt parent above depth count start row bs ≡ behind put (childrenAt parent above depth left at rows (drop (at - start) bs))
+  pub whole : childrenAt parent above depth count start row bs ≡ afterRows put (childrenAt parent above depth left at rows (drop (at - start) bs))
 
 -- the loop starts with all of them left
 pub going : {parent : Parent} {above depth count start row : ℕ} {bs t : List ℕ} → row ≤ 1024
@@ -79,7 +79,7 @@ going {parent} {above} {depth} {count} {start} {row} {bs} few = record {
 
 module _ {parent : Parent} {above depth count start row : ℕ} {bs t u : List ℕ} {at rows left : ℕ} (g : Going parent above depth count start row bs t u at rows left) where
   -- a walk from where the loop stands
-  from : {r : Reached} {w : Walked} {t′ : List ℕ} → Came r w at rows (drop (at - start) bs) u t′ → Came r (behind (g .put) w) start row bs t t′
+  from : {r : Reached} {w : Walked} {t′ : List ℕ} → Came r w at rows (drop (at - start) bs) u t′ → Came r (afterRows (g .put) w) start row bs t t′
   from c = then (g .came) c (simp length-drop (omega (arith, g .came .onward, g .came .within)))
 
   -- none is left, and bytes are
@@ -120,7 +120,7 @@ module _ {parent : Parent} {above depth count start row : ℕ} {bs t u : List �
           came = record { number = refl; reached = refl; rows = all .rows; table = all .table; few = all .few; onward = all .onward; within = all .within };
           whole =
               g .whole
-              ∙ ap (λ k. behind (g .put) (childrenAt parent above depth k at rows (drop (at - start) bs))) next
-              ∙ ap (behind (g .put)) (list-next parent above depth at rows (drop (at - start) bs) (left - 1) refl (sym (here .number) ∙ z))
+              ∙ ap (λ k. afterRows (g .put) (childrenAt parent above depth k at rows (drop (at - start) bs))) next
+              ∙ ap (afterRows (g .put)) (list-next parent above depth at rows (drop (at - start) bs) (left - 1) refl (sym (here .number) ∙ z))
               ∙ rw (← here .reached, ← here .rows, drop-drop (r .at - at) (at - start) bs, sum, append-assoc);
         }

@@ -1,53 +1,51 @@
 -- How the walk over a file ends: its answer, the rows put into the table, and that they are at most 1,024.
-use Prim.Native.Nat.{ℕ, zero, suc, _<_, _≤_}
+use Prim.Native.Nat.{ℕ, suc, _<_, _≤_}
 use native.Mathlib.Omega.{arith}
 use native.Mathlib.Nat.{zero-add}
-use mathlib.Core.Path.{_≡_, refl, ap, _∙_}
+use mathlib.Core.Path.{_≡_, refl, sym, _∙_}
 use mathlib.Core.Bool.{true, false, and-eq-true-iff}
 use mathlib.Core.List.{List}
 use lib.Dec.{leb, eqb}
 use lib.ListN.{length}
 use borrow.Author.Tests.{eq-eqb, ne-eqb, leb-true}
+use Rattle.base.specs.Refusals.{refusedOr}
+use Rattle.base.proofs.Refusals.{goes-on, is-refused}
 use Rattle.le.specs.Le.{numberAt}
 use Rattle.le.proofs.Laws.{rest, rest-drop}
 use Rattle.kinds.specs.declared.Parent.the-variants.{None}
 use Rattle.table.specs.Table.{noParent, putRows}
 use Rattle.walk.specs.declared.Answer.{Answer}
 use Rattle.walk.specs.declared.Reached.{Reached}
-use Rattle.walk.specs.Walk.{Walked, refuse, isCast, walkOf, limited, flagsOf, refusedWith, answerBy, answer, tableAfter, childrenAt}
-use Rattle.walk.specs.Contract.{Came}
+use Rattle.walk.specs.Walk.{Walked, refusedWalk, isCast, walkOf, limited, flagsOf, refusedAnswer, acceptedAnswer, answer, tableWalked, childrenAt}
+use Rattle.walk.specs.Private.{Came}
 use Rattle.walk.proofs.Laws.{limited-is}
 
 -- a file that starts as it must has its header's 16 bytes
 pub header-there : (s : List ℕ) → isCast s ≡ true → 16 ≤ length s
 header-there s e = leb-true 16 (length s) (and-eq-true-iff (leb 16 (length s)) (eqb (numberAt 4 s 0) 0x74736163) .0 e .0)
 
-answer-refused : (n : ℕ) (s : List ℕ) (w : Walked) → (n ≡ 0 → ⊥) → refusedWith n (w .at) ≡ answerBy n s w
-answer-refused zero s w z = absurd (z refl)
-answer-refused (suc n) s w z = refl
-
 module _ (s t : List ℕ) where
   abbrev Ends : Answer → List ℕ → Type 0
-  Ends r t′ = (r ≡ answer s) × (t′ ≡ tableAfter s t) × (length (limited s .rows) ≤ 1024)
+  Ends r t′ = (r ≡ answer s) × (t′ ≡ tableWalked s t) × (length (limited s .rows) ≤ 1024)
 
   -- refused before its first node
-  at-once : (n place : ℕ) {r : Answer} → limited s ≡ refuse (suc n) place → r ≡ refusedWith (suc n) place → Ends r t
+  at-once : (n place : ℕ) {r : Answer} → limited s ≡ refusedWalk (suc n) place → r ≡ refusedAnswer (suc n) place → Ends r t
   unfolding answer putRows
   at-once n place e a = rw e (a, refl, omega arith)
 
-  pub too-long : 16777216 < length s → {r : Answer} → r ≡ refusedWith 2 0 → Ends r t
+  pub too-long : 16777216 < length s → {r : Answer} → r ≡ refusedAnswer 2 0 → Ends r t
   too-long l a = at-once 1 0 (limited-is s .1 l) a
 
   module _ (short : length s ≤ 16777216) where
     walked : {w : Walked} → walkOf s ≡ w → limited s ≡ w
     walked e = limited-is s .0 short ∙ e
 
-    pub no-cast : isCast s ≡ false → {r : Answer} → r ≡ refusedWith 3 0 → Ends r t
+    pub no-cast : isCast s ≡ false → {r : Answer} → r ≡ refusedAnswer 3 0 → Ends r t
     unfolding walkOf
     no-cast e a = at-once 2 0 (walked (rw e)) a
 
     module _ (cast : isCast s ≡ true) where
-      pub no-version : (numberAt 4 s 4 ≡ 1 → ⊥) → {r : Answer} → r ≡ refusedWith 4 4 → Ends r t
+      pub no-version : (numberAt 4 s 4 ≡ 1 → ⊥) → {r : Answer} → r ≡ refusedAnswer 4 4 → Ends r t
       unfolding walkOf
       no-version e a = at-once 3 4 (walked (rw (cast, ne-eqb _ _ e))) a
 
@@ -61,12 +59,13 @@ module _ (s t : List ℕ) where
         unfolding walkOf
         is = walked (rw (cast, eq-eqb _ _ version, counted, rest-drop s 16))
 
-        by-nodes : {a : Answer} → a ≡ answerBy (r .number) s w → Ends a t′
+        by-nodes : {a : Answer} → a ≡ refusedOr (w .number) (refusedAnswer (w .number) (w .at)) (acceptedAnswer (length (w .rows)) (flagsOf s))
+            → Ends a t′
         unfolding answer
-        by-nodes e = rw is (e ∙ ap (λ n. answerBy n s w) (c .number), c .table, omega (arith, c .rows, c .few))
+        by-nodes e = rw is (e, c .table, omega (arith, c .rows, c .few))
 
-        pub nodes-refused : (r .number ≡ 0 → ⊥) → {a : Answer} → a ≡ refusedWith (r .number) (r .at) → Ends a t′
-        nodes-refused z e = by-nodes (e ∙ ap (refusedWith (r .number)) (c .reached) ∙ answer-refused (r .number) s w z)
+        pub nodes-refused : (r .number ≡ 0 → ⊥) → {a : Answer} → a ≡ refusedAnswer (r .number) (r .at) → Ends a t′
+        nodes-refused z e = by-nodes (e ∙ (rw (c .number, c .reached) (sym (is-refused (w .number) _ _ (λ n. z (c .number ∙ n))))))
 
-        pub nodes-done : r .number ≡ 0 → {flags : ℕ} → flags ≡ flagsOf s → Ends (record { number = 0; place = 0; nodes = r .rows; flags = flags }) t′
-        nodes-done z e = by-nodes (rw (z, e, c .rows, zero-add))
+        pub nodes-done : r .number ≡ 0 → {flags : ℕ} → flags ≡ flagsOf s → Ends (acceptedAnswer (r .rows) flags) t′
+        nodes-done z e = by-nodes (rw (e, c .rows, zero-add) (sym (goes-on (w .number) _ _ (sym (c .number) ∙ z))))

@@ -7,24 +7,24 @@ use Rattle.le.specs.Le.{val, numberAt, le}
 use Rattle.names.specs.Names.{bytesOk}
 use Rattle.kinds.specs.declared.Parent.{Parent}
 use Rattle.kinds.specs.declared.Parent.the-variants.{None, Kind}
-use Rattle.kinds.specs.Kinds.{root, model, mesh, lines, lineIn, lineOf, isKnown, standsAtTop, standsUnder, mayStand}
-use Rattle.props.specs.Step.{headerRefusal, dataRefusal, toZero, dataOf, nameAt, stepAt}
+use Rattle.kinds.specs.Kinds.{root, model, mesh, parentsTable, parentsIn, parentsOf, isKnown, standsAtTop, standsUnder, mayStand}
+use Rattle.props.specs.Step.{toZero, nameAt, stepAt}
 use Rattle.body.specs.Body.{pass, properties}
 use Rattle.table.specs.declared.Row.{Row}
 use Rattle.table.specs.Table.{noParent}
 use Rattle.format.specs.Forest.{header, fileHeader}
 use Rattle.walk.specs.declared.Answer.{Answer}
-use Rattle.walk.specs.Walk.{Walked, refuse, headerAt, nodeRefusal, andThen, children, knownNode, nodeBy, node, nodeAt, childrenAt, walkOf, limited, answer}
+use Rattle.walk.specs.Walk.{Walked, refusedWalk, headerAt, nodeRefusal, andThen, children, node, childrenAt, walkOf, limited, answer}
 
 unfoldable walk : List ℕ → Walked
-unfolding val numberAt bytesOk lines lineIn lineOf isKnown standsAtTop standsUnder mayStand headerRefusal dataRefusal toZero dataOf nameAt stepAt pass properties headerAt nodeRefusal andThen children knownNode nodeBy node nodeAt childrenAt walkOf limited
+unfolding val numberAt bytesOk parentsTable parentsIn parentsOf isKnown standsAtTop standsUnder mayStand toZero nameAt stepAt pass properties headerAt nodeRefusal andThen children node childrenAt walkOf limited
 walk s = limited s
 
 unfoldable answered : List ℕ → Answer
 unfolding walk answer
 answered s = answer s
 
--- a file of so many roots, and a node's header alone; hashes and flags are 0
+-- a file of the given number of roots, and a node's header alone; hashes and flags are 0
 unfoldable cast : ℕ → List ℕ → List ℕ
 unfolding le fileHeader
 cast roots bs = fileHeader roots 0 ++ bs
@@ -34,8 +34,9 @@ unfolding le header
 head kind size properties children = header kind size 0 properties children
 
 -- E1 and E2; E9, and the first four bytes wrong
-headers : (answered (cast 0 []) ≡ record { number = 0; place = 0; nodes = 0; flags = 0 }) × (walk [] ≡ refuse 3 0)
-    × (walk (0x63 ∷ 0x61 ∷ 0x73 ∷ 0x74 ∷ 2 ∷ replicate 11 0) ≡ refuse 4 4) × (walk (0x63 ∷ 0x61 ∷ 0x73 ∷ 0x75 ∷ 1 ∷ replicate 11 0) ≡ refuse 3 0)
+headers : (answered (cast 0 []) ≡ record { number = 0; place = 0; nodes = 0; flags = 0 }) × (walk [] ≡ refusedWalk 3 0)
+    × (walk (0x63 ∷ 0x61 ∷ 0x73 ∷ 0x74 ∷ 2 ∷ replicate 11 0) ≡ refusedWalk 4 4)
+    × (walk (0x63 ∷ 0x61 ∷ 0x73 ∷ 0x75 ∷ 1 ∷ replicate 11 0) ≡ refusedWalk 3 0)
 unfolding answered walk cast
 headers = (refl, refl, refl, refl)
 
@@ -50,10 +51,10 @@ unfolding answered walk cast head
 bare = (refl, refl)
 
 -- E4 to E8; in E5 and E6 the root's row was put
-refused : (walk (take 39 (cast 1 (head root 24 0 0))) ≡ refuse 5 16)
+refused : (walk (take 39 (cast 1 (head root 24 0 0))) ≡ refusedWalk 5 16)
     × (walk (cast 1 (head root 24 0 0 ++ (0 ∷ []))) ≡ record { number = 12; at = 40; rows = rootRow 0 ∷ [] })
     × (walk (cast 1 (head root 25 0 0 ++ (0 ∷ []))) ≡ record { number = 12; at = 40; rows = rootRow 0 ∷ [] })
-    × (walk (cast 1 (head root 23 0 0)) ≡ refuse 5 16) × (walk (cast 1 (head mesh 24 0 0)) ≡ refuse 6 16)
+    × (walk (cast 1 (head root 23 0 0)) ≡ refusedWalk 5 16) × (walk (cast 1 (head mesh 24 0 0)) ≡ refusedWalk 6 16)
 unfolding walk cast head
 refused = (refl, refl, refl, refl, refl)
 
@@ -70,14 +71,14 @@ wagon = refl
 
 -- of E10: an unknown node at the top; a child that passes its parent's end, though not the file's; one that is not there
 places : map walk (cast 1 child ∷ cast 2 (head root 50 0 1 ++ (child ++ head root 24 0 0)) ∷ cast 1 (head root 51 0 2 ++ child) ∷ []) ≡
-    refuse 6 16 ∷
+    refusedWalk 6 16 ∷
     record { number = 5; at = 40; rows = rootRow 1 ∷ [] } ∷
     record { number = 5; at = 67; rows = rootRow 2 ∷ childRow ∷ [] } ∷ []
 unfolding walk cast head
 places = refl
 
 -- a count is believed, and 2^32 - 1 roots without a byte are found out at once
-believed : walk (cast 4294967295 []) ≡ refuse 5 16
+believed : walk (cast 4294967295 []) ≡ refusedWalk 5 16
 unfolding walk cast
 believed = refl
 
@@ -95,7 +96,7 @@ bodies = refl
 
 -- the order 5, 6, 7, 8, 9, each refused also for the next: of kind, size, property count, room, parent, row and depth
 unfoldable verdict : ℕ → ℕ → ℕ → ℕ → Parent → ℕ → ℕ → ℕ
-unfolding lines lineIn lineOf isKnown standsAtTop standsUnder mayStand nodeRefusal
+unfolding parentsTable parentsIn parentsOf isKnown standsAtTop standsUnder mayStand nodeRefusal
 verdict kind size count room parent row depth =
     nodeRefusal (record { kind = kind; size = size; low = 0; high = 0; properties = count; children = 0 }) room parent row depth
 
@@ -127,7 +128,7 @@ nested : walk (cast 1 (head root 130 0 1 ++ (head model 106 0 1 ++ (head mesh 82
 unfolding walk cast head
 nested = refl
 
--- rows are counted on behind a node's children: two roots, the first with a Model and an unknown node below it
+-- rows are counted on after a node's children: two roots, the first with a Model and an unknown node below it
 siblings :
     map (λ r. r .parent)
     (walk (cast 2 (head root 72 0 1 ++ (head model 48 0 1 ++ (head 0 24 0 0 ++ (head root 48 0 1 ++ head model 24 0 0))))) .rows)

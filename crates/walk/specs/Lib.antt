@@ -1,4 +1,4 @@
 pub mod Walk
-pub mod Contract
+pub mod Private
 pub mod Statements
 pub mod Examples

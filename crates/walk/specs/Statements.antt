@@ -12,7 +12,7 @@ use Rattle.kinds.specs.declared.Parent.the-variants.{None}
 use Rattle.format.specs.Forest.{Forest, fileOf}
 use Rattle.format.specs.Rows.{rowsOf}
 use Rattle.format.specs.Layout.{WellFormedFile, Placed, Few}
-use Rattle.walk.specs.Walk.{refuse, nodeBy, nodeAt, childrenAt, walkOf, flagsOf, limited}
+use Rattle.walk.specs.Walk.{refusedWalk, node, children, nodeAt, childrenAt, walkOf, flagsOf, limited}
 
 -- the bytes are a well-formed file of these nodes, whose kinds and number the rules allow
 pub record Holds (s : List ℕ) (flags : ℕ) (f : Forest) : Type 0 where
@@ -41,13 +41,16 @@ abbrev pub Others : Type 0
 Others = (flags : ℕ) (f : Forest) → WellFormedFile flags f → (Placed None f × Few f → ⊥)
     → (walkOf (fileOf flags f) .number ≡ 6) ⊎ ((walkOf (fileOf flags f) .number ≡ 7) × (Few f → ⊥))
 
--- The bound that the definition of a node's walk recurses on never speaks: a node is walked with `childrenAt` below it.
+-- The bound that `node` and `children` recurse on never speaks: any that is greater than the number of bytes gives the same walk, so
+-- that the two may be read as calling each other without it.
 abbrev pub Unbounded : Type 0
-Unbounded = (parent : Parent) (above depth at row : ℕ) (bs : List ℕ) → nodeAt parent above depth at row bs ≡ nodeBy childrenAt parent above depth at row bs
+Unbounded = (n : ℕ) (parent : Parent) (above depth count at row : ℕ) (bs : List ℕ) → length bs < n
+    → (node n parent above depth at row bs ≡ nodeAt parent above depth at row bs)
+    × (children n parent above depth count at row bs ≡ childrenAt parent above depth count at row bs)
 
 -- What the code answers by, beside 3 to 12.
 abbrev pub Limited : Type 0
-Limited = (s : List ℕ) → (length s ≤ mostBytes → limited s ≡ walkOf s) × (mostBytes < length s → limited s ≡ refuse 2 0)
+Limited = (s : List ℕ) → (length s ≤ mostBytes → limited s ≡ walkOf s) × (mostBytes < length s → limited s ≡ refusedWalk 2 0)
 
 -- Document 01's 8, "depth over 8 (a root has depth 1)", is never given, whatever the bytes are. Each kind stands only under its
 -- parents: Root lies at depth 1, the kinds under Root at 2, those under Model and Animation at 3, and Bone, IKHandle, Constraint

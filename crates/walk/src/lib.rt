@@ -3,8 +3,8 @@ ghost use mathlib.Core.Path.{_≡_};
 ghost use Prim.Native.Nat.{_+_, _≤_};
 ghost use lib.ListN.{length};
 ghost use Rattle.base.specs.Limits.{mostBytes, mostRows};
-ghost use Rattle.walk.specs.Walk.{headerAt, illSized, tooMany, nodeRefusal, rowOf, nodeAt, childrenAt, isCast, limited, refusedWith, answer, tableAfter};
-ghost use Rattle.walk.specs.Contract.{Came};
+ghost use Rattle.walk.specs.Walk.{headerAt, illSized, tooMany, nodeRefusal, rowOfHeader, nodeAt, childrenAt, isCast, limited, refusedAnswer, answer, tableWalked};
+ghost use Rattle.walk.specs.Private.{Came};
 
 // The numbers of a node's header, the hash in its halves.
 pub struct Header {
@@ -50,7 +50,13 @@ fn too_many(kind: u32, properties: u32) -> bool
 }
 
 // What a node's header is refused with, 5 to 9, where `room` bytes are left from it on: 0 for nothing.
-pub fn refusal(header: Header, room: usize, parent: kinds::Parent, row: usize, depth: u32) -> u32
+pub fn node_refusal(
+    header: Header,
+    room: usize,
+    parent: kinds::Parent,
+    row: usize,
+    depth: u32,
+) -> u32
     ensures { λ r. ⌜ r ≡ nodeRefusal header room parent row depth ⌝ }
 {
     if ill_sized(header.size, room) {
@@ -81,7 +87,7 @@ struct Reached {
 
 // A row from a node's header, its parent's row, and where its body starts and ends.
 fn row_of(h: Header, above: u32, start: u32, end: u32) -> table::Row
-    ensures { λ r. ⌜ r ≡ rowOf h above start end ⌝ }
+    ensures { λ r. ⌜ r ≡ rowOfHeader h above start end ⌝ }
 {
     table::Row {
         kind: h.kind,
@@ -112,7 +118,7 @@ fn walk_node(
 {
     let room = bytes.len();
     let h = header_at(bytes);
-    let number = refusal(h, room, parent, row, depth);
+    let number = node_refusal(h, room, parent, row, depth);
     if number != 0 {
         return Reached {
             number,
@@ -157,7 +163,7 @@ fn walk_node(
     )
 }
 
-// So many nodes, one after the other, which fill `bytes`. The first one's place is `start`, its row `row`.
+// `count` nodes, one after the other, which fill `bytes`. The first one's place is `start`, its row `row`.
 fn walk_children(
     bytes: &[u8],
     table: &mut [u32],
@@ -209,7 +215,7 @@ pub struct Answer {
 }
 
 fn refused(number: u32, place: u32) -> Answer
-    ensures { λ r. ⌜ r ≡ refusedWith number place ⌝ }
+    ensures { λ r. ⌜ r ≡ refusedAnswer number place ⌝ }
 {
     Answer {
         number,
@@ -230,7 +236,7 @@ fn is_cast(file: &[u8]) -> bool
 // the nodes whose body's end was found.
 pub fn walk(file: &[u8], table: &mut [u32]) -> Answer
     ensures result { λ r. ⌜ r ≡ answer (now (file .entry)) ⌝ }
-    ensures table { λ r. ⌜ now (table .exit) ≡ tableAfter (now (file .entry)) (now (table .entry)) ⌝ }
+    ensures table { λ r. ⌜ now (table .exit) ≡ tableWalked (now (file .entry)) (now (table .entry)) ⌝ }
     ensures bound { λ r. ⌜ length (limited (now (file .entry)) .rows) ≤ mostRows ⌝ }
 {
     if base::MOST_BYTES < file.len() {

@@ -6,13 +6,13 @@ use Prim.Native.String.{String}
 use mathlib.Core.List.{List, [], _∷_, _++_, map, flatMap}
 use lib.ListN.{length, take, drop, replicate}
 use Rattle.le.specs.Le.{val, numberAt, le}
-use Rattle.names.specs.Names.{bytesOk, same, decimal, number, numbered}
-use Rattle.text.specs.Text.{glyph, digits, sizeIn}
-use Rattle.kinds.specs.Kinds.{root, model, mesh, lineIn, lineOf, isKnown, standsAtTop, standsUnder, mayStand}
-use Rattle.kinds.specs.Kinds.{lines as kindLines}
+use Rattle.names.specs.Names.{bytesOk, same, readDigits, number, numbered}
+use Rattle.text.specs.Text.{glyph, digits, digitCount}
+use Rattle.kinds.specs.Kinds.{root, model, mesh, parentsIn, parentsOf, isKnown, standsAtTop, standsUnder, mayStand, parentsTable}
 use Rattle.table.specs.declared.Row.{Row}
 use Rattle.table.specs.Table.{noParent, hasRoom}
-use Rattle.props.specs.Step.{headerRefusal, dataRefusal, toZero, dataOf, nameAt, stepAt}
+use Rattle.table.specs.Counts.{countUnder}
+use Rattle.props.specs.Step.{toZero, nameAt, stepAt}
 use Rattle.body.specs.Body.{pass, properties, firstNamed}
 use Rattle.faces.specs.Faces.{widthOf, facesIn, below, degenerate}
 use Rattle.base.specs.Letters.{letters}
@@ -25,13 +25,13 @@ use Rattle.judge.specs.Valued.{faultOf, valued, nodeFaces, nodeLinks}
 use Rattle.judge.specs.Judge.{verdictAt, judgedAt, judged}
 use Rattle.format.specs.Forest.{header, fileHeader}
 use Rattle.links.specs.Links.{reached, linksAt, linksFrom, resolved, linked}
-use Rattle.walk.specs.Walk.{headerAt, nodeRefusal, andThen, children, knownNode, nodeBy, node, nodeAt, childrenAt, walkOf, limited}
+use Rattle.walk.specs.Walk.{headerAt, nodeRefusal, andThen, children, node, childrenAt, walkOf, limited}
 use Rattle.reader.specs.declared.Reading.{Reading}
 use Rattle.reader.specs.declared.Reading.the-variants.{Accepted, Refused}
-use Rattle.reader.specs.Reading.{Numbers, numbersOf, bonesUnder, judgedWith, ruled, ownKnown, ownUnknown, checked, verdict, readingOf}
+use Rattle.reader.specs.Reading.{Numbers, numbersOf, judgedWith, ruled, ownKnown, ownUnknown, checked, verdict, readingOf}
 use Rattle.emit.specs.declared.Written.{Written}
-use Rattle.emit.specs.Emission.{under, sizes, nodesBytes, roots, fileBytes}
-use Rattle.emit.specs.Emission.{leftBy as emitLeft}
+use Rattle.emit.specs.Emission.{sizesUnder, nodesBytes, roots, fileBytes}
+use Rattle.emit.specs.Emission.{outputLeft as emitLeft}
 use Rattle.removal.specs.Trimmer.{withoutFrom, newFile, trimmedOf, trimmedOutput}
 use Rattle.listing.specs.Listing.{parentText, wordsOf, textOf, nodeLines, fileLines, printed, listingOf}
 
@@ -56,7 +56,7 @@ rowsBy (Accepted a) rows = rows
 rowsBy (Refused n place) rows = []
 
 unfoldable pub computed : List ℕ → Answer
-unfolding val numberAt bytesOk same decimal number numbered kindLines lineIn lineOf isKnown standsAtTop standsUnder mayStand headerRefusal dataRefusal toZero dataOf nameAt stepAt pass properties firstNamed widthOf facesIn below degenerate letters lines lists ruleIn ofKind linesOf isText isOneOf le lengthOf valueOf typesOf besideOf typed misses lacks faultOf valued nodeFaces nodeLinks verdictAt judgedAt judged reached linksAt linksFrom resolved linked headerAt nodeRefusal andThen children knownNode nodeBy node nodeAt childrenAt walkOf limited bonesUnder judgedWith ruled ownKnown ownUnknown checked verdict glyph digits sizeIn parentText wordsOf textOf nodeLines fileLines flatMap printed listingOf header fileHeader hasRoom readingOf under sizes nodesBytes roots fileBytes emitLeft withoutFrom newFile trimmedOf trimmedOutput
+unfolding val numberAt bytesOk same readDigits number numbered parentsTable parentsIn parentsOf isKnown standsAtTop standsUnder mayStand toZero nameAt stepAt pass properties firstNamed widthOf facesIn below degenerate letters lines lists ruleIn ofKind linesOf isText isOneOf le lengthOf valueOf typesOf besideOf typed misses lacks faultOf valued nodeFaces nodeLinks verdictAt judgedAt judged reached linksAt linksFrom resolved linked headerAt nodeRefusal andThen children node childrenAt walkOf limited countUnder judgedWith ruled ownKnown ownUnknown checked verdict glyph digits sizeIn parentText wordsOf textOf nodeLines fileLines flatMap printed listingOf header fileHeader hasRoom readingOf sizesUnder nodesBytes roots fileBytes emitLeft withoutFrom newFile trimmedOf trimmedOutput
 computed s = record {
   numbers = numbersOf (verdict s);
   rows = rowsBy (verdict s) (limited s .rows);

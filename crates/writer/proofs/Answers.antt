@@ -4,14 +4,15 @@ use mathlib.Core.Path.{_≡_, refl, ap, sym, _∙_}
 use mathlib.Core.List.{List, _++_}
 use lib.Dec.{ltb}
 use lib.ListN.{length, drop}
+use Rattle.base.specs.Refusals.{refusedOr}
 use Rattle.le.specs.Le.{AreBytes}
 use Rattle.base.proofs.Tests.{by-test}
 use Rattle.table.specs.Table.{isPlan}
-use Rattle.plan.specs.Plan.{judged}
+use Rattle.plan.specs.Plan.{planRefusal}
 use Rattle.format.specs.Rows.{allOwnBytes}
 use Rattle.emit.specs.declared.Written.{Written}
-use Rattle.emit.specs.Emission.{done, byLength, fileBytes, emission, leftBy}
-use Rattle.writer.specs.Writer.{planRows, byNumber, writtenOf, outputAfter}
+use Rattle.emit.specs.Emission.{refusedWriting, writingDone, byLength, fileBytes, emission, outputLeft}
+use Rattle.writer.specs.Writer.{planRows, writtenOf, outputAfter}
 use Rattle.writer.specs.Writable.{Writable}
 use Rattle.writer.specs.Answers.{Writes, Refuses}
 use Rattle.writer.proofs.Plans.{plan-bytes}
@@ -19,11 +20,11 @@ use Rattle.writer.proofs.Writing.{left-alone, goes-on, emission-done}
 use Rattle.writer.proofs.Writable.{is-plan, few, right, long, writesExactly}
 
 -- ---- success
-left-done : (size : ℕ) (bytes out : List ℕ) {w : Written} → w ≡ done size → length bytes ≡ size → leftBy (w .number) bytes out ≡ bytes ++ drop size out
-unfolding leftBy
+left-done : (size : ℕ) (bytes out : List ℕ) {w : Written} → w ≡ writingDone size → length bytes ≡ size → outputLeft (w .number) bytes out ≡ bytes ++ drop size out
+unfolding outputLeft
 left-done size bytes out e l = rw (e, l)
 
-pub is-done : (plan s : List ℕ) (flags room : ℕ) → AreBytes s → Writable plan s room → writtenOf plan s flags room ≡ done (16 + allOwnBytes (planRows plan))
+pub is-done : (plan s : List ℕ) (flags room : ℕ) → AreBytes s → Writable plan s room → writtenOf plan s flags room ≡ writingDone (16 + allOwnBytes (planRows plan))
 is-done plan s flags room source w =
     goes-on plan s flags room (is-plan plan s flags room source w) (right plan s flags room source w)
     ∙ emission-done flags s (planRows plan) room _ (long plan s flags room source w) (w .short) (w .fits)
@@ -42,16 +43,17 @@ no-length : (n room : ℕ) → (byLength n room .number ≡ 0 → ⊥) → byLen
 no-length n room h =
     by-test (ltb 16777216 n) (λ t. rw t) (λ t. by-test (ltb room n) (λ u. rw (t, u)) (λ u. absurd (h (rw (t, u)))))
 
-by-none : (n place : ℕ) (next : Written) → ((next .number ≡ 0 → ⊥) → next .length ≡ 0) → (byNumber n place next .number ≡ 0 → ⊥) → byNumber n place next .length ≡ 0
+by-none : (n place : ℕ) (next : Written) → ((next .number ≡ 0 → ⊥) → next .length ≡ 0) → (refusedOr n (refusedWriting n place) next .number ≡ 0 → ⊥)
+    → refusedOr n (refusedWriting n place) next .length ≡ 0
 by-none zero place next f h = f h
 by-none (suc n) place next f h = refl
 
 none-written : (plan s : List ℕ) (flags room : ℕ) → (writtenOf plan s flags room .number ≡ 0 → ⊥) → writtenOf plan s flags room .length ≡ 0
 unfolding writtenOf emission
 none-written plan s flags room h =
-    let j = judged s (planRows plan) in
+    let j = planRefusal s (planRows plan) in
     let n = length (fileBytes flags s (planRows plan)) in
-    by-test (isPlan plan) (λ t. rw t (by-none (j .number) (j .row) (byLength n room) (no-length n room) (rw t at h))) (λ t. rw t)
+    by-test (isPlan plan) (λ t. rw t (by-none (j .number) (j .place) (byLength n room) (no-length n room) (rw t at h))) (λ t. rw t)
 
 pub refuses : Refuses
 unfolding outputAfter

@@ -12,15 +12,16 @@ use Rattle.le.specs.Le.{AreBytes}
 use Rattle.base.proofs.Tests.{by-test}
 use Rattle.table.specs.declared.Row.{Row}
 use Rattle.table.specs.Table.{rowCount, isPlan}
-use Rattle.plan.specs.declared.Judged.{Judged}
-use Rattle.plan.specs.Plan.{judged}
+use Rattle.base.specs.declared.Refusal.{Refusal}
+use Rattle.base.proofs.Refusals.{is-refused}
+use Rattle.plan.specs.Plan.{planRefusal}
 use Rattle.format.specs.Rows.{allOwnBytes}
 use Rattle.emit.specs.declared.Written.{Written}
-use Rattle.emit.specs.Emission.{refused, done, byLength, fileBytes, emission}
+use Rattle.emit.specs.Emission.{refusedWriting, writingDone, byLength, fileBytes, emission}
 use Rattle.writer.specs.Writer.{planRows, writtenOf}
 use Rattle.writer.specs.Answers.{IsPlan, Reaches, AllRight, WriterAnswers, AnswersExactly}
 use Rattle.writer.proofs.Plans.{Inside}
-use Rattle.writer.proofs.Writing.{count-few, by-refusal, goes-on}
+use Rattle.writer.proofs.Writing.{count-few, goes-on}
 use Rattle.writer.proofs.Written.{number, rows-few}
 use Rattle.writer.proofs.First.{Told, told-range, told-wrong, told-21, told-22, told-23, told-24, told-first, First, first-wrong}
 use Rattle.writer.proofs.Answers.{is-done}
@@ -43,11 +44,11 @@ module _ (plan s : List ℕ) (flags room : ℕ) (source : AreBytes s) where
 
   abbrev Outcome : Type 0
   Outcome =
-      ((IsPlan plan → ⊥) × (answer ≡ refused 20 0))
-      ⊎ (((k n : ℕ) × Reaches plan s k × Told s rs k n × (answer ≡ refused n k))
-      ⊎ ((AllRight plan s × (16777216 < size) × (answer ≡ refused 25 0))
-      ⊎ ((AllRight plan s × (size ≤ 16777216) × (room < size) × (answer ≡ refused 26 0))
-      ⊎ (AllRight plan s × (size ≤ 16777216) × (size ≤ room) × (answer ≡ done size)))))
+      ((IsPlan plan → ⊥) × (answer ≡ refusedWriting 20 0))
+      ⊎ (((k n : ℕ) × Reaches plan s k × Told s rs k n × (answer ≡ refusedWriting n k))
+      ⊎ ((AllRight plan s × (16777216 < size) × (answer ≡ refusedWriting 25 0))
+      ⊎ ((AllRight plan s × (size ≤ 16777216) × (room < size) × (answer ≡ refusedWriting 26 0))
+      ⊎ (AllRight plan s × (size ≤ 16777216) × (size ≤ room) × (answer ≡ writingDone size)))))
 
   by-size : AllRight plan s → answer ≡ byLength size room → Outcome
   by-size a e =
@@ -58,15 +59,15 @@ module _ (plan s : List ℕ) (flags room : ℕ) (source : AreBytes s) where
       (λ u. inr (inr (inr (inl (a, ltb-false 16777216 size t, ltb-true room size u, e ∙ rw (t, u))))))
       (λ u. inr (inr (inr (inr (a, ltb-false 16777216 size t, ltb-false room size u, e ∙ rw (t, u)))))))
 
-  by-rows : (t : isPlan plan ≡ true) → First s rs (rows-few plan t) source (judged s rs) → Outcome
+  by-rows : (t : isPlan plan ≡ true) → First s rs (rows-few plan t) source (planRefusal s rs) → Outcome
   unfolding writtenOf emission
   by-rows t (inl x) =
       let long-is : length (fileBytes flags s rs) ≡ size = file-long flags s rs (at-each (Inside s) rs (λ k b. x .1 k b .within)) in
-      let none : judged s rs .number ≡ 0 = ap (λ (j : Judged). j .number) (x .0) in
+      let none : planRefusal s rs .number ≡ 0 = ap (λ (j : Refusal). j .number) (x .0) in
       by-size (record { whole = is-a-plan plan t; right = x .1 }) (goes-on plan s flags room t none ∙ ap (λ n. byLength n room) long-is)
   by-rows t (inr (k, n, e, b, h, told)) =
       let range = told-range s rs k n told in
-      inr (inl (k, n, record { whole = is-a-plan plan t; there = b; earlier = h }, told, rw (t, e) (by-refusal n k _ (λ z. omega (arith, z, range .0)))))
+      inr (inl (k, n, record { whole = is-a-plan plan t; there = b; earlier = h }, told, rw (t, e) (is-refused n (refusedWriting n k) _ (λ z. omega (arith, z, range .0)))))
 
   outcome : Outcome
   unfolding writtenOf
@@ -83,14 +84,14 @@ module _ (plan s : List ℕ) (flags room : ℕ) (source : AreBytes s) where
   same-place e f = ap (λ (x : Written). x .place) (sym e ∙ f)
 
   -- ---- 20
-  from-20 : Outcome → answer ≡ refused 20 0 → IsPlan plan → ⊥
+  from-20 : Outcome → answer ≡ refusedWriting 20 0 → IsPlan plan → ⊥
   from-20 (inl x) e = x .0
   from-20 (inr (inl (k, n, r, told, f))) e = absurd (omega (arith, told-range s rs k n told .0, same-number f e))
   from-20 (inr (inr (inl x))) e = absurd (omega (arith, same-number (x .2) e))
   from-20 (inr (inr (inr (inl x)))) e = absurd (omega (arith, same-number (x .3) e))
   from-20 (inr (inr (inr (inr x)))) e = absurd (omega (arith, same-number (x .3) e))
 
-  to-20 : Outcome → (IsPlan plan → ⊥) → answer ≡ refused 20 0
+  to-20 : Outcome → (IsPlan plan → ⊥) → answer ≡ refusedWriting 20 0
   to-20 (inl x) h = x .1
   to-20 (inr (inl (k, n, r, told, f))) h = absurd (h (r .whole))
   to-20 (inr (inr (inl x))) h = absurd (h (x .0 .whole))
@@ -98,7 +99,7 @@ module _ (plan s : List ℕ) (flags room : ℕ) (source : AreBytes s) where
   to-20 (inr (inr (inr (inr x)))) h = absurd (h (x .0 .whole))
 
   -- ---- 21 to 24
-  from-row : (n k : ℕ) → 21 ≤ n → n ≤ 24 → Outcome → answer ≡ refused n k → Reaches plan s k × Told s rs k n
+  from-row : (n k : ℕ) → 21 ≤ n → n ≤ 24 → Outcome → answer ≡ refusedWriting n k → Reaches plan s k × Told s rs k n
   from-row n k a b (inl x) e = absurd (omega (arith, a, same-number (x .1) e))
   from-row n k a b (inr (inl (j, m, r, told, f))) e =
       (subst (Reaches plan s) (same-place f e) r, subst (λ i. Told s rs i n) (same-place f e) (subst (Told s rs j) (same-number f e) told))
@@ -106,38 +107,38 @@ module _ (plan s : List ℕ) (flags room : ℕ) (source : AreBytes s) where
   from-row n k a b (inr (inr (inr (inl x)))) e = absurd (omega (arith, b, same-number (x .3) e))
   from-row n k a b (inr (inr (inr (inr x)))) e = absurd (omega (arith, a, same-number (x .3) e))
 
-  to-row : (n k : ℕ) → Outcome → Reaches plan s k → Told s rs k n → answer ≡ refused n k
+  to-row : (n k : ℕ) → Outcome → Reaches plan s k → Told s rs k n → answer ≡ refusedWriting n k
   to-row n k (inl x) r told = absurd (x .0 (r .whole))
   to-row n k (inr (inl (j, m, q, other, f))) r told =
       let same = told-first s rs j k m n (q .earlier) other (r .earlier) told in
-      f ∙ ap (refused m) (same .0) ∙ ap (λ i. refused i k) (same .1)
+      f ∙ ap (refusedWriting m) (same .0) ∙ ap (λ i. refusedWriting i k) (same .1)
   to-row n k (inr (inr (inl x))) r told = absurd (told-wrong s rs k n told (x .0 .right k (r .there)))
   to-row n k (inr (inr (inr (inl x)))) r told = absurd (told-wrong s rs k n told (x .0 .right k (r .there)))
   to-row n k (inr (inr (inr (inr x)))) r told = absurd (told-wrong s rs k n told (x .0 .right k (r .there)))
 
   -- ---- 25 and 26
-  from-25 : Outcome → answer ≡ refused 25 0 → AllRight plan s × (16777216 < size)
+  from-25 : Outcome → answer ≡ refusedWriting 25 0 → AllRight plan s × (16777216 < size)
   from-25 (inl x) e = absurd (omega (arith, same-number (x .1) e))
   from-25 (inr (inl (k, n, r, told, f))) e = absurd (omega (arith, told-range s rs k n told .1, same-number f e))
   from-25 (inr (inr (inl x))) e = (x .0, x .1)
   from-25 (inr (inr (inr (inl x)))) e = absurd (omega (arith, same-number (x .3) e))
   from-25 (inr (inr (inr (inr x)))) e = absurd (omega (arith, same-number (x .3) e))
 
-  to-25 : Outcome → AllRight plan s → 16777216 < size → answer ≡ refused 25 0
+  to-25 : Outcome → AllRight plan s → 16777216 < size → answer ≡ refusedWriting 25 0
   to-25 (inl x) a h = absurd (x .0 (a .whole))
   to-25 (inr (inl (k, n, r, told, f))) a h = absurd (told-wrong s rs k n told (a .right k (r .there)))
   to-25 (inr (inr (inl x))) a h = x .2
   to-25 (inr (inr (inr (inl x)))) a h = absurd (omega (arith, h, x .1))
   to-25 (inr (inr (inr (inr x)))) a h = absurd (omega (arith, h, x .1))
 
-  from-26 : Outcome → answer ≡ refused 26 0 → AllRight plan s × (size ≤ 16777216) × (room < size)
+  from-26 : Outcome → answer ≡ refusedWriting 26 0 → AllRight plan s × (size ≤ 16777216) × (room < size)
   from-26 (inl x) e = absurd (omega (arith, same-number (x .1) e))
   from-26 (inr (inl (k, n, r, told, f))) e = absurd (omega (arith, told-range s rs k n told .1, same-number f e))
   from-26 (inr (inr (inl x))) e = absurd (omega (arith, same-number (x .2) e))
   from-26 (inr (inr (inr (inl x)))) e = (x .0, x .1, x .2)
   from-26 (inr (inr (inr (inr x)))) e = absurd (omega (arith, same-number (x .3) e))
 
-  to-26 : Outcome → AllRight plan s → size ≤ 16777216 → room < size → answer ≡ refused 26 0
+  to-26 : Outcome → AllRight plan s → size ≤ 16777216 → room < size → answer ≡ refusedWriting 26 0
   to-26 (inl x) a h g = absurd (x .0 (a .whole))
   to-26 (inr (inl (k, n, r, told, f))) a h g = absurd (told-wrong s rs k n told (a .right k (r .there)))
   to-26 (inr (inr (inl x))) a h g = absurd (omega (arith, h, x .1))
@@ -146,8 +147,8 @@ module _ (plan s : List ℕ) (flags room : ℕ) (source : AreBytes s) where
 
   abbrev One : Type 0
   One =
-      (answer ≡ refused 20 0)
-      ⊎ (((k n : ℕ) × (21 ≤ n) × (n ≤ 24) × (answer ≡ refused n k)) ⊎ ((answer ≡ refused 25 0) ⊎ ((answer ≡ refused 26 0) ⊎ (answer ≡ done size))))
+      (answer ≡ refusedWriting 20 0)
+      ⊎ (((k n : ℕ) × (21 ≤ n) × (n ≤ 24) × (answer ≡ refusedWriting n k)) ⊎ ((answer ≡ refusedWriting 25 0) ⊎ ((answer ≡ refusedWriting 26 0) ⊎ (answer ≡ writingDone size))))
 
   one-of : Outcome → One
   one-of (inl x) = inl (x .1)

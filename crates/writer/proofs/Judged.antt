@@ -9,18 +9,21 @@ use mathlib.Core.List.{List, [], _∷_, _++_, append-assoc}
 use lib.Dec.{eqb}
 use lib.ListN.{length}
 use borrow.Author.Tests.{eq-eqb, ne-eqb, eqb-true, eqb-false}
+use Rattle.base.specs.Refusals.{refusal, noRefusal, refusedOr}
 use Rattle.base.proofs.Tests.{by-test}
 use Rattle.kinds.specs.Kinds.{root, isKnown}
 use Rattle.table.specs.declared.Row.{Row}
+use Rattle.table.specs.declared.Which.the-variants.{All}
 use Rattle.table.specs.Table.{noParent}
+use Rattle.table.specs.Counts.{countUnder}
 use Rattle.body.specs.Body.{exactly}
-use Rattle.format.specs.Rows.{bodyOf}
+use Rattle.format.specs.Rows.{bodyOf, outside}
 use Rattle.base.specs.Lists.{Each}
 use Rattle.base.proofs.Lists.{each-append, each-map}
-use Rattle.plan.specs.declared.Judged.{Judged}
-use Rattle.plan.specs.Plan.{upFrom, pathOf, isOn, rightParent, outside, naming, rowRefusal, byNumber, judgedFrom, judged}
+use Rattle.base.specs.declared.Refusal.{Refusal}
+use Rattle.plan.specs.Plan.{upFrom, pathOf, isOn, rightParent, naming, rowRefusal, planRefusalFrom, planRefusal}
 use Rattle.emit.specs.Emission.{roots}
-use Rattle.writer.proofs.Under.{named-other}
+use Rattle.table.proofs.Counts.{counted-other}
 use Rattle.writer.proofs.Paths.{onward, Right, Older, Not, split, older-onward}
 use Rattle.writer.proofs.Order.{Counts}
 
@@ -67,27 +70,27 @@ module _ (s : List ℕ) (previous : List ℕ) (named : ℕ) (r : Row) where
       to-tests (rightParent r previous) (outside (length s) r) (isKnown (r .kind)) (exactly (bodyOf s r) (r .properties)) (eqb (r .children) named)
       p (f .0) (f .1) (λ k. eq-eqb (r .children) named (c k))
 
-by-zero : (n k : ℕ) (next : Judged) → byNumber n k next .number ≡ 0 → (n ≡ 0) × (next .number ≡ 0)
+by-zero : (n k : ℕ) (next : Refusal) → refusedOr n (refusal n k) next .number ≡ 0 → (n ≡ 0) × (next .number ≡ 0)
 by-zero zero k next e = (refl, e)
 by-zero (suc n) k next e = absurd (omega (arith, e))
 
-judged-each : (s : List ℕ) (all : List Row) (k : ℕ) (previous : List ℕ) (rs : List Row) → judgedFrom s all k previous rs .number ≡ 0
+judged-each : (s : List ℕ) (all : List Row) (k : ℕ) (previous : List ℕ) (rs : List Row) → planRefusalFrom s all k previous rs .number ≡ 0
     → Parents k previous rs × Each (Fitting s) rs × Named all k rs
-unfolding judgedFrom
+unfolding planRefusalFrom
 judged-each s all k previous [] e = (tt, tt, tt)
 judged-each s all k previous (r ∷ rs) e =
-    let now = by-zero (rowRefusal s previous (naming all k) r) k (judgedFrom s all (suc k) (pathOf k r previous) rs) e in
+    let now = by-zero (rowRefusal s previous (naming all k) r) k (planRefusalFrom s all (suc k) (pathOf k r previous) rs) e in
     let here = row-right s previous (naming all k) r (now .0) in
     let ih = judged-each s all (suc k) (pathOf k r previous) rs (now .1) in
     ((here .0, ih .0), (here .1, ih .1), (here .2, ih .2))
 
-pub judged-parts : (s : List ℕ) (rs : List Row) → judged s rs .number ≡ 0 → Parents 0 [] rs × Each (Fitting s) rs × Named rs 0 rs
-unfolding judged
+pub judged-parts : (s : List ℕ) (rs : List Row) → planRefusal s rs .number ≡ 0 → Parents 0 [] rs × Each (Fitting s) rs × Named rs 0 rs
+unfolding planRefusal
 judged-parts s rs e = judged-each s rs 0 [] rs e
 
 pub each-judged : (s : List ℕ) (all : List Row) (k : ℕ) (previous : List ℕ) (rs : List Row) → Parents k previous rs → Each (Fitting s) rs → Named all k rs
-    → judgedFrom s all k previous rs ≡ record { number = 0; row = 0 }
-unfolding judgedFrom
+    → planRefusalFrom s all k previous rs ≡ noRefusal
+unfolding planRefusalFrom
 each-judged s all k previous [] p f c = refl
 each-judged s all k previous (r ∷ rs) p f c =
     rw (right-row s previous (naming all k) r (p .0) (f .0) (c .0))
@@ -183,7 +186,7 @@ parents-roots k previous (r ∷ rs) w b few =
     )
 
 pub roots-named : (rs : List Row) → Each RootOnly rs → roots rs ≡ naming rs noParent
-unfolding roots naming
+unfolding roots countUnder
 roots-named [] h = refl
 roots-named (r ∷ rs) h =
     by-test (eqb (r .kind) root)
@@ -198,7 +201,7 @@ module _ (all : List Row) where
   named-counts k path (r ∷ rs) w o few h =
       let older : Older k (r .parent) = split k path r rs w (Older k) o .1 .0 in
       let later : (j : ℕ) → k ≤ j → j < 1024 → naming all j ≡ naming rs j
-      = λ j a b. h j a b ∙ named-other r rs j (λ e. omega (arith, older (omega (arith, e)), e)) in
+      = λ j a b. h j a b ∙ counted-other All r rs j (λ e. omega (arith, older (omega (arith, e)), e)) in
       let ih = named-counts (suc k) (onward k r (w .1)) rs (w .3) (older-onward k path r rs w o) (omega (arith, few)) (λ j a b. later j (omega arith) b) in
       let here = later k (omega arith) (omega (arith, few)) in
       (λ c. (λ t. c .0 t ∙ here, ih .0 (c .1)), λ c. (λ t. c .0 t ∙ sym here, ih .1 (c .1)))

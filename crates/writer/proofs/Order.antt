@@ -15,7 +15,7 @@ use Rattle.base.specs.Lists.{Each}
 use Rattle.base.proofs.Lists.{each-both, each-map}
 use Rattle.format.proofs.Headers.{length-header}
 use Rattle.plan.specs.Plan.{naming}
-use Rattle.emit.specs.Emission.{sizeOf, nodesBytes}
+use Rattle.emit.specs.Emission.{nodeSize, nodesBytes}
 use Rattle.writer.specs.Forest.{nodeOf, nodesUnder, movedTo, laidOut}
 use Rattle.writer.proofs.Under.{count-under, under-other, under-own, none-named, none-sized, nothing-under, no-bytes, bytes-first}
 use Rattle.writer.proofs.Paths.{onward, Right, Older, Not, Distinct, each-onward, split, apart, new, distinct-onward, older-onward, closed, nothing-below, size-under}
@@ -54,7 +54,7 @@ module _ (g : ℕ → Forest) where
   rows-same g′ (x ∷ xs) row at h =
       rw (h .0) (ap (λ z. rows (g′ x) x row at ++ z) (rows-same g′ xs (row + nodes (g′ x)) (at + length (encode (g′ x))) (h .1)))
 
--- one row, and those behind it
+-- one row, and those after it
 module _ (s : List ℕ) (k : ℕ) (path : List ℕ) (r : Row) (rs : List Row) (w : Right k path (r ∷ rs))
     (d : Distinct path) (o : Each (Older k) path) (few : k + length (r ∷ rs) ≤ 1024) where
   abbrev g : ℕ → Forest
@@ -116,17 +116,17 @@ bytes-along s k path (r ∷ rs) w d o few c =
     let more = bytesAlong (nodesUnder s (suc k) rs) (w .1) in
     bytes-first s k r rs ∙ by-test (isKnown (r .kind))
     (λ t.
-    let size : sizeOf s k r rs ≡ 24 + length body + length (encode kids)
+    let size : nodeSize s k r rs ≡ 24 + length body + length (encode kids)
     = ap (λ n. 24 + length body + n) (size-under s (suc k) (onward k r (w .1)) rs (w .3) (older-onward k path r rs w o) (omega (arith, few)) k) in
     let children : r .children ≡ count kids = c .0 t ∙ sym (count-under s (suc k) rs k) in
-    ap (λ z. header (r .kind) (sizeOf s k r rs) (hashOf r) (r .properties) (r .children) ++ (body ++ z)) (rw t at ih)
+    ap (λ z. header (r .kind) (nodeSize s k r rs) (hashOf r) (r .properties) (r .children) ++ (body ++ z)) (rw t at ih)
     ∙ ap (λ z. header (r .kind) z (hashOf r) (r .properties) (r .children) ++ (body ++ (encode kids ++ (encode next ++ more)))) size
     ∙ ap (λ z. header (r .kind) (24 + length body + length (encode kids)) (hashOf r) (r .properties) z ++ (body ++ (encode kids ++ (encode next ++ more)))) children
     ∙ sym (bytes-split s k path r rs w d o few ∙ rw t (simp append-assoc)))
     (λ t.
     let none = none-sized s (suc k) rs k (nothing-below k path r rs w o few t) in
-    let size : sizeOf s k r rs ≡ 24 + length body = omega (arith, none) in
-    ap (λ z. header (r .kind) (sizeOf s k r rs) (hashOf r) (r .properties) (r .children) ++ (body ++ z)) (rw t at ih)
+    let size : nodeSize s k r rs ≡ 24 + length body = omega (arith, none) in
+    ap (λ z. header (r .kind) (nodeSize s k r rs) (hashOf r) (r .properties) (r .children) ++ (body ++ z)) (rw t at ih)
     ∙ ap (λ z. header (r .kind) z (hashOf r) (r .properties) (r .children) ++ (body ++ (encode next ++ more))) size
     ∙ sym (bytes-split s k path r rs w d o few ∙ rw t (simp append-assoc)))
 

@@ -10,17 +10,20 @@ use borrow.Author.Tests.{eqb-true, eqb-false}
 use Rattle.base.proofs.Tests.{by-test}
 use Rattle.kinds.specs.Kinds.{isKnown}
 use Rattle.table.specs.declared.Row.{Row}
+use Rattle.table.specs.declared.Which.the-variants.{All}
+use Rattle.table.proofs.Counts.{counted-other}
+use Rattle.table.specs.Counts.{countUnder}
 use Rattle.format.specs.Forest.{encode}
 use Rattle.base.specs.Lists.{Each}
 use Rattle.base.proofs.Lists.{each-append, each-map}
 use Rattle.format.proofs.Headers.{length-header}
 use Rattle.plan.specs.Plan.{naming}
-use Rattle.emit.specs.Emission.{under, sizes}
+use Rattle.emit.specs.Emission.{sizesUnder}
 use Rattle.emit.proofs.Sizes.{sized-own, sized-other}
 use Rattle.writer.specs.Forest.{nodesUnder}
-use Rattle.writer.proofs.Under.{named-other, under-other, none-sized, size-none, under-own}
+use Rattle.writer.proofs.Under.{under-other, none-sized, size-none, under-own}
 
--- the path behind row k, whose parent is on the path, with these above it
+-- the path after row k, whose parent is on the path, with these above it
 abbrev pub onward : (k : ℕ) → Row → (above : List ℕ) → List ℕ
 onward k r above = cond (isKnown (r .kind)) (k ∷ r .parent ∷ above) (r .parent ∷ above)
 
@@ -67,12 +70,12 @@ module _ (k : ℕ) (path : List ℕ) (r : Row) (rs : List Row) (w : Right k path
   pub new : (few : k < 1024) (q : ℕ) → Older k q → Not k q
   new few q h f = omega (arith, h (omega (arith, f)))
 
-  -- the path behind has no number twice, and none of the later rows
+  -- the path after it has no number twice, and none of the later rows
   pub distinct-onward : k < 1024 → Distinct path → Each (Older k) path → Distinct (onward k r (w .1))
   distinct-onward few d o =
-      let behind = apart d .0 in
+      let following = apart d .0 in
       let older = split (Older k) o .1 in
-      by-test (isKnown (r .kind)) (λ t. rw t (each-map (new few) rest older, behind)) (λ t. rw t behind)
+      by-test (isKnown (r .kind)) (λ t. rw t (each-map (new few) rest older, following)) (λ t. rw t following)
 
   pub older-onward : Each (Older k) path → Each (Older (suc k)) (onward k r (w .1))
   older-onward o =
@@ -81,12 +84,12 @@ module _ (k : ℕ) (path : List ℕ) (r : Row) (rs : List Row) (w : Right k path
 
 -- ---- a number that is not on the path is named by no later row
 pub closed : (k : ℕ) (path : List ℕ) (rs : List Row) → Right k path rs → (p : ℕ) → Each (Not p) path → Older k p → k + length rs ≤ 1024 → naming rs p ≡ 0
-unfolding naming
+unfolding countUnder
 closed k path [] w p n o few = refl
 closed k path (r ∷ rs) w p n o few =
     let here = split k path r rs w (Not p) n .1 in
     let new : Not p k = λ f. omega (arith, o (omega (arith, f))) in
-    named-other r rs p (here .0)
+    counted-other All r rs p (here .0)
     ∙ closed (suc k) (onward k r (w .1)) rs (w .3) p (each-onward (Not p) k r (w .1) (λ t. new) (here .0) (here .1)) (λ b. o (omega arith)) (omega (arith, few))
 
 -- ---- so what is under an unknown row is nothing, and sizes are those of the nodes' bytes
@@ -101,7 +104,7 @@ module _ (k : ℕ) (path : List ℕ) (r : Row) (rs : List Row) (w : Right k path
       (omega (arith, few))
 
 pub size-under : (s : List ℕ) (k : ℕ) (path : List ℕ) (rs : List Row) → Right k path rs → Each (Older k) path → k + length rs ≤ 1024
-    → (p : ℕ) → under p rs (sizes s k rs) ≡ length (encode (nodesUnder s k rs p))
+    → (p : ℕ) → sizesUnder s p k rs ≡ length (encode (nodesUnder s k rs p))
 size-under s k path [] w o few p = size-none s k p
 size-under s k path (r ∷ rs) w o few p =
     let ih = size-under s (suc k) (onward k r (w .1)) rs (w .3) (older-onward k path r rs w o) (omega (arith, few)) in

@@ -108,7 +108,7 @@ over-less base k path now h few v =
       later = each-append _ (v .top) (k ∷ []) .1 (each-map (λ q l. (omega (arith, l .0), l .1)) (v .top) (v .later), ((h, few), tt));
     }
 
--- ---- the rows of nodes side by side, and rows behind them
+-- ---- the rows of nodes side by side, and rows after them
 pub rows-parents : (f : Forest) (parent : Parent) (p base k at : ℕ) (path now : List ℕ) (rs : List Row) → WellFormed f → Tops parent f → Stand parent p path → Older base p
     → base ≤ k → Over base path now → k + nodes f ≤ 1024 → ((then : List ℕ) → Over base path then → Parents (k + nodes f) then rs)
     → Parents k now (rows f p k at ++ rs)

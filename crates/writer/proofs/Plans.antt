@@ -3,29 +3,27 @@
 use Prim.Native.Nat.{ℕ, suc, _+_, _-_, _^_, _≤_, _<_}
 use native.Mathlib.Omega.{arith}
 use mathlib.Core.Path.{_≡_, refl, ap, sym, subst, _∙_}
-use mathlib.Core.Bool.{Bool, true, false, _||_, true≢false, and-eq-true-iff}
 use mathlib.Core.List.{List, [], _∷_, _++_, map, append-assoc, append-nil}
-use lib.Dec.{eqb, ltb}
-use lib.ListN.{length, take, drop, length-append, length-drop}
-use lib.Seq.{take-length, length-take-le}
-use borrow.Author.Tests.{eqb-true, eqb-false, le-ltb, ltb-false}
+use lib.Dec.{eqb}
+use lib.ListN.{length, take, drop, length-append}
+use borrow.Author.Tests.{eqb-true, eqb-false}
 use Rattle.le.specs.Le.{AreBytes}
 use Rattle.le.proofs.Laws.{bytes-take, bytes-drop}
 use Rattle.base.proofs.Tests.{by-test}
 use Rattle.kinds.specs.Kinds.{root, isKnown}
 use Rattle.table.specs.declared.Row.{Row}
 use Rattle.table.specs.Table.{noParent}
-use Rattle.body.specs.Body.{properties, exactly}
+use Rattle.body.specs.Body.{properties}
+use Rattle.format.proofs.Rows.{not-outside, length-body, part, length-rows}
+use Rattle.format.proofs.Bodies.{exactly-good}
 use Rattle.format.specs.Forest.{end, count, header, encode, fileHeader, fileOf}
 use Rattle.format.specs.Rows.{rowsOf, hashOf, bodyOf, ownBytes}
 use Rattle.base.specs.Lists.{Each}
-use Rattle.format.specs.Layout.{GoodBody, WellFormed, WellFormedFile, Few}
+use Rattle.format.specs.Layout.{WellFormed, WellFormedFile, Few}
 use Rattle.base.proofs.Lists.{each-both, each-map}
 use Rattle.format.proofs.Headers.{length-header, length-fileHeader}
-use Rattle.format.proofs.Rows.{part, length-rows}
-use Rattle.format.proofs.Bodies.{body-sound}
-use Rattle.plan.specs.Plan.{outside, judged}
-use Rattle.emit.specs.Emission.{sizeOf, nodesBytes, roots, fileBytes}
+use Rattle.plan.specs.Plan.{planRefusal}
+use Rattle.emit.specs.Emission.{nodeSize, nodesBytes, roots, fileBytes}
 use Rattle.emit.proofs.Whole.{length-fileBytes}
 use Rattle.writer.specs.Forest.{nodesUnder, forestOf, laidOut}
 use Rattle.writer.proofs.Under.{count-under, under-own, under-other, nothing-under, bytes-first}
@@ -46,19 +44,8 @@ pub record Wide (r : Row) : Type 0 where
 wide-hash : (r : Row) → Wide r → hashOf r < 256 ^ 8
 wide-hash r w = omega (arith, w .low, w .high)
 
-bytes-body : (s : List ℕ) (r : Row) → AreBytes s → AreBytes (bodyOf s r)
+pub bytes-body : (s : List ℕ) (r : Row) → AreBytes s → AreBytes (bodyOf s r)
 bytes-body s r h = bytes-take (r .end - r .start) (drop (r .start) s) (bytes-drop (r .start) s h)
-
-pub exactly-good : (s : List ℕ) (r : Row) → AreBytes s → exactly (bodyOf s r) (r .properties) ≡ true → GoodBody (r .properties) (bodyOf s r)
-unfolding exactly
-exactly-good s r bytes e =
-    let body = bodyOf s r in
-    let k = r .properties in
-    let both = and-eq-true-iff (eqb (properties body k .number) 0) (eqb (properties body k .at) (length body)) .0 e in
-    let done = eqb-true (properties body k .number) 0 (both .0) in
-    let whole = eqb-true (properties body k .at) (length body) (both .1) in
-    subst (GoodBody k) (take-length body)
-    (subst (λ n. GoodBody k (take n body)) whole (body-sound body k (bytes-body s r bytes) done))
 
 pub under-wellFormed : (s : List ℕ) (k : ℕ) (path : List ℕ) (rs : List Row) → Right k path rs → Distinct path → Each (Older k) path → k + length rs ≤ 1024 → Counts k rs
     → AreBytes s → Each Wide rs → Each (Fitting s) rs → length (nodesBytes s k rs) ≤ 16777216 → (p : ℕ) → WellFormed (nodesUnder s k rs p)
@@ -84,7 +71,7 @@ under-wellFormed s k path (r ∷ rs) w d o few c bytes wide fit short p =
       u,
       (wide .0 .kind, omega (arith, long, short, below), wide-hash r (wide .0), wide .0 .properties, subst (λ n. n < 256 ^ 4) children (wide .0 .children)),
       own,
-      exactly-good s r bytes (fit .0 .1 u),
+      exactly-good (r .properties) (bodyOf s r) (bytes-body s r bytes) (fit .0 .1 u),
       ih k,
       ih p,
     ))
@@ -102,7 +89,7 @@ pub laid-bodies : (s file pre : List ℕ) (k at : ℕ) (rs : List Row) → Each 
 laid-bodies s file pre k at [] w e a = rw (none-laid at)
 laid-bodies s file pre k at (r ∷ rs) w e a =
     let body = bodyOf s r in
-    let hd = header (r .kind) (sizeOf s k r rs) (hashOf r) (r .properties) (r .children) in
+    let hd = header (r .kind) (nodeSize s k r rs) (hashOf r) (r .properties) (r .children) in
     let rest = nodesBytes s (suc k) rs in
     let e0 = e ∙ ap (λ z. pre ++ z) (bytes-first s k r rs) in
     let e1 : file ≡ (pre ++ hd) ++ (body ++ rest) = e0 ∙ simp append-assoc in
@@ -120,26 +107,14 @@ length-laid at [] = refl
 length-laid at (r ∷ rs) = ap suc (length-laid (at + ownBytes r) rs)
 
 -- a row that is not outside has all of its body
-or-eq-false : (a b : Bool) → (a || b) ≡ false → (a ≡ false) × (b ≡ false)
-or-eq-false false b e = (refl, e)
-or-eq-false true b e = absurd (true≢false e)
-
 abbrev pub Inside : (s : List ℕ) → Row → Type 0
 Inside s r = (r .start ≤ r .end) × (r .end ≤ length s)
 
-pub not-outside : (s : List ℕ) (r : Row) → outside (length s) r ≡ false → Inside s r
-not-outside s r e =
-    let inside = or-eq-false (ltb (r .end) (r .start)) (ltb (length s) (r .end)) e in
-    (ltb-false (r .end) (r .start) (inside .0), ltb-false (length s) (r .end) (inside .1))
-
-pub is-inside : (s : List ℕ) (r : Row) → Inside s r → outside (length s) r ≡ false
-is-inside s r i = rw (le-ltb (r .end) (r .start) (i .0), le-ltb (length s) (r .end) (i .1))
-
 pub fitting-inside : (s : List ℕ) (r : Row) → Fitting s r → Inside s r
-fitting-inside s r f = not-outside s r (f .0)
+fitting-inside s r f = not-outside (length s) r (f .0)
 
 pub whole-body : (s : List ℕ) (r : Row) → Inside s r → Whole s r
-whole-body s r inside = length-take-le (r .end - r .start) (drop (r .start) s) (rw length-drop (omega (arith, inside .1)))
+whole-body s r inside = length-body s r (inside .1)
 
 roots-few : (rs : List Row) → roots rs ≤ length rs
 unfolding roots
@@ -147,7 +122,7 @@ roots-few [] = omega arith
 roots-few (r ∷ rs) = let ih = roots-few rs in by-test (eqb (r .kind) root) (λ t. rw t (omega (arith, ih))) (λ t. rw t (omega (arith, ih)))
 
 -- ---- the whole plan
-module _ (flags : ℕ) (s : List ℕ) (rs : List Row) (few : length rs ≤ 1024) (right : judged s rs .number ≡ 0) where
+module _ (flags : ℕ) (s : List ℕ) (rs : List Row) (few : length rs ≤ 1024) (right : planRefusal s rs .number ≡ 0) where
   parts : Parents 0 [] rs × Each (Fitting s) rs × Named rs 0 rs
   parts = judged-parts s rs right
 

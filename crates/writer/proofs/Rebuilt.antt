@@ -2,33 +2,34 @@
 use Prim.Native.Nat.{ℕ, suc, _+_, _≤_, _<_}
 use native.Mathlib.Omega.{arith}
 use mathlib.Core.Path.{_≡_, refl, ap, sym, subst, _∙_}
-use mathlib.Core.Logic.{inl, inr}
 use mathlib.Core.Bool.{true, false, true≢false}
-use mathlib.Core.List.{List, [], _∷_, _++_, append-assoc, append-nil}
+use mathlib.Core.List.{List, [], _∷_, _++_, append-assoc}
 use lib.Dec.{eqb}
 use lib.ListN.{length, length-append}
-use borrow.Author.Tests.{eq-eqb, eqb-true, eqb-false, ne-eqb, le-ltb}
+use borrow.Author.Tests.{eqb-true, eqb-false, le-ltb}
 use Rattle.base.proofs.Tests.{by-test}
 use Rattle.kinds.specs.Kinds.{isKnown}
 use Rattle.table.specs.declared.Row.{Row}
+use Rattle.table.specs.declared.Which.the-variants.{All}
+use Rattle.table.proofs.Counts.{counted-append}
 use Rattle.body.specs.Body.{properties, exactly}
 use Rattle.format.specs.Forest.{Forest, end, known, unknown, count, nodes, header, encode}
-use Rattle.format.specs.Rows.{nodeRow, rows, bodyOf}
+use Rattle.format.specs.Rows.{nodeRow, rows, bodyOf, outside}
 use Rattle.base.specs.Lists.{Each}
-use Rattle.format.specs.Layout.{GoodBody, WellFormed}
-use Rattle.base.proofs.Lists.{each-append, each-map}
+use Rattle.format.specs.Layout.{WellFormed}
+use Rattle.base.proofs.Lists.{each-append}
 use Rattle.format.proofs.Headers.{length-header}
 use Rattle.format.proofs.Rows.{hash-back, part, length-rows}
-use Rattle.format.proofs.Bodies.{body-good}
-use Rattle.format.proofs.Within.{Under, rows-under}
-use Rattle.plan.specs.Plan.{outside, naming}
+use Rattle.format.proofs.Within.{rows-none}
+use Rattle.format.proofs.Bodies.{good-exactly}
+use Rattle.plan.specs.Plan.{naming}
 use Rattle.writer.specs.Forest.{nodeOf, nodesUnder}
 use Rattle.writer.proofs.Under.{count-under, under-other, under-own, none-named, nothing-under}
 use Rattle.writer.proofs.Paths.{Older}
 use Rattle.writer.proofs.Order.{Counts}
 use Rattle.writer.proofs.Judged.{Fitting}
 
--- ---- rows behind rows
+-- ---- rows after rows
 
 -- nodes, and others next to the last of them
 graft : Forest → Forest → Forest
@@ -49,12 +50,6 @@ graft-node s r kids next g = by-test (isKnown (r .kind)) (λ t. rw t) (λ t. rw 
 graft-none : (g : Forest) → graft end g ≡ g
 unfolding graft
 graft-none g = refl
-
-naming-append : (xs ys : List Row) (q : ℕ) → naming (xs ++ ys) q ≡ naming xs q + naming ys q
-unfolding naming
-naming-append [] ys q = omega arith
-naming-append (x ∷ xs) ys q =
-    by-test (eqb (x .parent) q) (λ t. rw (t, naming-append xs ys q) (omega arith)) (λ t. rw (t, naming-append xs ys q))
 
 -- later rows that are under none of these
 abbrev Apart : (k : ℕ) (xs ys : List Row) → Type 0
@@ -84,35 +79,16 @@ under-append s k (x ∷ xs) ys a q =
     under-other s k x (xs ++ ys) q e ∙ ih q ∙ ap (λ f. graft f (nodesUnder s (k + suc (length xs)) ys q)) (sym (under-other s k x xs q e)))
 
 counts-append : (k : ℕ) (xs ys : List Row) → Apart k xs ys → Counts k xs → Counts (k + length xs) ys → Counts k (xs ++ ys)
-counts-append k [] ys a c d = rw (zero-behind k) at d
+counts-append k [] ys a c d = rw (zero-after k) at d
   where
-    zero-behind : (k : ℕ) → k + 0 ≡ k
-    zero-behind k = omega arith
+    zero-after : (k : ℕ) → k + 0 ≡ k
+    zero-after k = omega arith
 counts-append k (x ∷ xs) ys a c d =
     let n : k + suc (length xs) ≡ suc k + length xs = omega arith in
     let none : naming xs k + naming ys k ≡ naming xs k = omega (arith, a k (omega arith) (omega arith)) in
-    (λ t. c .0 t ∙ sym (naming-append xs ys k ∙ none), counts-append (suc k) xs ys (λ j b e. a j (omega arith) (omega (arith, e))) (c .1) (rw n at d))
+    (λ t. c .0 t ∙ sym (counted-append All xs ys k ∙ none), counts-append (suc k) xs ys (λ j b e. a j (omega arith) (omega (arith, e))) (c .1) (rw n at d))
 
 -- ---- the rows of a forest
-
--- no row of a forest names another number than its parent's or one of its rows
-none-names : (j : ℕ) (rs : List Row) → Each (λ r. r .parent ≡ j → ⊥) rs → naming rs j ≡ 0
-unfolding naming
-none-names j [] h = refl
-none-names j (r ∷ rs) h = rw (ne-eqb (r .parent) j (h .0)) (none-names j rs (h .1))
-
-rows-names : (f : Forest) (p k at j : ℕ) → (p ≡ j → ⊥) → (k ≤ j → k + nodes f ≤ j) → naming (rows f p k at) j ≡ 0
-rows-names f p k at j n o = none-names j (rows f p k at) (each-map other (rows f p k at) (rows-under f p k at))
-  where
-    other : (r : Row) → Under p k (nodes f) r → r .parent ≡ j → ⊥
-    other r (inl e) h = n (sym e ∙ h)
-    other r (inr e) h = omega (arith, e .0, e .1, h, o (omega (arith, e .0, h)))
-
-pub good-exactly : (p : ℕ) (body : List ℕ) → GoodBody p body → exactly body p ≡ true
-unfolding exactly
-good-exactly p body good =
-    let e = rw (append-nil body) at (body-good p body [] good) in
-    rw (eq-eqb (properties body p .number) 0 (e .0), eq-eqb (properties body p .at) (length body) (e .1))
 
 pub record Rebuilt (s : List ℕ) (f : Forest) (p k at : ℕ) : Type 0 where
   pub same : nodesUnder s k (rows f p k at) p ≡ f
@@ -153,19 +129,19 @@ rebuilt s (known kind h ps body kids next) pre post p k at well e a o few =
     let is = row-body s (pre ++ hd) body (encode kids ++ (encode next ++ post)) kind h p at ps (count kids) e1 a1 in
     let long : length below ≡ nodes kids = length-rows kids k (suc k) here in
     let apart : Apart (suc k) below beside
-    = λ j b c. rows-names next p (suc k + nodes kids) there j (λ q. omega (arith, o (omega (arith, q)), c, long, q, few)) (λ q. absurd (omega (arith, q, c, long))) in
+    = λ j b c. rows-none All next p (suc k + nodes kids) there j (λ q. omega (arith, o (omega (arith, q)), c, long, q, few)) (λ q. absurd (omega (arith, q, c, long))) in
     let numbered : suc k + length below ≡ suc k + nodes kids = omega (arith, long) in
-    let behind : (q : ℕ) → nodesUnder s (suc k) (below ++ beside) q ≡ graft (nodesUnder s (suc k) below q) (nodesUnder s (suc k + nodes kids) beside q)
+    let following : (q : ℕ) → nodesUnder s (suc k) (below ++ beside) q ≡ graft (nodesUnder s (suc k) below q) (nodesUnder s (suc k + nodes kids) beside q)
     = λ q. under-append s (suc k) below beside apart q ∙ ap (λ n. graft (nodesUnder s (suc k) below q) (nodesUnder s n beside q)) numbered in
-    let no-k : naming beside k ≡ 0 = rows-names next p (suc k + nodes kids) there k (λ q. omega (arith, o (omega (arith, q)), q, few)) (λ q. absurd (omega (arith, q))) in
-    let no-p : naming below p ≡ 0 = rows-names kids k (suc k) here p (λ q. omega (arith, o (omega (arith, q)), q, few)) (λ q. omega (arith, o (omega (arith, q)), few)) in
+    let no-k : naming beside k ≡ 0 = rows-none All next p (suc k + nodes kids) there k (λ q. omega (arith, o (omega (arith, q)), q, few)) (λ q. absurd (omega (arith, q))) in
+    let no-p : naming below p ≡ 0 = rows-none All kids k (suc k) here p (λ q. omega (arith, o (omega (arith, q)), q, few)) (λ q. omega (arith, o (omega (arith, q)), few)) in
     let the-kids : nodesUnder s (suc k) (below ++ beside) k ≡ kids
-    = behind k ∙ ap (graft (nodesUnder s (suc k) below k)) (none-named s (suc k + nodes kids) beside k no-k) ∙ graft-end (nodesUnder s (suc k) below k) ∙ ih-kids .same in
+    = following k ∙ ap (graft (nodesUnder s (suc k) below k)) (none-named s (suc k + nodes kids) beside k no-k) ∙ graft-end (nodesUnder s (suc k) below k) ∙ ih-kids .same in
     let the-next : nodesUnder s (suc k) (below ++ beside) p ≡ next
-    = behind p ∙ ap (λ f. graft f (nodesUnder s (suc k + nodes kids) beside p)) (none-named s (suc k) below p no-p) ∙ graft-none _ ∙ ih-next .same in
+    = following p ∙ ap (λ f. graft f (nodesUnder s (suc k + nodes kids) beside p)) (none-named s (suc k) below p no-p) ∙ graft-none _ ∙ ih-next .same in
     let node : nodeOf s r kids next ≡ known kind h ps body kids next = rw (well .0, is, hash-back h) in
     let all : naming (below ++ beside) k ≡ count kids
-    = naming-append below beside k ∙ (let own = sym (count-under s (suc k) below k) ∙ ap count (ih-kids .same) in omega (arith, own, no-k)) in
+    = counted-append All below beside k ∙ (let own = sym (count-under s (suc k) below k) ∙ ap count (ih-kids .same) in omega (arith, own, no-k)) in
     record {
       same = under-own s k r (below ++ beside) p refl ∙ ap (λ f. nodeOf s r f (nodesUnder s (suc k) (below ++ beside) p)) the-kids ∙ ap (nodeOf s r kids) the-next ∙ node;
       fitting = (

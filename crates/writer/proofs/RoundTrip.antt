@@ -1,11 +1,12 @@
 -- Demand 2, second half: write after read, and read after write.
-use Prim.Native.Nat.{ℕ, zero, suc, _+_, _-_, _≤_, _<_}
+use Prim.Native.Nat.{ℕ, _+_, _-_, _≤_, _<_}
 use native.Mathlib.Omega.{arith}
 use mathlib.Core.Path.{_≡_, refl, ap, sym, subst, _∙_}
 use mathlib.Core.Logic.{_⊎_, inl, inr}
 use mathlib.Core.List.{List, [], _∷_, _++_, map, append-nil}
 use lib.ListN.{length, take, drop}
 use lib.Seq.{take-at}
+use Rattle.base.specs.Refusals.{noRefusal}
 use Rattle.base.proofs.Tests.{by-test}
 use Rattle.kinds.specs.declared.Parent.the-variants.{None}
 use Rattle.table.specs.declared.Row.{Row}
@@ -21,19 +22,17 @@ use Rattle.format.proofs.Rows.{length-rows}
 use Rattle.walk.specs.Walk.{walkOf, limited, flagsOf}
 use Rattle.walk.proofs.Laws.{limited-is}
 use Rattle.walk.proofs.Complete.{complete, others, walked-back}
-use Rattle.plan.specs.declared.Judged.{Judged}
-use Rattle.plan.specs.Plan.{judged}
+use Rattle.base.specs.declared.Refusal.{Refusal}
+use Rattle.plan.specs.Plan.{planRefusal}
 use Rattle.emit.specs.declared.Written.{Written}
-use Rattle.emit.specs.Emission.{done, fileBytes, leftBy}
+use Rattle.emit.specs.Emission.{writingDone, fileBytes, outputLeft}
 use Rattle.valid.specs.Valid.{Valid}
 use Rattle.reader.specs.declared.Account.{Account}
-use Rattle.reader.specs.declared.Reading.{Reading}
 use Rattle.reader.specs.declared.Reading.the-variants.{Accepted, Refused}
 use Rattle.reader.specs.Reading.{readingOf, tableAfter, verdict, checked}
-use Rattle.reader.specs.Reading.{byNumber as byNumberOf}
 use Rattle.reader.proofs.Accepted.{nodes-are, flags-are, table-left}
 use Rattle.reader.proofs.Exactly.{verdict-valid, in-room, has-room, accepted-parts, answersTheRules}
-use Rattle.reader.proofs.Numbers.{numberOf, checked-told}
+use Rattle.reader.proofs.Numbers.{numberOf, by-stage, checked-told}
 use Rattle.table.proofs.Rests.{length-rowsAt}
 use Rattle.reader.proofs.Whole.{short-table}
 use Rattle.writer.specs.Writer.{planRows, writtenOf, outputAfter}
@@ -70,7 +69,7 @@ module _ (plan s : List ℕ) (flags : ℕ) (file : List ℕ) (w : Wrote plan s f
   low = each-map (λ r x. x .low) rs wide
 
   put : outputAfter plan s flags (w .out) ≡ bytes ++ drop (length bytes) (w .out)
-  unfolding outputAfter leftBy
+  unfolding outputAfter outputLeft
   put = rw (w .success)
 
   is-bytes : file ≡ bytes
@@ -145,15 +144,11 @@ module _ (plan s : List ℕ) (flags : ℕ) (file t : List ℕ) (w : Wrote plan s
       by (inl e) = ap (λ b. walkOf b .number) (enc .encoding) ∙ e
       by (inr e) = absurd (e .1 (enc .few))
 
-  by-stages : (m at : ℕ) (next : Reading) {n place : ℕ} → m ≡ walkOf file .number → (next ≡ Refused n place → Told n) → byNumberOf m at next ≡ Refused n place → Told n
-  by-stages zero at next e on r = on r
-  by-stages (suc m) at next e on r =
-      inr (inl (ap numberOf (sym r) ∙ e ∙ not-walked (λ z. omega (arith, e, z))))
-
   verdict-told : {n place : ℕ} → verdict file ≡ Refused n place → Told n
   unfolding verdict
   verdict-told {n} {place} r =
-      by-stages (limited file .number) (limited file .at) (checked file (limited file .rows)) (ap (λ x. x .number) is-walk)
+      let number = ap (λ x. x .number) is-walk in
+      by-stage Told (limited file .number) (limited file .at) (checked file (limited file .rows)) (λ h. inr (inl (number ∙ not-walked (λ z. h (number ∙ z)))))
       (λ c. inr (inr (checked-told file (limited file .rows) n place c)))
       r
 
@@ -194,16 +189,16 @@ module _ (s : List ℕ) (flags : ℕ) (f : Forest) (v : Valid flags f) (e : s �
       let path = parents-right 0 [] rows-of parents tt (omega (arith, forest-few)) in
       named-counts rows-of 0 (noParent ∷ []) rows-of path (λ b. omega arith, tt) (omega (arith, forest-few)) (λ j a b. refl) .1 (back .counts)
 
-  pub is-right : judged s rows-of ≡ record { number = 0; row = 0 }
-  unfolding judged
+  pub is-right : planRefusal s rows-of ≡ noRefusal
+  unfolding planRefusal
   is-right = each-judged s rows-of 0 [] rows-of parents (back .fitting) named
 
   pub same-bytes : fileBytes flags s rows-of ≡ s
-  same-bytes = plan-bytes flags s rows-of forest-few (ap (λ (j : Judged). j .number) is-right) ∙ ap (fileOf flags) (back .same) ∙ sym e
+  same-bytes = plan-bytes flags s rows-of forest-few (ap (λ (j : Refusal). j .number) is-right) ∙ ap (fileOf flags) (back .same) ∙ sym e
 
-output-done : (plan s : List ℕ) (flags : ℕ) (out : List ℕ) → writtenOf plan s flags (length out) ≡ done (length s) → fileBytes flags s (planRows plan) ≡ s
+output-done : (plan s : List ℕ) (flags : ℕ) (out : List ℕ) → writtenOf plan s flags (length out) ≡ writingDone (length s) → fileBytes flags s (planRows plan) ≡ s
     → outputAfter plan s flags out ≡ s ++ drop (length s) out
-unfolding outputAfter leftBy
+unfolding outputAfter outputLeft
 output-done plan s flags out w e = rw (w, e)
 
 pub writeAfterRead : WriteAfterRead
@@ -216,11 +211,11 @@ writeAfterRead s t out a are r room =
     = ap (λ u. firstRows u (a .nodes)) (answer .2) ∙ ap (firstRows (filled rs t)) (answer .1 .nodes) ∙ first-filled t rs in
     let few = forest-few s (valid .flags) f (valid .valid) (valid .bytes) in
     let rows-are : planRows (flat rs) ≡ rs = ap (rowsAt (flat rs) 0) (count-flat rs) ∙ rows-flat rs in
-    let right : judged s (planRows (flat rs)) .number ≡ 0
-    = ap (λ l. judged s l .number) rows-are ∙ ap (λ (j : Judged). j .number) (is-right s (valid .flags) f (valid .valid) (valid .bytes)) in
+    let right : planRefusal s (planRows (flat rs)) .number ≡ 0
+    = ap (λ l. planRefusal s l .number) rows-are ∙ ap (λ (j : Refusal). j .number) (is-right s (valid .flags) f (valid .valid) (valid .bytes)) in
     let file : fileBytes (valid .flags) s (planRows (flat rs)) ≡ s = ap (fileBytes (valid .flags) s) rows-are ∙ same-bytes s (valid .flags) f (valid .valid) (valid .bytes) in
     let short : length s ≤ 16777216 = subst (λ l. length l ≤ 16777216) (sym (valid .bytes)) (valid .valid .short) in
-    let written : writtenOf (flat rs) s (valid .flags) (length out) ≡ done (length s)
+    let written : writtenOf (flat rs) s (valid .flags) (length out) ≡ writingDone (length s)
     = goes-on (flat rs) s (valid .flags) (length out) (plan-flat rs few) right ∙ emission-done (valid .flags) s (planRows (flat rs)) (length out) (length s) (ap length file) short room in
     let output = output-done (flat rs) s (valid .flags) out written file in (
       ap (λ p. writtenOf p s (a .flags) (length out)) plan ∙ ap (λ g. writtenOf (flat rs) s g (length out)) (answer .0) ∙ written,

@@ -9,24 +9,20 @@ use borrow.Author.Tests.{eq-eqb, ne-eqb}
 use Rattle.base.proofs.Tests.{by-test}
 use Rattle.kinds.specs.Kinds.{isKnown}
 use Rattle.table.specs.declared.Row.{Row}
+use Rattle.table.specs.Counts.{countUnder}
 use Rattle.format.specs.Forest.{Forest, end, known, unknown, count, encode, header}
 use Rattle.plan.specs.Plan.{naming}
 use Rattle.format.specs.Rows.{hashOf, bodyOf}
-use Rattle.emit.specs.Emission.{under, sizes, sizeOf, nodesBytes}
+use Rattle.emit.specs.Emission.{sizesUnder, nodeSize, nodesBytes}
 use Rattle.writer.specs.Forest.{nodeOf, nodesUnder}
 
 pub count-under : (s : List ℕ) (k : ℕ) (rs : List Row) (p : ℕ) → count (nodesUnder s k rs p) ≡ naming rs p
-unfolding nodesUnder naming
+unfolding nodesUnder countUnder
 count-under s k [] p = refl
 count-under s k (r ∷ rs) p =
     by-test (eqb (r .parent) p)
     (λ t. rw t (by-test (isKnown (r .kind)) (λ u. rw u (ap suc (count-under s (suc k) rs p))) (λ u. rw u (ap suc (count-under s (suc k) rs p)))))
     (λ t. rw t (count-under s (suc k) rs p))
-
--- where no row names the parent
-pub named-other : (r : Row) (rs : List Row) (p : ℕ) → (r .parent ≡ p → ⊥) → naming (r ∷ rs) p ≡ naming rs p
-unfolding naming
-named-other r rs p n = rw (ne-eqb (r .parent) p n)
 
 pub under-other : (s : List ℕ) (k : ℕ) (r : Row) (rs : List Row) (p : ℕ) → (r .parent ≡ p → ⊥) → nodesUnder s k (r ∷ rs) p ≡ nodesUnder s (suc k) rs p
 unfolding nodesUnder
@@ -45,17 +41,17 @@ pub none-named : (s : List ℕ) (k : ℕ) (rs : List Row) (p : ℕ) → naming r
 none-named s k rs p e = count-none (nodesUnder s k rs p) (count-under s k rs p ∙ e)
 
 -- the sizes of what is under a parent
-pub size-none : (s : List ℕ) (k p : ℕ) → under p [] (sizes s k []) ≡ length (encode (nodesUnder s k [] p))
-unfolding under nodesUnder
+pub size-none : (s : List ℕ) (k p : ℕ) → sizesUnder s p k [] ≡ length (encode (nodesUnder s k [] p))
+unfolding sizesUnder nodesUnder
 size-none s k p = refl
 
-pub none-sized : (s : List ℕ) (k : ℕ) (rs : List Row) (p : ℕ) → naming rs p ≡ 0 → under p rs (sizes s k rs) ≡ 0
-unfolding naming under sizes
+pub none-sized : (s : List ℕ) (k : ℕ) (rs : List Row) (p : ℕ) → naming rs p ≡ 0 → sizesUnder s p k rs ≡ 0
+unfolding countUnder sizesUnder
 none-sized s k [] p e = refl
 none-sized s k (r ∷ rs) p e =
     by-test (eqb (r .parent) p)
     (λ t. absurd (omega (arith, rw t at e)))
-    (λ t. rw t (none-sized s (suc k) rs p (rw t at e)))
+    (λ t. rw t (omega (arith, none-sized s (suc k) rs p (rw t at e))))
 
 -- ---- the definitions, opened
 pub nothing-under : (s : List ℕ) (k p : ℕ) → nodesUnder s k [] p ≡ end
@@ -67,6 +63,6 @@ unfolding nodesBytes
 no-bytes s k = refl
 
 pub bytes-first : (s : List ℕ) (k : ℕ) (r : Row) (rs : List Row)
-    → nodesBytes s k (r ∷ rs) ≡ header (r .kind) (sizeOf s k r rs) (hashOf r) (r .properties) (r .children) ++ (bodyOf s r ++ nodesBytes s (suc k) rs)
+    → nodesBytes s k (r ∷ rs) ≡ header (r .kind) (nodeSize s k r rs) (hashOf r) (r .properties) (r .children) ++ (bodyOf s r ++ nodesBytes s (suc k) rs)
 unfolding nodesBytes
 bytes-first s k r rs = refl

@@ -9,43 +9,46 @@ use native.Mathlib.Decide.{ℕ-discrete}
 use lib.Dec.{eqb, leb}
 use lib.ListN.{length}
 use borrow.Author.Tests.{eq-eqb, ne-eqb, eqb-true, le-leb}
+use Rattle.base.specs.Refusals.{noRefusal}
 use Rattle.le.specs.Le.{AreBytes}
 use Rattle.table.specs.declared.Row.{Row}
 use Rattle.table.specs.Table.{rowCount, isPlan}
 use Rattle.table.proofs.Rests.{length-rowsAt}
+use Rattle.table.specs.Counts.{countUnder}
 use Rattle.body.specs.Body.{exactly}
 use Rattle.format.specs.Rows.{bodyOf, allOwnBytes}
 use Rattle.base.specs.Lists.{Each}
 use Rattle.base.proofs.Lists.{each-map}
-use Rattle.plan.specs.declared.Judged.{Judged}
-use Rattle.plan.specs.Plan.{naming, judged}
+use Rattle.base.specs.declared.Refusal.{Refusal}
+use Rattle.plan.specs.Plan.{naming, planRefusal}
 use Rattle.emit.specs.Emission.{fileBytes}
 use Rattle.emit.proofs.Sizes.{owns, length-nodesBytes}
 use Rattle.emit.proofs.Whole.{length-fileBytes}
 use Rattle.writer.specs.Writer.{planRows, writtenOf}
 use Rattle.writer.specs.RoundTrip.{AreNumbers}
-use Rattle.writer.specs.Writable.{rowOf, IsKnown, rowsNaming, RightRow, Writable, WritesExactly, Described, WritableEncodes}
+use Rattle.writer.specs.Writable.{nthRow, IsKnown, rowsNaming, RightRow, Writable, WritesExactly, Described, WritableEncodes}
 use Rattle.writer.proofs.Order.{Whole}
 use Rattle.writer.proofs.Judged.{Fitting, Named, judged-parts, each-judged}
-use Rattle.writer.proofs.Rebuilt.{good-exactly}
+use Rattle.format.proofs.Rows.{is-inside}
+use Rattle.format.proofs.Bodies.{good-exactly, exactly-good}
 use Rattle.writer.proofs.Ancestors.{parents-are}
-use Rattle.writer.proofs.Plans.{Inside, is-inside, exactly-good, fitting-inside, whole-body, plan-bytes, plan-rows, plan-few, plan-wellFormed}
+use Rattle.writer.proofs.Plans.{bytes-body, Inside, fitting-inside, whole-body, plan-bytes, plan-rows, plan-few, plan-wellFormed}
 use Rattle.writer.proofs.Writing.{count-few, goes-on, emission-done}
 use Rattle.writer.proofs.Written.{number, written-right, rows-few, wide-rows}
 
 -- ---- what holds of each row, by its number
-each-at : (P : Row → Type 0) (rs : List Row) → Each P rs → (k : ℕ) → k < length rs → P (rowOf rs k)
+each-at : (P : Row → Type 0) (rs : List Row) → Each P rs → (k : ℕ) → k < length rs → P (nthRow rs k)
 each-at P [] h k b = absurd (omega (arith, b))
 each-at P (r ∷ rs) h zero b = h .0
 each-at P (r ∷ rs) h (suc k) b = each-at P rs (h .1) k (omega (arith, b))
 
-pub at-each : (P : Row → Type 0) (rs : List Row) → ((k : ℕ) → k < length rs → P (rowOf rs k)) → Each P rs
+pub at-each : (P : Row → Type 0) (rs : List Row) → ((k : ℕ) → k < length rs → P (nthRow rs k)) → Each P rs
 at-each P [] h = tt
 at-each P (r ∷ rs) h = (h 0 (omega arith), at-each P rs (λ k b. h (suc k) (omega (arith, b))))
 
 -- ---- the rows naming a row
 pub naming-filter : (rs : List Row) (k : ℕ) → naming rs k ≡ length (rowsNaming rs k)
-unfolding naming
+unfolding countUnder
 naming-filter [] k = refl
 naming-filter (r ∷ rs) k = by (ℕ-discrete (r .parent) k) (naming-filter rs k)
   where
@@ -55,12 +58,12 @@ naming-filter (r ∷ rs) k = by (ℕ-discrete (r .parent) k) (naming-filter rs k
     by (no n) ih = rw (ne-eqb (r .parent) k n) ih
 
 module _ (all : List Row) where
-  named-at : (k : ℕ) (rs : List Row) → Named all k rs → (i : ℕ) → i < length rs → IsKnown (rowOf rs i) → rowOf rs i .children ≡ naming all (k + i)
+  named-at : (k : ℕ) (rs : List Row) → Named all k rs → (i : ℕ) → i < length rs → IsKnown (nthRow rs i) → nthRow rs i .children ≡ naming all (k + i)
   named-at k [] h i b t = absurd (omega (arith, b))
   named-at k (r ∷ rs) h zero b t = h .0 t ∙ ap (naming all) (omega arith)
   named-at k (r ∷ rs) h (suc i) b t = named-at (suc k) rs (h .1) i (omega (arith, b)) t ∙ ap (naming all) (omega arith)
 
-  at-named : (k : ℕ) (rs : List Row) → ((i : ℕ) → i < length rs → IsKnown (rowOf rs i) → rowOf rs i .children ≡ naming all (k + i)) → Named all k rs
+  at-named : (k : ℕ) (rs : List Row) → ((i : ℕ) → i < length rs → IsKnown (nthRow rs i) → nthRow rs i .children ≡ naming all (k + i)) → Named all k rs
   at-named k [] h = tt
   at-named k (r ∷ rs) h =
       (λ t. h 0 (omega arith) t ∙ ap (naming all) (omega arith), at-named (suc k) rs (λ i b t. h (suc i) (omega (arith, b)) t ∙ ap (naming all) (omega arith)))
@@ -76,7 +79,7 @@ file-long flags s rs h =
     omega (arith, length-fileBytes flags s rs, length-nodesBytes s 0 rs, owns-all s rs (each-map (whole-body s) rs h))
 
 inside-fitting : (s : List ℕ) (r : Row) → Inside s r → (IsKnown r → exactly (bodyOf s r) (r .properties) ≡ true) → Fitting s r
-inside-fitting s r i b = (is-inside s r i, b)
+inside-fitting s r i b = (is-inside (length s) r i, b)
 
 -- ---- 20
 pub whole-plan : (plan : List ℕ) → isPlan plan ≡ true → length plan ≡ 8 * rowCount plan
@@ -108,8 +111,8 @@ module _ (plan s : List ℕ) (flags room : ℕ) (source : AreBytes s) where
             let fitting = each-at (Fitting s) rs (each .1) k in-rows in
             record {
               parent = parents k in-rows;
-              within = fitting-inside s (rowOf rs k) fitting;
-              body = λ t. exactly-good s (rowOf rs k) source (fitting .1 t);
+              within = fitting-inside s (nthRow rs k) fitting;
+              body = λ t. exactly-good (nthRow rs k .properties) (bodyOf s (nthRow rs k)) (bytes-body s (nthRow rs k) source) (fitting .1 t);
               children = λ t. named-at rs 0 rs (each .2) k in-rows t ∙ ap (naming rs) (omega arith) ∙ naming-filter rs k;
             };
         short = omega (arith, long, passed .short);
@@ -134,17 +137,17 @@ module _ (plan s : List ℕ) (flags room : ℕ) (source : AreBytes s) where
     inside = at-each (Inside s) rs (λ k b. at k b .within)
 
     fitting : Each (Fitting s) rs
-    fitting = at-each (Fitting s) rs (λ k b. inside-fitting s (rowOf rs k) (at k b .within) (λ t. good-exactly (rowOf rs k .properties) (bodyOf s (rowOf rs k)) (at k b .body t)))
+    fitting = at-each (Fitting s) rs (λ k b. inside-fitting s (nthRow rs k) (at k b .within) (λ t. good-exactly (nthRow rs k .properties) (bodyOf s (nthRow rs k)) (at k b .body t)))
 
     named : Named rs 0 rs
     named = at-named rs 0 rs (λ k b t. at k b .children t ∙ sym (naming-filter rs k) ∙ ap (naming rs) (omega arith))
 
-    is-judged : judged s rs ≡ record { number = 0; row = 0 }
-    unfolding judged
+    is-judged : planRefusal s rs ≡ noRefusal
+    unfolding planRefusal
     is-judged = each-judged s rs 0 [] rs (parents-are rs few .1 (λ k b. at k b .parent)) fitting named
 
-    pub right : judged s rs .number ≡ 0
-    right = ap (λ (j : Judged). j .number) is-judged
+    pub right : planRefusal s rs .number ≡ 0
+    right = ap (λ (j : Refusal). j .number) is-judged
 
     pub long : length (fileBytes flags s rs) ≡ 16 + allOwnBytes rs
     long = file-long flags s rs inside

@@ -12,10 +12,10 @@ use Rattle.table.specs.declared.Row.{Row}
 use Rattle.format.specs.Forest.{fileOf}
 use Rattle.format.specs.Rows.{bodyOf, allOwnBytes}
 use Rattle.format.specs.Layout.{GoodBody}
-use Rattle.emit.specs.Emission.{refused, done}
+use Rattle.emit.specs.Emission.{refusedWriting, writingDone}
 use Rattle.writer.specs.Writer.{planRows, writtenOf, outputAfter}
 use Rattle.writer.specs.Forest.{forestOf}
-use Rattle.writer.specs.Writable.{rowOf, IsKnown, RightParent, rowsNaming, RightRow, Writable}
+use Rattle.writer.specs.Writable.{nthRow, IsKnown, RightParent, rowsNaming, RightRow, Writable}
 
 -- ---- the output
 
@@ -24,7 +24,7 @@ use Rattle.writer.specs.Writable.{rowOf, IsKnown, RightParent, rowsNamin
 abbrev pub Writes : Type 0
 Writes = (plan s : List ℕ) (flags : ℕ) (out : List ℕ) → AreBytes s → Writable plan s (length out)
     → let size = 16 + allOwnBytes (planRows plan) in
-    (writtenOf plan s flags (length out) ≡ done size) × (outputAfter plan s flags out ≡ fileOf flags (forestOf s (planRows plan)) ++ drop size out)
+    (writtenOf plan s flags (length out) ≡ writingDone size) × (outputAfter plan s flags out ≡ fileOf flags (forestOf s (planRows plan)) ++ drop size out)
 
 -- "A refusal answers length 0 and leaves the output": of any other plan, the number is not 0
 abbrev pub Refuses : Type 0
@@ -47,7 +47,7 @@ abbrev pub RightBody : (s : List ℕ) → Row → Type 0
 RightBody s r = IsKnown r → GoodBody (r .properties) (bodyOf s r)
 
 abbrev pub RightChildren : List Row → (k : ℕ) → Type 0
-RightChildren rows k = IsKnown (rowOf rows k) → rowOf rows k .children ≡ length (rowsNaming rows k)
+RightChildren rows k = IsKnown (nthRow rows k) → nthRow rows k .children ≡ length (rowsNaming rows k)
 
 -- row k is judged: 20 is not given, and the rows before it are right
 pub record Reaches (plan s : List ℕ) (k : ℕ) : Type 0 where
@@ -64,28 +64,28 @@ pub record AllRight (plan s : List ℕ) : Type 0 where
 -- given exactly when none before it is and its own words hold
 pub record WriterAnswers (plan s : List ℕ) (flags room : ℕ) (rows : List Row) (size : ℕ) : Type 0 where
   -- 20
-  pub noPlan : (writtenOf plan s flags room ≡ refused 20 0) ↔ (IsPlan plan → ⊥)
+  pub noPlan : (writtenOf plan s flags room ≡ refusedWriting 20 0) ↔ (IsPlan plan → ⊥)
   -- 21 to 24: "The place is the row for these."
-  pub parent : (k : ℕ) → (writtenOf plan s flags room ≡ refused 21 k) ↔ (Reaches plan s k × (RightParent rows k → ⊥))
-  pub outside : (k : ℕ) → (writtenOf plan s flags room ≡ refused 22 k) ↔ (Reaches plan s k × RightParent rows k × (InSource s (rowOf rows k) → ⊥))
+  pub parent : (k : ℕ) → (writtenOf plan s flags room ≡ refusedWriting 21 k) ↔ (Reaches plan s k × (RightParent rows k → ⊥))
+  pub outside : (k : ℕ) → (writtenOf plan s flags room ≡ refusedWriting 22 k) ↔ (Reaches plan s k × RightParent rows k × (InSource s (nthRow rows k) → ⊥))
   pub body : (k : ℕ)
-      → (writtenOf plan s flags room ≡ refused 23 k)
-      ↔ (Reaches plan s k × RightParent rows k × InSource s (rowOf rows k) × (RightBody s (rowOf rows k) → ⊥))
+      → (writtenOf plan s flags room ≡ refusedWriting 23 k)
+      ↔ (Reaches plan s k × RightParent rows k × InSource s (nthRow rows k) × (RightBody s (nthRow rows k) → ⊥))
   pub children : (k : ℕ)
-      → (writtenOf plan s flags room ≡ refused 24 k)
-      ↔ (Reaches plan s k × RightParent rows k × InSource s (rowOf rows k) × RightBody s (rowOf rows k) × (RightChildren rows k → ⊥))
+      → (writtenOf plan s flags room ≡ refusedWriting 24 k)
+      ↔ (Reaches plan s k × RightParent rows k × InSource s (nthRow rows k) × RightBody s (nthRow rows k) × (RightChildren rows k → ⊥))
   -- "then 25 length over 16,777,216, 26 output too short"
-  pub tooLong : (writtenOf plan s flags room ≡ refused 25 0) ↔ (AllRight plan s × (mostBytes < size))
-  pub noRoom : (writtenOf plan s flags room ≡ refused 26 0) ↔ (AllRight plan s × (size ≤ mostBytes) × (room < size))
+  pub tooLong : (writtenOf plan s flags room ≡ refusedWriting 25 0) ↔ (AllRight plan s × (mostBytes < size))
+  pub noRoom : (writtenOf plan s flags room ≡ refusedWriting 26 0) ↔ (AllRight plan s × (size ≤ mostBytes) × (room < size))
   -- and none of them
-  pub written : (writtenOf plan s flags room ≡ done size) ↔ Writable plan s room
+  pub written : (writtenOf plan s flags room ≡ writingDone size) ↔ Writable plan s room
   -- there is no other answer
   pub one :
-      (writtenOf plan s flags room ≡ refused 20 0)
-      ⊎ (((k n : ℕ) × (21 ≤ n) × (n ≤ 24) × (writtenOf plan s flags room ≡ refused n k))
-      ⊎ ((writtenOf plan s flags room ≡ refused 25 0)
-      ⊎ ((writtenOf plan s flags room ≡ refused 26 0)
-      ⊎ (writtenOf plan s flags room ≡ done size))))
+      (writtenOf plan s flags room ≡ refusedWriting 20 0)
+      ⊎ (((k n : ℕ) × (21 ≤ n) × (n ≤ 24) × (writtenOf plan s flags room ≡ refusedWriting n k))
+      ⊎ ((writtenOf plan s flags room ≡ refusedWriting 25 0)
+      ⊎ ((writtenOf plan s flags room ≡ refusedWriting 26 0)
+      ⊎ (writtenOf plan s flags room ≡ writingDone size))))
 
 -- of any plan, any source bytes, any flags and any room; places are 0 but for 21 to 24
 abbrev pub AnswersExactly : Type 0

@@ -28,7 +28,7 @@ nodesUnder s k (r ∷ rs) parent =
 abbrev pub forestOf : (s : List ℕ) → List Row → Forest
 forestOf s rows = nodesUnder s 0 rows noParent
 
--- a row, its body as long as it was, behind a header at a place
+-- a row, its body as long as it was, after a header at a place
 abbrev pub movedTo : (at : ℕ) → Row → Row
 movedTo at r = record {
   kind = r .kind;

@@ -16,7 +16,7 @@ use Rattle.format.specs.Layout.{WellFormedFile, Few}
 use Rattle.reader.specs.declared.Account.{Account}
 use Rattle.reader.specs.declared.Reading.the-variants.{Accepted, Refused}
 use Rattle.reader.specs.Reading.{readingOf, tableAfter}
-use Rattle.emit.specs.Emission.{done}
+use Rattle.emit.specs.Emission.{writingDone}
 use Rattle.writer.specs.Writer.{planRows, writtenOf, outputAfter}
 use Rattle.writer.specs.Forest.{forestOf, laidOut}
 
@@ -27,7 +27,7 @@ use Rattle.writer.specs.Forest.{forestOf, laidOut}
 abbrev pub WriteAfterRead : Type 0
 WriteAfterRead = (s t out : List ℕ) (a : Account) → AreBytes s → readingOf s t ≡ Accepted a → length s ≤ length out
     → let plan = firstRows (tableAfter s t) (a .nodes) in
-    (writtenOf plan s (a .flags) (length out) ≡ done (length s)) × (outputAfter plan s (a .flags) out ≡ s ++ drop (length s) out)
+    (writtenOf plan s (a .flags) (length out) ≡ writingDone (length s)) × (outputAfter plan s (a .flags) out ≡ s ++ drop (length s) out)
 
 -- ---- a written file
 
@@ -41,7 +41,7 @@ pub record Wrote (plan s : List ℕ) (flags : ℕ) (file : List ℕ) : Type 0 wh
   pub source : AreBytes s
   pub flagBits : flags < 256 ^ 4
   pub out : List ℕ
-  pub success : writtenOf plan s flags (length out) ≡ done (length file)
+  pub success : writtenOf plan s flags (length out) ≡ writingDone (length file)
   pub bytes : file ≡ take (length file) (outputAfter plan s flags out)
 
 -- the file is the encoding of the plan's forest, whose rows are the plan's "but for where bodies lie"; and there each body has

@@ -24,8 +24,8 @@ use Rattle.writer.specs.Forest.{forestOf, laidOut}
 use Rattle.writer.specs.RoundTrip.{AreNumbers}
 
 -- row k of some rows, counted from 0; nothing below asks for one past the last
-abbrev pub rowOf : List Row → (k : ℕ) → Row
-rowOf rows k = getD rows k blank
+abbrev pub nthRow : List Row → (k : ℕ) → Row
+nthRow rows k = getD rows k blank
 
 abbrev pub IsKnown : Row → Type 0
 IsKnown r = isKnown (r .kind) ≡ true
@@ -34,8 +34,8 @@ IsKnown r = isKnown (r .kind) ≡ true
 
 -- row i is an ancestor of row j when it is row j's parent, or an ancestor of row j's parent
 pub data Ancestor (rows : List Row) (i : ℕ) : (j : ℕ) → Type 0 where
-  nearest : {j : ℕ} → j < length rows → rowOf rows j .parent ≡ i → Ancestor rows i j
-  higher : {j : ℕ} → j < length rows → Ancestor rows i (rowOf rows j .parent) → Ancestor rows i j
+  nearest : {j : ℕ} → j < length rows → nthRow rows j .parent ≡ i → Ancestor rows i j
+  higher : {j : ℕ} → j < length rows → Ancestor rows i (nthRow rows j .parent) → Ancestor rows i j
 
 -- of row k, row p is "the previous row or an ancestor of it"; row 0 has no previous row
 abbrev pub Near : List Row → (k p : ℕ) → Type 0
@@ -45,13 +45,13 @@ Near rows (suc previous) p = (p ≡ previous) ⊎ Ancestor rows p previous
 -- of row k, row p is "an earlier known row that is the previous row or an ancestor of it"
 pub record MayHold (rows : List Row) (k p : ℕ) : Type 0 where
   pub earlier : p < k
-  pub known : IsKnown (rowOf rows p)
+  pub known : IsKnown (nthRow rows p)
   pub near : Near rows k p
 
 -- "none exactly for Root; else" such a row
 pub record RightParent (rows : List Row) (k : ℕ) : Type 0 where
-  pub none : (rowOf rows k .kind ≡ root) ↔ (rowOf rows k .parent ≡ noParent)
-  pub other : (rowOf rows k .kind ≡ root → ⊥) → MayHold rows k (rowOf rows k .parent)
+  pub none : (nthRow rows k .kind ≡ root) ↔ (nthRow rows k .parent ≡ noParent)
+  pub other : (nthRow rows k .kind ≡ root → ⊥) → MayHold rows k (nthRow rows k .parent)
 
 -- ---- 21 to 24 of row k
 
@@ -63,11 +63,11 @@ pub record RightRow (s : List ℕ) (rows : List Row) (k : ℕ) : Type 0 where
   -- not 21: "parent wrong"
   pub parent : RightParent rows k
   -- not 22: "body end before its start or past the source"
-  pub within : (rowOf rows k .start ≤ rowOf rows k .end) × (rowOf rows k .end ≤ length s)
+  pub within : (nthRow rows k .start ≤ nthRow rows k .end) × (nthRow rows k .end ≤ length s)
   -- not 23: "a known row's body is not exactly its count (at most 64) of properties"
-  pub body : IsKnown (rowOf rows k) → GoodBody (rowOf rows k .properties) (bodyOf s (rowOf rows k))
+  pub body : IsKnown (nthRow rows k) → GoodBody (nthRow rows k .properties) (bodyOf s (nthRow rows k))
   -- not 24: "a known row's child count is not the rows naming it"
-  pub children : IsKnown (rowOf rows k) → rowOf rows k .children ≡ length (rowsNaming rows k)
+  pub children : IsKnown (nthRow rows k) → nthRow rows k .children ≡ length (rowsNaming rows k)
 
 -- ---- 20 to 26
 pub record Writable (plan s : List ℕ) (room : ℕ) : Type 0 where

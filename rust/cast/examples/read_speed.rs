@@ -35,7 +35,7 @@ fn independent(file: &[u8], table: &mut [u32]) -> (u32, [u32; 4]) {
     (reading.number, sums)
 }
 
-/// The time of so many readings.
+/// The time of this number of readings.
 fn time(reader: Reader, file: &[u8], table: &mut [u32], repeats: usize) -> Duration {
     let start = Instant::now();
     for _ in 0..repeats {

@@ -33,7 +33,7 @@ fn copy(_: &Case, file: &[u8], out: &mut [u8]) -> (u32, u32) {
     (0, file.len() as u32)
 }
 
-/// The time of so many writings.
+/// The time of this number of writings.
 fn time(writer: Writer, case: &Case, file: &[u8], out: &mut [u8], repeats: usize) -> Duration {
     let start = Instant::now();
     for _ in 0..repeats {

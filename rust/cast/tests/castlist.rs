@@ -78,7 +78,7 @@ fn agree(input: &[u8]) {
     agree_as(input, |mut pipe| pipe.write_all(input));
 }
 
-/// The same, with the input cut at these places. After so many of a hundred pieces the writer waits.
+/// The same, with the input cut at these places. After `waits` of a hundred pieces the writer waits.
 fn agree_cut(rng: &mut Rng, input: &[u8], cuts: &[usize], waits: usize) {
     agree_as(input, |mut pipe| {
         let mut from = 0;

@@ -329,7 +329,7 @@ fn generated() {
     }
 }
 
-/// A right plan of any tree of so many rows, over bodies that lie anywhere in a small source.
+/// A right plan of any tree of exactly `count` rows, over bodies that lie anywhere in a small source.
 fn tree(rng: &mut Rng, count: usize) -> Case {
     let flag = Property::array(B, "x", vec![1]);
     let name = Property::string("n", b"ab");

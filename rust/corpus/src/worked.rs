@@ -91,7 +91,7 @@ pub fn triangle(face: [u32; 3]) -> File {
     mesh(B, 3, &face)
 }
 
-/// E11 with so many vertices, and indices of this type.
+/// E11 with this number of vertices, and indices of this type.
 pub fn mesh(code: u16, vertices: usize, indices: &[u32]) -> File {
     let size = element_size(code).expect("a type of numbers");
     let properties = vec![

@@ -1,6 +1,8 @@
 //! The layout of a case and of its line.
 
+use crate::keep::{Class, Sweeps, Wanted};
 use crate::Vectors;
+use corpus::Rng;
 use std::fmt::Write;
 
 /// One case. What `x`, `y` and the blocks mean is the function's matter.
@@ -14,39 +16,82 @@ pub struct Case<'a> {
     pub y: u64,
 }
 
-#[derive(Default)]
+/// A case as bytes, and its line.
+struct Made {
+    input: Vec<u8>,
+    line: String,
+}
+
 pub struct Cases {
-    stdin: Vec<u8>,
-    stdout: String,
-    count: usize,
+    wanted: Wanted,
+    sweeps: Sweeps,
+    made: Vec<Made>,
+    classes: Vec<Class>,
 }
 
 impl Cases {
+    pub fn new(wanted: Wanted) -> Cases {
+        Cases {
+            wanted,
+            sweeps: Sweeps::default(),
+            made: Vec::new(),
+            classes: Vec::new(),
+        }
+    }
+
+    /// Draws of their own for each number, and for each seed that is wanted.
+    pub fn rng(&self, number: u8) -> Rng {
+        Rng::new(u64::from(number) | u64::from(self.wanted.seed) << 8)
+    }
+
+    /// How many cases are drawn where `count` are drawn for the kept ones.
+    pub fn draws(&self, count: usize) -> usize {
+        count * self.wanted.draws
+    }
+
+    /// What is added now is of this sweep, of which at most `most` cases of each answer are kept.
+    pub fn sweep(&mut self, name: &str, most: usize) {
+        self.sweeps.start(name, most);
+    }
+
+    /// What is added now is not kept: it tells little more than what is, or is long for what it tells.
+    pub fn leave_out(&mut self) {
+        self.sweeps.start("left out", 0);
+    }
+
     /// Adds a case with the numbers that its line must have after the function's.
     pub fn add(&mut self, case: &Case, answer: &[u64]) {
+        let mut input = Vec::new();
         let lengths = [case.first.len() as u32, case.second.len() as u32];
         for number in [case.function, lengths[0], lengths[1], case.seed] {
-            self.stdin.extend_from_slice(&number.to_le_bytes());
+            input.extend_from_slice(&number.to_le_bytes());
         }
         for number in [case.x, case.y] {
-            self.stdin.extend_from_slice(&number.to_le_bytes());
+            input.extend_from_slice(&number.to_le_bytes());
         }
-        self.stdin.extend_from_slice(case.first);
-        self.stdin.extend_from_slice(case.second);
-        write!(self.stdout, "{}", case.function).expect("a string takes any text");
+        input.extend_from_slice(case.first);
+        input.extend_from_slice(case.second);
+        let mut line = case.function.to_string();
         for number in answer {
-            write!(self.stdout, " {number}").expect("a string takes any text");
+            write!(line, " {number}").expect("a string takes any text");
         }
-        self.stdout.push('\n');
-        self.count += 1;
+        line.push('\n');
+        self.made.push(Made { input, line });
+        self.classes.push(self.sweeps.class(case.function, answer));
     }
 
     pub fn finish(self) -> Vectors {
-        Vectors {
-            stdin: self.stdin,
-            stdout: self.stdout.into_bytes(),
-            cases: self.count,
+        let mut kept = vec![true; self.made.len()];
+        if self.wanted.thinned {
+            kept = self.sweeps.kept(&self.classes);
         }
+        let mut vectors = Vectors::default();
+        for (made, _) in self.made.iter().zip(kept).filter(|made| made.1) {
+            vectors.stdin.extend_from_slice(&made.input);
+            vectors.stdout.extend_from_slice(made.line.as_bytes());
+            vectors.cases += 1;
+        }
+        vectors
     }
 }
 

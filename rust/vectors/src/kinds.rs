@@ -4,12 +4,12 @@ use crate::frame::{Case, Cases};
 use crate::function::{KNOWN, MAY_STAND};
 use corpus::format::KINDS;
 use corpus::valid::unknown;
-use corpus::Rng;
 use reference::{known, may_stand};
 
 pub fn add(cases: &mut Cases) {
-    let mut rng = Rng::new(14);
+    let mut rng = cases.rng(14);
     let kinds = KINDS.map(|kind| kind.0);
+    cases.sweep("kinds", 40);
     for kind in kinds {
         add_kind(cases, kind);
         for bit in 0..u32::BITS {
@@ -19,16 +19,19 @@ pub fn add(cases: &mut Cases) {
     }
     add_kind(cases, 0);
     add_kind(cases, u32::MAX);
-    for _ in 0..50 {
+    cases.sweep("kinds: drawn", 4);
+    for _ in 0..cases.draws(50) {
         add_kind(cases, rng.next_u32());
     }
 
+    cases.sweep("kinds: pairs", 40);
     for parent in [None].into_iter().chain(kinds.map(Some)) {
         for kind in kinds.into_iter().chain([unknown::kind(&mut rng)]) {
             add_pair(cases, parent, kind);
         }
         add_pair(cases, parent, 0);
     }
+    cases.sweep("kinds: other parents", 12);
     for kind in kinds {
         let parent = unknown::kind(&mut rng);
         add_pair(cases, Some(parent), kind);

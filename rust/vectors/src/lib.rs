@@ -9,6 +9,7 @@
 #![forbid(unsafe_code)]
 
 mod frame;
+mod keep;
 mod kinds;
 mod listings;
 mod lookups;
@@ -24,6 +25,7 @@ mod walks;
 mod writes;
 
 use frame::Cases;
+use keep::Wanted;
 
 /// The functions by number, as `crates/vectors` knows them.
 pub mod function {
@@ -54,18 +56,65 @@ pub mod function {
     pub const WRITE: u32 = 34;
     pub const WRITE_PARTS: u32 = 35;
     pub const TRIM: u32 = 36;
+
+    pub const ALL: [u32; 25] = [
+        U16_AT,
+        U32_AT,
+        U64_AT,
+        PUT_U16,
+        PUT_U32,
+        PUT_U64,
+        NUMBER_AT,
+        SIZE_OF,
+        NAME_OK,
+        SAME,
+        NUMBERED,
+        KNOWN,
+        MAY_STAND,
+        STEP,
+        INDEX,
+        EXACT,
+        TABLE,
+        LOOKUP,
+        WALK,
+        READ,
+        LIST,
+        LINE,
+        WRITE,
+        WRITE_PARTS,
+        TRIM,
+    ];
 }
 
 /// The whole of standard input, the whole of standard output, and the number of cases.
+#[derive(Default)]
 pub struct Vectors {
     pub stdin: Vec<u8>,
     pub stdout: Vec<u8>,
     pub cases: usize,
 }
 
-/// All cases, the same at every call.
+/// The kept cases, the same at every call.
 pub fn make() -> Vectors {
-    let mut cases = Cases::default();
+    make_wanted(Wanted {
+        draws: 1,
+        seed: 0,
+        thinned: true,
+    })
+}
+
+/// All cases, none left out, with `draws` times as many drawn ones as [`make`] takes its own from. With seed 0 and one
+/// time as many draws they are the cases that it takes them from.
+pub fn make_all(draws: usize, seed: u32) -> Vectors {
+    make_wanted(Wanted {
+        draws,
+        seed,
+        thinned: false,
+    })
+}
+
+fn make_wanted(wanted: Wanted) -> Vectors {
+    let mut cases = Cases::new(wanted);
     numbers::add(&mut cases);
     types::add(&mut cases);
     names::add(&mut cases);

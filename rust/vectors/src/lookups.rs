@@ -12,7 +12,7 @@ use reference::lookup;
 const ROWS: usize = 64;
 
 pub fn add(cases: &mut Cases) {
-    let mut rng = Rng::new(20);
+    let mut rng = cases.rng(20);
     add_some(cases, &mut rng, 700, 900);
     add_some(cases, &mut rng, 20, 6_000);
     add_full(cases, &mut rng);
@@ -21,6 +21,7 @@ pub fn add(cases: &mut Cases) {
 /// As many properties as a body may have, and one more.
 fn add_full(cases: &mut Cases, rng: &mut Rng) {
     let file = file(rng, &Profile::TINY);
+    cases.leave_out();
     for kind in [Lookup::Full, Lookup::OverFull].repeat(12) {
         let case = lookups::lookup(rng, &file, kind);
         if let Some(case) = case.filter(|case| case.row < ROWS) {
@@ -31,18 +32,20 @@ fn add_full(cases: &mut Cases, rng: &mut Rng) {
 
 /// Lookups of at most `most` bytes each.
 fn add_some(cases: &mut Cases, rng: &mut Rng, count: usize, most: usize) {
-    let mut left = count;
+    let mut left = cases.draws(count);
     while left > 0 {
         let file = match rng.chance(80) {
             true => file(rng, &Profile::TINY),
             false => mixed(rng),
         };
-        let (_, mut case) = lookups::any(rng, &file);
+        let (kind, mut case) = lookups::any(rng, &file);
         case.table.truncate((case.row.min(ROWS) + 1) * 8 + 3);
         if rng.chance(40) {
             lookups::change(rng, &mut case);
         }
         if case.bytes.len() + 4 * case.table.len() + case.name.len() <= most {
+            let kept = if kind == Lookup::Present { 8 } else { 1 };
+            cases.sweep(&format!("lookups: {}", kind.name()), kept);
             add_lookup(cases, &case);
             left -= 1;
         }

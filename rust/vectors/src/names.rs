@@ -2,6 +2,7 @@
 
 use crate::frame::{Case, Cases};
 use crate::function::{NAME_OK, NUMBERED, SAME};
+use crate::keep::ALL;
 use corpus::valid::names;
 use corpus::Rng;
 use reference::{name_ok, numbered};
@@ -10,7 +11,7 @@ use reference::{name_ok, numbered};
 const EDGES: [u8; 9] = [0x00, 0x01, 0x40, 0x41, 0x5A, 0x5B, 0x60, 0x7B, 0xFF];
 
 pub fn add(cases: &mut Cases) {
-    let mut rng = Rng::new(11);
+    let mut rng = cases.rng(11);
     add_bytes(cases, &mut rng);
     add_pairs(cases, &mut rng);
     add_numbered(cases, &mut rng);
@@ -31,12 +32,15 @@ fn add_name(cases: &mut Cases, name: &[u8]) {
 }
 
 fn add_bytes(cases: &mut Cases, rng: &mut Rng) {
+    cases.sweep("names: bytes", 20);
     for len in 0..=40 {
         add_name(cases, &good(rng, len));
     }
+    cases.sweep("names: one byte", 12);
     for byte in 0..=255 {
         add_name(cases, &[byte]);
     }
+    cases.sweep("names: edges", 24);
     for at in 0..33 {
         for byte in EDGES {
             let len = *rng.pick(&[at + 1, 31, 32, 33]);
@@ -45,7 +49,8 @@ fn add_bytes(cases: &mut Cases, rng: &mut Rng) {
             add_name(cases, &name);
         }
     }
-    for _ in 0..100 {
+    cases.sweep("names: drawn", 6);
+    for _ in 0..cases.draws(100) {
         let len = rng.below(40);
         let mut name = good(rng, len);
         for _ in 0..rng.below(3) {
@@ -55,6 +60,7 @@ fn add_bytes(cases: &mut Cases, rng: &mut Rng) {
         }
         add_name(cases, &name);
     }
+    cases.sweep("names: long", ALL);
     for len in [255, 256, 257, 288] {
         add_name(cases, &vec![b'a'; len]);
     }
@@ -71,6 +77,7 @@ fn add_pair(cases: &mut Cases, first: &[u8], second: &[u8]) {
 }
 
 fn add_pairs(cases: &mut Cases, rng: &mut Rng) {
+    cases.sweep("names: pairs", 30);
     for len in 0..=40 {
         let name = rng.bytes(len);
         add_pair(cases, &name, &name);
@@ -108,6 +115,7 @@ fn add_number(cases: &mut Cases, prefix: &[u8], name: &[u8]) {
 }
 
 fn add_numbered(cases: &mut Cases, rng: &mut Rng) {
+    cases.sweep("names: numbered", 40);
     const ENDS: [&str; 41] = [
         "",
         "0",
@@ -168,7 +176,8 @@ fn add_numbered(cases: &mut Cases, rng: &mut Rng) {
             add_number(cases, prefix.as_bytes(), name.as_bytes());
         }
     }
-    for _ in 0..100 {
+    cases.sweep("names: drawn numbers", 8);
+    for _ in 0..cases.draws(100) {
         let prefix = rng.pick(&PREFIXES).as_bytes();
         let mut name = prefix.to_vec();
         for _ in 0..rng.below(5) {

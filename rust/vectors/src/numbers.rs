@@ -15,8 +15,9 @@ fn place(rng: &mut Rng, len: usize) -> u64 {
 }
 
 pub fn add(cases: &mut Cases) {
-    let mut rng = Rng::new(1);
-    for _ in 0..300 {
+    let mut rng = cases.rng(1);
+    cases.sweep("numbers", 14);
+    for _ in 0..cases.draws(300) {
         let len = rng.below(20);
         let bytes = rng.bytes(len);
         for (function, width) in [(U16_AT, 2), (U32_AT, 4), (U64_AT, 8)] {
@@ -50,8 +51,9 @@ pub fn add(cases: &mut Cases) {
 
 /// A width over four is taken as four.
 fn number_of_any_width(cases: &mut Cases) {
-    let mut rng = Rng::new(7);
-    for _ in 0..300 {
+    let mut rng = cases.rng(7);
+    cases.sweep("any width", 20);
+    for _ in 0..cases.draws(300) {
         let len = rng.below(20);
         let bytes = rng.bytes(len);
         let x = place(&mut rng, len);

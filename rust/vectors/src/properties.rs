@@ -13,7 +13,7 @@ use reference::{body_exact, index, step};
 const NODE_HEADER: usize = 24;
 
 pub fn add(cases: &mut Cases) {
-    let mut rng = Rng::new(16);
+    let mut rng = cases.rng(16);
     add_types(cases, &mut rng);
     add_cuts(cases, &mut rng);
     add_names(cases, &mut rng);
@@ -62,6 +62,7 @@ fn add_inside(cases: &mut Cases, rng: &mut Rng, property: &Property) {
 
 /// All types, and codes near them, whole and with a byte missing.
 fn add_types(cases: &mut Cases, rng: &mut Rng) {
+    cases.sweep("properties: types", 16);
     for code in TYPES {
         for length in 0..4 {
             let whole = property(rng, code, 2, length);
@@ -80,6 +81,7 @@ fn add_types(cases: &mut Cases, rng: &mut Rng) {
 
 /// Every beginning of a property, and one whose type or name size is wrong besides.
 fn add_cuts(cases: &mut Cases, rng: &mut Rng) {
+    cases.sweep("properties: cuts", 16);
     for code in TYPES {
         let bytes = body(&[property(rng, code, 2, 1)]);
         for end in 0..bytes.len() {
@@ -101,6 +103,7 @@ fn add_cuts(cases: &mut Cases, rng: &mut Rng) {
 
 /// Names of every size, and a barred byte at every place.
 fn add_names(cases: &mut Cases, rng: &mut Rng) {
+    cases.sweep("properties: names", 12);
     for size in 0..=34 {
         for code in [B, S, V4] {
             let named = property(rng, code, size, 1);
@@ -130,6 +133,7 @@ fn add_names(cases: &mut Cases, rng: &mut Rng) {
 
 /// The first zero at any place, at none, and array lengths other than 1.
 fn add_strings(cases: &mut Cases, rng: &mut Rng) {
+    cases.sweep("properties: strings", 8);
     let string = |data: &[u8]| Property::new(S, b"n", 1, data.to_vec());
     for size in (0..=18).chain([31, 32, 33, 63, 64, 65, 127, 128, 129, 600]) {
         let mut data = vec![*rng.pick(&[1, 0x80, 0xFF, b'x']); size];
@@ -150,6 +154,7 @@ fn add_strings(cases: &mut Cases, rng: &mut Rng) {
 
 /// Array lengths whose product with the size passes the body, 2^32, or both.
 fn add_lengths(cases: &mut Cases, rng: &mut Rng) {
+    cases.sweep("properties: lengths", 8);
     for code in TYPES {
         let size = element_size(code).unwrap_or(1) as u32;
         let wraps = ((1u64 << 32).div_ceil(size.into())).min(u32::MAX.into()) as u32;
@@ -163,6 +168,7 @@ fn add_lengths(cases: &mut Cases, rng: &mut Rng) {
 
 /// Offsets about a property's parts, past the end, and at the ends of the numbers.
 fn add_offsets(cases: &mut Cases, rng: &mut Rng) {
+    cases.sweep("properties: offsets", 8);
     let bytes = body(&[property(rng, B, 3, 1), property(rng, S, 1, 1)]);
     for at in 0..bytes.len() as u64 + 3 {
         add_step(cases, &bytes, at);
@@ -180,7 +186,8 @@ fn add_offsets(cases: &mut Cases, rng: &mut Rng) {
 
 /// A changed byte or a cut in a generated property.
 fn add_changed(cases: &mut Cases, rng: &mut Rng) {
-    for _ in 0..150 {
+    cases.sweep("properties: changed", 4);
+    for _ in 0..cases.draws(150) {
         let mut bytes = body(&[free_property(rng, &Profile::TINY, 0, &[])]);
         match rng.below(4) {
             0 => bytes.truncate(rng.below(bytes.len())),
@@ -218,7 +225,8 @@ fn add_body(cases: &mut Cases, body: &[u8], count: u32) {
 }
 
 fn add_bodies(cases: &mut Cases, rng: &mut Rng) {
-    for _ in 0..300 {
+    cases.sweep("properties: bodies", 6);
+    for _ in 0..cases.draws(300) {
         let mut properties = some_properties(rng);
         if rng.chance(25) {
             spoil(rng, &mut properties);
@@ -238,6 +246,7 @@ fn add_bodies(cases: &mut Cases, rng: &mut Rng) {
         };
         add_body(cases, &bytes, count);
     }
+    cases.sweep("properties: counts", 4);
     for count in [0, 1, 63, 64, 65, 66, 256, 320, 0x1_0000, u32::MAX] {
         add_body(cases, &[], count);
         let short = body(&vec![Property::new(B, b"x", 0, Vec::new()); 66]);

@@ -2,6 +2,7 @@
 
 use crate::frame::{numbers_checksum, Case, Cases};
 use crate::function::TABLE;
+use crate::keep::ALL;
 use corpus::tree::numbers_data;
 use corpus::Rng;
 use reference::{clear, is_whole, put_row, row};
@@ -17,8 +18,12 @@ const LONG: [(usize, u64); 7] = [
     (8_200, 1_025),
 ];
 
+/// The last row of a table that is just long enough.
+const LAST: (usize, u64) = (8_192, 1_023);
+
 pub fn add(cases: &mut Cases) {
-    let mut rng = Rng::new(19);
+    let mut rng = cases.rng(19);
+    cases.sweep("table", 8);
     for length in [0, 1, 7, 8, 9, 15, 16, 17, 64, 100] {
         let rows = length as u64 / 8;
         for at in 0..=rows + 1 {
@@ -33,6 +38,10 @@ pub fn add(cases: &mut Cases) {
         add_table(cases, &mut rng, length, at);
     }
     for (length, at) in LONG {
+        match (length, at) == LAST {
+            true => cases.sweep("table: last row", ALL),
+            false => cases.leave_out(),
+        }
         add_table(cases, &mut rng, length, at);
     }
 }

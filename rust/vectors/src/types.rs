@@ -3,7 +3,6 @@
 use crate::frame::{Case, Cases};
 use crate::function::SIZE_OF;
 use corpus::format::TYPES;
-use corpus::Rng;
 use reference::{element_size, is_string};
 
 fn add_code(cases: &mut Cases, code: u16) {
@@ -21,7 +20,8 @@ fn add_code(cases: &mut Cases, code: u16) {
 }
 
 pub fn add(cases: &mut Cases) {
-    let mut rng = Rng::new(10);
+    let mut rng = cases.rng(10);
+    cases.sweep("types", 60);
     for code in TYPES {
         for near in [code, code - 1, code + 1, code.swap_bytes()] {
             add_code(cases, near);
@@ -33,7 +33,8 @@ pub fn add(cases: &mut Cases) {
     for code in [0, 0xFF, 0x100, 0x7600, 0x8000, u16::MAX] {
         add_code(cases, code);
     }
-    for _ in 0..60 {
+    cases.sweep("types: drawn", 4);
+    for _ in 0..cases.draws(60) {
         add_code(cases, rng.next_u32() as u16);
     }
 }

@@ -3,7 +3,7 @@ use native.Mathlib.Omega.{arith}
 use mathlib.Core.Path.{sym, ap, subst, _∙_}
 use lib.ListN.{length}
 use Rattle.lookup.specs.declared.Found.the-variants.{Refused}
-use Rattle.lookup.specs.Lookup.{numberOf, Within}
+use Rattle.lookup.specs.Lookup.{numberOf, FoundWithin}
 use Rattle.cast.specs.Cast.{foundOf}
 use borrow.Author.Needs.{needs}
 use Rattle.cast.proofs.cast_lookup.Statement.{statement}
@@ -31,7 +31,7 @@ returns-2 : tie.Need-returns-2
 returns-2 c =
     let d = c .before .before .before in
     let a = d .before .before .before .before .args in
-    let lies = subst (Within (length (a .bytes .now))) (c .before .found .given .1) (d .find .ensures .1 .0) in
+    let lies = subst (FoundWithin (length (a .bytes .now))) (c .before .found .given .1) (d .find .ensures .1 .0) in
     (ap foundOf (sym (c .before .found .given .1) ∙ d .find .ensures .0), lies)
 
 pub cast-lookup-spec : {M : Type 1} → statement M

@@ -3,7 +3,7 @@ use native.Mathlib.Omega.{arith}
 use mathlib.Core.Path.{sym, ap, subst, _∙_}
 use borrow.Author.Needs.{needs}
 use Rattle.reader.specs.declared.Reading.the-variants.{Accepted}
-use Rattle.reader.specs.Contract.{Small}
+use Rattle.reader.specs.Reading.{Small}
 use Rattle.cast.specs.Cast.{answerOf}
 use Rattle.cast.proofs.cast_read.Statement.{statement}
 use Rattle.cast.proofs.cast_read.Tie as tie

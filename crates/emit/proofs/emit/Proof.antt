@@ -12,7 +12,7 @@ use Rattle.table.specs.Table.{rowsAt}
 use Rattle.format.specs.Forest.{fileHeader}
 use Rattle.emit.specs.declared.Written.{Written}
 use Rattle.emit.specs.Emission.{nodesBytes, roots, emission, outputOf}
-use Rattle.emit.specs.Contract.{MeasuredBy}
+use Rattle.emit.specs.Private.{MeasuredBy}
 use Rattle.base.proofs.Stores.{zeros}
 use Rattle.emit.proofs.Whole.{too-long, no-room, file-put}
 use borrow.Author.Needs.{needs}
@@ -22,7 +22,7 @@ use Rattle.emit.proofs.emit.Tie as tie
 slice-aggregate-measure : tie.Need-slice-aggregate-measure
 slice-aggregate-measure c = search needs
 
--- so many rows
+-- at most 1,024 rows
 module _ (c : tie.Joined1) where
   abbrev start : tie.Start
   start = c .before .before .before .before
@@ -71,20 +71,28 @@ module _ (c : tie.After-measure) where
       (counted joined)
       p
 
+refused-requires : tie.Need-refused-requires
+refused-requires c κs = search needs
+
 returns : tie.Need-returns
 returns c =
-    let m = c .before .before in
-    answered m _ _ (too-long (flags m) (source m) (rows m) (out m) (measured m true (c .if2 .taken)))
+    let m = c .before .before .before in
+    let x = too-long (flags m) (source m) (rows m) (out m) (measured m true (c .before .if2 .taken)) in
+    answered m _ _ (c .refused .ensures ∙ x .0, x .1)
 
 cast-least : tie.Need-cast-least
 cast-least c = search needs
 
+refused-requires-2 : tie.Need-refused-requires-2
+refused-requires-2 c κs = search needs
+
 returns-2 : tie.Need-returns-2
 returns-2 c =
-    let e = c .before .before in
+    let e = c .before .before .before in
     let m = e .before .before in
     let d = measured m false (e .if2 .left) in
-    answered m _ _ (no-room (flags m) (source m) (rows m) (out m) (omega (arith, d .0, d .1)) (omega (arith, d .0, c .if3 .taken)))
+    let x = no-room (flags m) (source m) (rows m) (out m) (omega (arith, d .0, d .1)) (omega (arith, d .0, c .before .if3 .taken)) in
+    answered m _ _ (c .refused2 .ensures ∙ x .0, x .1)
 
 put-file-header-requires : tie.Need-put-file-header-requires
 put-file-header-requires c κs = search needs
@@ -133,8 +141,10 @@ emit-spec =
     (tie.spec
     slice-aggregate-measure
     measure-requires
+    refused-requires
     returns
     cast-least
+    refused-requires-2
     returns-2
     put-file-header-requires
     slice-aggregate-put-nodes

@@ -1,4 +1,4 @@
--- `emit::put_file_header`: its four numbers, one behind the other.
+-- `emit::put_file_header`: its four numbers, one after the other.
 use borrow.Author.Needs.{needs}
 use Rattle.emit.proofs.Headers.{fileHeader-put}
 use Rattle.emit.proofs.put_file_header.Statement.{statement}

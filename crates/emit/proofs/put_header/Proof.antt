@@ -1,4 +1,4 @@
--- `emit::put_header`: its six numbers, one behind the other.
+-- `emit::put_header`: its six numbers, one after the other.
 use Prim.Native.Nat.{_<_}
 use native.Mathlib.Omega.{arith}
 use borrow.Author.Needs.{needs}

@@ -1,4 +1,4 @@
--- `emit::put_node`: the header, and the body behind it.
+-- `emit::put_node`: the header, and the body after it.
 use native.Mathlib.Omega.{arith}
 use Rattle.emit.proofs.Nodes.{part-put, node-put}
 use borrow.Author.Needs.{needs}

@@ -1,4 +1,4 @@
--- `emit::put_nodes`: what is put, with the rest behind it, is all nodes.
+-- `emit::put_nodes`: what is put, with the rest after it, is all nodes.
 use Prim.Native.Nat.{ℕ, _+_, _-_, _≤_, _<_}
 use native.Mathlib.Omega.{arith}
 use mathlib.Core.Path.{_≡_, refl, ap, sym, _∙_}

@@ -47,7 +47,7 @@ loop-holds c =
       zero-add _ ∙ ap (λ w. degenerates (facesIn w (a .count) (a .bytes .now))) same,
     )
 
--- at the loop's head: the limit, all faces, those from the place on, and those behind the first of them
+-- at the loop's head: the limit, all faces, those from the place on, and those after the first of them
 module _ (l : tie.At-loop Inv-loop μ-loop) where
   abbrev limit : ℕ
   limit = l .before .before .before .args .vertices
@@ -58,67 +58,67 @@ module _ (l : tie.At-loop Inv-loop μ-loop) where
   abbrev onward : List Face
   onward = facesIn (l .before .width-of .result) (l .loop .left) (drop (l .loop .at) (l .before .before .before .args .bytes .now))
 
-  abbrev behind : List Face
-  behind =
+  abbrev later : List Face
+  later =
       let w = l .before .width-of .result in
       facesIn w (l .loop .left - 1) (drop (l .loop .at + 3 * w) (l .before .before .before .args .bytes .now))
 
--- what the face that was read and those behind it say
+-- what the face that was read and those after it say
 module _ (m : tie.After-face-at Inv-loop μ-loop) where
-  here : onward (m .before .before) ≡ m .face-at .result ∷ behind (m .before .before)
+  here : onward (m .before .before) ≡ m .face-at .result ∷ later (m .before .before)
   here =
       let l = m .before .before in
       first (l .before .width-of .result) (l .loop .left) (l .before .before .before .args .bytes .now) (l .loop .at) (omega arith)
-      ∙ ap {A = Face} (λ f. f ∷ behind l) (sym (m .face-at .ensures))
+      ∙ ap {A = Face} (λ f. f ∷ later l) (sym (m .face-at .ensures))
 
   abbrev says : List Face → Values
   says fs = below (limit (m .before .before)) (m .before .before .loop .done) fs
 
-  values : says (m .face-at .result ∷ behind (m .before .before)) ≡ below (limit (m .before .before)) 0 (all (m .before .before))
+  values : says (m .face-at .result ∷ later (m .before .before)) ≡ below (limit (m .before .before)) 0 (all (m .before .before))
   values = ap says (sym here) ∙ m .before .before .loop .inv .3
 
-  stopped : {k : ℕ} → says (m .face-at .result ∷ behind (m .before .before)) ≡ Past k
+  stopped : {k : ℕ} → says (m .face-at .result ∷ later (m .before .before)) ≡ Past k
       → countedBy (Past k) [] ≡ scanOf (limit (m .before .before)) (all (m .before .before))
   stopped e = scan-past (limit (m .before .before)) (all (m .before .before)) (sym values ∙ e)
 
-  count : m .before .before .loop .degenerate + degenerates (m .face-at .result ∷ behind (m .before .before)) ≡ degenerates (all (m .before .before))
+  count : m .before .before .loop .degenerate + degenerates (m .face-at .result ∷ later (m .before .before)) ≡ degenerates (all (m .before .before))
   count = ap (λ fs. m .before .before .loop .degenerate + degenerates fs) (sym here) ∙ m .before .before .loop .inv .4
 
 face-at-requires : tie.Need-face-at-requires Inv-loop μ-loop
 face-at-requires c κs = search needs
 
-past-requires : tie.Need-past-requires Inv-loop μ-loop
-past-requires c κs = search needs
+refused-value-requires : tie.Need-refused-value-requires Inv-loop μ-loop
+refused-value-requires c κs = search needs
 
 returns : tie.Need-returns Inv-loop μ-loop
 returns c =
     let m = c .before .before .before in
     let l = m .before .before in
-    told scanNumbers (c .past .ensures ∙ stopped m (past-first (limit l) (l .loop .done) (m .face-at .result) (behind l) (omega arith)))
+    told scanNumbers (c .refused-value .ensures ∙ stopped m (past-first (limit l) (l .loop .done) (m .face-at .result) (later l) (omega arith)))
 
-add-past : tie.Need-add-past Inv-loop μ-loop
-add-past c = omega arith
+add-refused-value : tie.Need-add-refused-value Inv-loop μ-loop
+add-refused-value c = omega arith
 
-past-requires-2 : tie.Need-past-requires-2 Inv-loop μ-loop
-past-requires-2 c κs = search needs
+refused-value-requires-2 : tie.Need-refused-value-requires-2 Inv-loop μ-loop
+refused-value-requires-2 c κs = search needs
 
 returns-2 : tie.Need-returns-2 Inv-loop μ-loop
 returns-2 c =
     let m = c .before .before .before .before .before in
     let l = m .before .before in
-    told scanNumbers (c .past2 .ensures ∙ stopped m (past-second (limit l) (l .loop .done) (m .face-at .result) (behind l) (omega arith) (omega arith)))
+    told scanNumbers (c .refused-value2 .ensures ∙ stopped m (past-second (limit l) (l .loop .done) (m .face-at .result) (later l) (omega arith) (omega arith)))
 
-add-past-2 : tie.Need-add-past-2 Inv-loop μ-loop
-add-past-2 c = omega arith
+add-refused-value-2 : tie.Need-add-refused-value-2 Inv-loop μ-loop
+add-refused-value-2 c = omega arith
 
-past-requires-3 : tie.Need-past-requires-3 Inv-loop μ-loop
-past-requires-3 c κs = search needs
+refused-value-requires-3 : tie.Need-refused-value-requires-3 Inv-loop μ-loop
+refused-value-requires-3 c κs = search needs
 
 returns-3 : tie.Need-returns-3 Inv-loop μ-loop
 returns-3 c =
     let m = c .before .before .before .before .before .before .before in
     let l = m .before .before in
-    told scanNumbers (c .past3 .ensures ∙ stopped m (past-third (limit l) (l .loop .done) (m .face-at .result) (behind l) (omega arith) (omega arith) (omega arith)))
+    told scanNumbers (c .refused-value3 .ensures ∙ stopped m (past-third (limit l) (l .loop .done) (m .face-at .result) (later l) (omega arith) (omega arith) (omega arith)))
 
 is-degenerate-requires : tie.Need-is-degenerate-requires Inv-loop μ-loop
 is-degenerate-requires c κs = search needs
@@ -152,10 +152,10 @@ loop-again c =
       omega arith,
       omega (arith, more),
       omega arith,
-      sym (passed (limit l) (l .loop .done) f (behind l) (omega arith) (omega arith) (omega arith)) ∙ values m,
+      sym (passed (limit l) (l .loop .done) f (later l) (omega arith) (omega arith) (omega arith)) ∙ values m,
       ⊎-elim
-          (λ e. counted (l .loop .degenerate) f (behind l) (sym is ∙ e .0 .taken) (e .2))
-          (λ e. not-counted (l .loop .degenerate) f (behind l) (sym is ∙ e .0 .left) (e .2))
+          (λ e. counted (l .loop .degenerate) f (later l) (sym is ∙ e .0 .taken) (e .2))
+          (λ e. not-counted (l .loop .degenerate) f (later l) (sym is ∙ e .0 .left) (e .2))
           (c .if4 .came)
           ∙ count m,
     )
@@ -185,13 +185,13 @@ scan-spec =
     mul-step
     loop-holds
     face-at-requires
-    past-requires
+    refused-value-requires
     returns
-    add-past
-    past-requires-2
+    add-refused-value
+    refused-value-requires-2
     returns-2
-    add-past-2
-    past-requires-3
+    add-refused-value-2
+    refused-value-requires-3
     returns-3
     is-degenerate-requires
     add-degenerate

@@ -1,4 +1,4 @@
--- `le::copy`: so many bytes are written.
+-- `le::copy`: n bytes are written.
 use Prim.Native.Nat.{_+_, _-_, _≤_}
 use native.Mathlib.Omega.{arith}
 use native.Mathlib.Nat.{zero-add}

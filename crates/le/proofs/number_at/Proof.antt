@@ -23,7 +23,7 @@ wide-requires c κs = search needs
 u32-at-requires : tie.Need-u32-at-requires
 u32-at-requires c κs = search needs
 
--- so many bytes as the match found
+-- as many bytes as the match found
 width : (c : tie.After-u32-at) (w : ℕ) → c .before .before .before .before .before .args .width ≡ w
     → numberAt (min w 4) (c .before .before .before .before .before .args .bytes .now) (c .before .before .before .before .before .args .at)
     ≡ numberAt (min (c .before .before .before .before .before .args .width) 4) (c .before .before .before .before .before .args .bytes .now) (c .before .before .before .before .before .args .at)

@@ -17,14 +17,14 @@ part-rest-start c = search needs
 part-rest-end : tie.Need-part-rest-end
 part-rest-end c = search needs
 
-byte-requires : tie.Need-byte-requires
-byte-requires c κs = search needs
+byte-at-requires : tie.Need-byte-at-requires
+byte-at-requires c κs = search needs
 
 wide16-requires : tie.Need-wide16-requires
 wide16-requires c κs = search needs
 
-byte-requires-2 : tie.Need-byte-requires-2
-byte-requires-2 c κs = search needs
+byte-at-requires-2 : tie.Need-byte-at-requires-2
+byte-at-requires-2 c κs = search needs
 
 wide16-requires-2 : tie.Need-wide16-requires-2
 wide16-requires-2 c κs = search needs
@@ -38,7 +38,7 @@ add-result c = search needs
 returns-2 : tie.Need-returns-2
 returns-2 c =
     let b = c .before .before .before .before .before .before .before in
-    numberAt-halves 1 (b .args .bytes .now) (b .args .at) (c .before .before .wide16 .ensures .0 ∙ c .before .before .before .byte .ensures) (c .wide162 .ensures .0 ∙ c .before .byte2 .ensures)
+    numberAt-halves 1 (b .args .bytes .now) (b .args .at) (c .before .before .wide16 .ensures .0 ∙ c .before .before .before .byte-at .ensures) (c .wide162 .ensures .0 ∙ c .before .byte-at2 .ensures)
 
 pub u16-at-spec : {M : Type 1} → statement M
 u16-at-spec =
@@ -48,9 +48,9 @@ u16-at-spec =
     sub-rest
     part-rest-start
     part-rest-end
-    byte-requires
+    byte-at-requires
     wide16-requires
-    byte-requires-2
+    byte-at-requires-2
     wide16-requires-2
     mul-result
     add-result

@@ -1,4 +1,4 @@
--- `listing::accepted`: the head, the lines of the rows, and the foot, one behind the other.
+-- `listing::accepted`: the head, the lines of the rows, and the foot, one after the other.
 use native.Mathlib.Omega.{arith}
 use mathlib.Core.Path.{_≡_, refl, sym}
 use mathlib.Core.List.{List, [], _++_, append-nil}
@@ -77,8 +77,8 @@ returns c =
 put-line-requires : tie.Need-put-line-requires
 put-line-requires c κs = search needs
 
-put-nodes-requires : tie.Need-put-nodes-requires
-put-nodes-requires c κs = search needs
+put-node-lines-requires : tie.Need-put-node-lines-requires
+put-node-lines-requires c κs = search needs
 
 put-foot-requires : tie.Need-put-foot-requires
 put-foot-requires c κs = search needs
@@ -93,7 +93,7 @@ returns-2 c =
     let n = h .before .before .before in
     let parts = file-parts (bytes n) (account n) (listed n) in
     let put-summary = passed-more (out n) 0 (whole n) (passed-none (out n) 0 (whole n)) (head n) (rows n ++ foot n) parts (h .put-line .ensures) in
-    let put-rows = passed-more (out n) 0 (whole n) put-summary (rows n) (foot n) refl (r .put-nodes .ensures) in
+    let put-rows = passed-more (out n) 0 (whole n) put-summary (rows n) (foot n) refl (r .put-node-lines .ensures) in
     let put-foot = passed-more (out n) 0 (whole n) put-rows (foot n) [] (sym (append-nil (foot n))) (c .before .before .put-foot .ensures) in
     puts-written (out n) 0 (whole n) (omega (arith, long n, h .before .before .if1 .left)) (passed-all (out n) 0 (whole n) put-foot refl)
 
@@ -110,7 +110,7 @@ accepted-spec =
     add-if1-2
     returns
     put-line-requires
-    put-nodes-requires
+    put-node-lines-requires
     put-foot-requires
     same-length
     returns-2)

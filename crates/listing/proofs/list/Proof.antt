@@ -9,8 +9,7 @@ use borrow.Author.Tests.{le-leb}
 use Rattle.le.specs.Le.{AreBytes}
 use Rattle.table.specs.Table.{rowsAt, hasRoom}
 use Rattle.reader.specs.declared.Reading.{Reading}
-use Rattle.reader.specs.Reading.{verdict}
-use Rattle.reader.specs.Contract.{Small}
+use Rattle.reader.specs.Reading.{verdict, Small}
 use Rattle.reader.proofs.Exactly.{in-room}
 use Rattle.reader.proofs.Accepted.{table-rows}
 use Rattle.listing.proofs.Listed.{listing-long, listing-refused, listing-accepted}
@@ -41,7 +40,7 @@ enum-known-reading c = search needs
 slice-aggregate-accepted : tie.Need-slice-aggregate-accepted
 slice-aggregate-accepted c = search needs
 
--- behind the reading: the input's bytes, and the table's room
+-- after the reading: the input's bytes, and the table's room
 module _ (c : tie.After-read) where
   abbrev start : tie.Start
   start = c .before .before .before .before .before

@@ -3,7 +3,7 @@ use Prim.Native.Nat.{_+_, _-_, _*_, _≤_}
 use native.Mathlib.Omega.{arith}
 use mathlib.Core.Path.{_≡_, ap, _∙_}
 use lib.ListN.{length, length-append}
-use Rattle.listing.specs.declared.Line.the-variants.{Node}
+use Rattle.listing.specs.declared.TextLine.the-variants.{Node}
 use Rattle.listing.specs.Listing.{textOf}
 use Rattle.listing.proofs.Whole.{nodesFrom, nodes-all, nodes-more, nodes-none}
 use borrow.Author.Needs.{needs}

@@ -1,8 +1,8 @@
--- `listing::put_foot`: three lines, one behind the other.
+-- `listing::put_foot`: three lines, one after the other.
 use mathlib.Core.Path.{_≡_, refl}
 use mathlib.Core.List.{List, [], _++_}
 use Prim.Native.Nat.{ℕ}
-use Rattle.listing.specs.declared.Line.the-variants.{FileHeader, Faces, Total}
+use Rattle.listing.specs.declared.TextLine.the-variants.{FileHeader, Faces, Total}
 use Rattle.listing.specs.Listing.{textOf, footLines, printed}
 use Rattle.listing.proofs.Laws.{Passed, passed-none, passed-room, passed-more, passed-all}
 use Rattle.listing.proofs.Whole.{foot-parts}

@@ -3,15 +3,15 @@ use mathlib.Core.Path.{_≡_}
 use mathlib.Core.List.{List, _++_}
 use Prim.Native.Nat.{ℕ}
 use Rattle.base.specs.Letters.{letters}
-use Rattle.listing.specs.declared.Line.{Line}
+use Rattle.listing.specs.declared.TextLine.{TextLine}
 use Rattle.listing.specs.Listing.{textOf, newline, wordsOf}
-use Rattle.listing.specs.Contract.{Puts}
+use Rattle.listing.specs.Private.{Puts}
 use Rattle.listing.proofs.Laws.{puts-first}
 use borrow.Author.Needs.{needs}
 use Rattle.listing.proofs.put_line.Statement.{statement}
 use Rattle.listing.proofs.put_line.Tie as tie
 
-as-line : {l k : Line} {out last : List ℕ} {at r : ℕ} → l ≡ k → Puts out at (textOf k) r last → Puts out at (textOf l) r last
+as-line : {l k : TextLine} {out last : List ℕ} {at r : ℕ} → l ≡ k → Puts out at (textOf k) r last → Puts out at (textOf l) r last
 as-line e p = rw e p
 
 enum-known-line : tie.Need-enum-known-line
@@ -23,8 +23,8 @@ put-summary-requires c κs = rw (c .before .before .line .given .1) at (c .befor
 enum-known-line-2 : tie.Need-enum-known-line-2
 enum-known-line-2 c = search needs
 
-put-node-requires : tie.Need-put-node-requires
-put-node-requires c κs = rw (c .before .before .line2 .given .1) at (c .before .before .before .before .before .pre)
+put-node-line-requires : tie.Need-put-node-line-requires
+put-node-line-requires c κs = rw (c .before .before .line2 .given .1) at (c .before .before .before .before .before .pre)
 
 enum-told : tie.Need-enum-told
 enum-told c = search needs
@@ -92,7 +92,7 @@ same-length-2 : tie.Need-same-length-2
 same-length-2 c = search needs
 
 returns-2 : tie.Need-returns-2
-returns-2 c = as-line (c .before .before .before .before .before .line2 .given .1) (c .before .before .put-node .ensures)
+returns-2 c = as-line (c .before .before .before .before .before .line2 .given .1) (c .before .before .put-node-line .ensures)
 
 same-length-3 : tie.Need-same-length-3
 same-length-3 c = search needs
@@ -141,7 +141,7 @@ put-line-spec =
     enum-known-line
     put-summary-requires
     enum-known-line-2
-    put-node-requires
+    put-node-line-requires
     enum-told
     slice-aggregate-put
     put-requires

@@ -2,7 +2,7 @@
 use mathlib.Core.Path.{sym, ap, subst, _∙_}
 use Prim.Native.Nat.{_≤_}
 use lib.ListN.{length}
-use Rattle.lookup.specs.Lookup.{partOf, Within}
+use Rattle.lookup.specs.Lookup.{partOf, FoundWithin}
 use borrow.Author.Needs.{needs}
 use Rattle.lookup.proofs.data.Statement.{statement}
 use Rattle.lookup.proofs.data.Tie as tie
@@ -11,7 +11,7 @@ lies : (c : tie.After-known-told) → (c .before .start .given .0 .0 ≤ c .befo
 lies c =
     let d = c .before .before .before in
     let a = d .before .before .before .before .args in
-    subst (Within (length (a .bytes .now))) (c .before .start .given .1) (d .find .ensures .1 .0)
+    subst (FoundWithin (length (a .bytes .now))) (c .before .start .given .1) (d .find .ensures .1 .0)
 
 find-requires : tie.Need-find-requires
 find-requires c κs = search needs

@@ -1,7 +1,7 @@
 -- `names::number`: each refusal by its law, else the digits.
 use mathlib.Core.Path.{sym, _∙_}
 use borrow.Author.Needs.{needs}
-use Rattle.names.proofs.Laws.{number-none, number-long, number-leading, number-decimal}
+use Rattle.names.proofs.Laws.{number-none, number-long, number-leading, number-read-digits}
 use Rattle.names.proofs.number.Statement.{statement}
 use Rattle.names.proofs.number.Tie as tie
 
@@ -17,15 +17,15 @@ shared-slice-read-if3 c = search needs
 returns-3 : tie.Need-returns-3
 returns-3 c = sym (number-leading _ (c .if3 .taken))
 
-decimal-requires : tie.Need-decimal-requires
-decimal-requires c κs = search needs
+read-digits-requires : tie.Need-read-digits-requires
+read-digits-requires c κs = search needs
 
 returns-4 : tie.Need-returns-4
 returns-4 c =
     let b = c .before .before .before in
-    c .decimal .ensures ∙ sym (number-decimal _ (b .before .if1 .left) (b .if2 .left) (c .before .if3 .left))
+    c .read-digits .ensures ∙ sym (number-read-digits _ (b .before .if1 .left) (b .if2 .left) (c .before .if3 .left))
 
 pub number-spec : {M : Type 1} → statement M
 number-spec =
     tie.close
-    (tie.spec returns returns-2 shared-slice-read-if3 returns-3 decimal-requires returns-4)
+    (tie.spec returns returns-2 shared-slice-read-if3 returns-3 read-digits-requires returns-4)

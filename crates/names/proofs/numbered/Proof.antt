@@ -1,4 +1,4 @@
--- `names::numbered`: a name shorter than the prefix, another prefix, or the number behind the prefix.
+-- `names::numbered`: a name shorter than the prefix, another prefix, or the number after the prefix.
 use mathlib.Core.Path.{sym, _∙_}
 use lib.Seq.{length-take-le}
 use borrow.Author.Needs.{needs}

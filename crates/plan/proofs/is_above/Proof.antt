@@ -2,7 +2,7 @@
 use native.Mathlib.Omega.{arith}
 use mathlib.Core.Path.{refl}
 use borrow.Author.Needs.{needs}
-use Rattle.plan.specs.Contract.{pathAt}
+use Rattle.plan.specs.Private.{pathAt}
 use Rattle.plan.proofs.Paths.{height, Climbing, climbing-small, climbing-found, climbing-next, climbing-ended}
 use Rattle.plan.proofs.is_above.Statement.{statement}
 use Rattle.plan.proofs.is_above.Tie as tie

@@ -6,8 +6,8 @@ use mathlib.Core.Logic.{⊎-elim}
 use lib.ListN.{getD}
 use borrow.Author.Needs.{needs}
 use Rattle.table.specs.Table.{noParent, rowsAt}
-use Rattle.plan.specs.Plan.{naming, judged}
-use Rattle.plan.specs.Contract.{pathAt, Climbs}
+use Rattle.plan.specs.Plan.{naming, planRefusal}
+use Rattle.plan.specs.Private.{pathAt, Climbs}
 use Rattle.plan.proofs.Paths.{climbs-below, path-known, path-unknown}
 use Rattle.plan.proofs.Judging.{right, judgedAt, judging-begun, judging-refused, judging-passed, judging-ended}
 use Rattle.plan.proofs.judge_rows.Statement.{statement}
@@ -15,7 +15,7 @@ use Rattle.plan.proofs.judge_rows.Tie as tie
 
 abbrev Inv-loop : tie.InvT-loop
 Inv-loop plan rows source counts from₀ i₀ from i =
-    (i ≤ rows) × Climbs plan i from (pathAt plan i) × (judgedAt source plan rows i ≡ judged source (rowsAt plan 0 rows))
+    (i ≤ rows) × Climbs plan i from (pathAt plan i) × (judgedAt source plan rows i ≡ planRefusal source (rowsAt plan 0 rows))
 
 abbrev μ-loop : tie.MeasureT-loop
 μ-loop plan rows source counts from₀ i₀ from i = rows - i
@@ -30,14 +30,14 @@ row-at-requires c κs = search needs
 known-requires : tie.Need-known-requires Inv-loop μ-loop
 known-requires c κs = search needs
 
-mul-refusal : tie.Need-mul-refusal Inv-loop μ-loop
-mul-refusal c = search needs
+mul-row-refusal : tie.Need-mul-row-refusal Inv-loop μ-loop
+mul-row-refusal c = search needs
 
-shared-slice-read-refusal : tie.Need-shared-slice-read-refusal Inv-loop μ-loop
-shared-slice-read-refusal c = search needs
+shared-slice-read-row-refusal : tie.Need-shared-slice-read-row-refusal Inv-loop μ-loop
+shared-slice-read-row-refusal c = search needs
 
-refusal-requires : tie.Need-refusal-requires Inv-loop μ-loop
-refusal-requires c κs =
+row-refusal-requires : tie.Need-row-refusal-requires Inv-loop μ-loop
+row-refusal-requires c κs =
     let k = c .before in
     let l = k .before .before .before in
     let t = l .before .before .before .before .args .plan .now in
@@ -45,7 +45,7 @@ refusal-requires c κs =
     (climbs-below t i noParent (l .loop .from) (pathAt t i) (omega arith) (l .loop .inv .1), k .known .ensures)
 
 -- where a row is judged: the row, the loop's test, the loop and the start
-module _ (c : tie.After-refusal Inv-loop μ-loop) where
+module _ (c : tie.After-row-refusal Inv-loop μ-loop) where
   abbrev row : tie.After-row-at Inv-loop μ-loop
   row = c .before .before .before
 
@@ -64,13 +64,11 @@ module _ (c : tie.After-refusal Inv-loop μ-loop) where
   named : getD (start .args .counts .now) (at-loop .loop .i) 0 ≡ naming (rowsAt (start .args .plan .now) 0 (start .args .rows)) (at-loop .loop .i)
   named = start .pre .2 _ few
 
-cast-place : tie.Need-cast-place Inv-loop μ-loop
-cast-place c = omega (arith, few (c .before))
-
 returns : tie.Need-returns Inv-loop μ-loop
 returns c =
     let r = c .before in
-    sym (judging-refused _ _ _ _ (turn r .loop-test .taken) (row r .row-at .ensures) (named r) (r .refusal .ensures) (c .if1 .taken)) ∙ at-loop r .loop .inv .2
+    let says = judging-refused _ _ _ _ (turn r .loop-test .taken) (row r .row-at .ensures) (named r) (r .row-refusal .ensures) (c .if1 .taken) in
+    (sym says ∙ at-loop r .loop .inv .2, omega (arith, few r))
 
 cast-from : tie.Need-cast-from Inv-loop μ-loop
 cast-from c = omega (arith, few (c .before .before))
@@ -87,17 +85,17 @@ loop-again c =
     let r = e .before in
     let k = r .before .before in
     let l = at-loop r .loop .inv in
-    let ok = right _ _ _ _ (sym (r .refusal .ensures) ∙ e .if1 .left) in (
+    let ok = right _ _ _ _ (sym (r .row-refusal .ensures) ∙ e .if1 .left) in (
       omega (arith, turn r .loop-test .taken),
       ⊎-elim
           (λ w. rw (w .1) (path-known _ _ _ (omega (arith, few r)) (row r .row-at .ensures) ok (l .1) (sym (k .known .ensures) ∙ w .0 .taken)))
           (λ w. rw (w .1) (path-unknown _ _ _ (omega (arith, few r)) (row r .row-at .ensures) ok (l .1) (sym (k .known .ensures) ∙ w .0 .left)))
           (c .if2 .came),
-      sym (judging-passed _ _ _ _ (turn r .loop-test .taken) (row r .row-at .ensures) (named r) (r .refusal .ensures) (e .if1 .left)) ∙ l .2,
+      sym (judging-passed _ _ _ _ (turn r .loop-test .taken) (row r .row-at .ensures) (named r) (r .row-refusal .ensures) (e .if1 .left)) ∙ l .2,
     )
 
 returns-2 : tie.Need-returns-2 Inv-loop μ-loop
-returns-2 c = let l = c .before in sym (judging-ended _ _ _ _ (c .loop-test .left)) ∙ l .loop .inv .2
+returns-2 c = (sym (judging-ended _ _ _ _ (c .loop-test .left)) ∙ c .before .loop .inv .2, omega arith)
 
 pub judge-rows-spec : {M : Type 1} → statement M
 judge-rows-spec =
@@ -108,10 +106,9 @@ judge-rows-spec =
     loop-holds
     row-at-requires
     known-requires
-    mul-refusal
-    shared-slice-read-refusal
-    refusal-requires
-    cast-place
+    mul-row-refusal
+    shared-slice-read-row-refusal
+    row-refusal-requires
     returns
     cast-from
     add-i

@@ -1,89 +1,42 @@
--- `plan::refusal`: the first test that fails.
-use mathlib.Core.Path.{_≡_, sym, ap, _∙_}
-use mathlib.Core.Bool.{true, false}
-use lib.ListN.{length}
+-- `plan::refusal`: the rows naming each row are counted first.
+use Prim.Native.Nat.{_≤_, min}
+use native.Mathlib.Nat.{min-eq-left}
+use native.Mathlib.Omega.{arith}
+use mathlib.Core.Path.{_≡_, ap, _∙_}
+use mathlib.Core.Logic.{⊎-elim}
 use borrow.Author.Needs.{needs}
-use borrow.Author.Tests.{not-true, not-false}
-use Rattle.kinds.specs.Kinds.{isKnown}
-use Rattle.body.specs.Body.{exactly}
-use Rattle.format.specs.Rows.{bodyOf}
-use Rattle.plan.specs.Plan.{rightParent, outside}
-use Rattle.plan.specs.Contract.{pathAt}
-use Rattle.plan.proofs.Judging.{refusal-parent, refusal-outside, refusal-unknown, refusal-body, refusal-children, refusal-none}
+use Rattle.table.specs.Table.{rowsAt}
+use Rattle.plan.specs.Plan.{naming, planRefusal}
 use Rattle.plan.proofs.refusal.Statement.{statement}
 use Rattle.plan.proofs.refusal.Tie as tie
 
-right-parent-requires : tie.Need-right-parent-requires
-right-parent-requires c κs = search needs
+count-under-requires : tie.Need-count-under-requires
+count-under-requires c κs = search needs
+
+-- this many rows are judged
+many : (c : tie.Joined1) → c .if1 .n ≡ min (c .before .before .before .args .rows) 1024
+many c = ⊎-elim (λ w. omega (arith, w .0 .taken, w .1)) (λ w. omega (arith, w .0 .left, w .1)) (c .if1 .came)
+
+slice-aggregate-judge-rows : tie.Need-slice-aggregate-judge-rows
+slice-aggregate-judge-rows c = search needs
+
+judge-rows-requires : tie.Need-judge-rows-requires
+judge-rows-requires c κs =
+    let j = c .before .before in
+    let few : j .if1 .n ≤ 1024 = omega (arith, many j) in
+    (few, search needs, λ p b. c .before .count-under .ensures p b ∙ ap (λ n. naming (rowsAt (j .before .before .before .args .plan .now) 0 n) p) (min-eq-left few))
 
 returns : tie.Need-returns
-returns c = refusal-parent _ _ _ _ (sym (c .before .right-parent .ensures) ∙ not-true _ (c .if1 .taken))
-
-outside-requires : tie.Need-outside-requires
-outside-requires c κs = search needs
-
--- what is known of the row after each test
-right-parent : (c : tie.Else1) → let a = c .before .before .before .before .args in rightParent (a .row) (pathAt (a .plan .now) (a .index)) ≡ true
-right-parent c = sym (c .before .right-parent .ensures) ∙ not-false _ (c .if1 .left)
-
-inside : (c : tie.Else2) → let a = c .before .before .before .before .before .before .args in outside (length (a .source .now)) (a .row) ≡ false
-inside c = sym (c .before .outside .ensures) ∙ c .if2 .left
-
-known : (c : tie.Else3) → isKnown (c .before .before .before .before .before .before .before .args .row .kind) ≡ true
-known c = sym (c .before .before .before .before .before .before .before .pre .1) ∙ not-false _ (c .if3 .left)
-
-returns-2 : tie.Need-returns-2
-returns-2 c = refusal-outside _ _ _ _ (right-parent (c .before .before)) (sym (c .before .outside .ensures) ∙ c .if2 .taken)
-
-returns-3 : tie.Need-returns-3
-returns-3 c =
-    let o = c .before in
-    refusal-unknown _ _ _ _ (right-parent (o .before .before)) (inside o) (sym (o .before .before .before .before .before .before .pre .1) ∙ not-true _ (c .if3 .taken))
-
-body-of-requires : tie.Need-body-of-requires
-body-of-requires c κs = search needs
-
-exact-requires : tie.Need-exact-requires
-exact-requires c κs = search needs
-
-exact : (c : tie.After-exact) → let a = c .before .before .before .before .before .before .before .before .before .args in
-    c .exact .result ≡ exactly (bodyOf (a .source .now) (a .row)) (a .row .properties)
-exact c =
-    let b = c .before in
-    let a = b .before .before .before .before .before .before .before .before .args in
-    c .exact .ensures ∙ ap (λ l. exactly l (a .row .properties)) (b .body-of .ensures)
-
-returns-4 : tie.Need-returns-4
-returns-4 c =
-    let k = c .before .before .before in
-    let o = k .before in
-    refusal-body _ _ _ _ (right-parent (o .before .before)) (inside o) (known k) (sym (exact (c .before)) ∙ not-true _ (c .if4 .taken))
-
-returns-5 : tie.Need-returns-5
-returns-5 c =
-    let e = c .before .before in
-    let k = e .before .before .before in
-    let o = k .before in
-    refusal-children _ _ _ _ (right-parent (o .before .before)) (inside o) (known k) (sym (exact (e .before)) ∙ not-false _ (e .if4 .left)) (c .if5 .taken)
-
-returns-6 : tie.Need-returns-6
-returns-6 c =
-    let e = c .before .before in
-    let k = e .before .before .before in
-    let o = k .before in
-    refusal-none _ _ _ _ (right-parent (o .before .before)) (inside o) (known k) (sym (exact (e .before)) ∙ not-false _ (e .if4 .left)) (c .if5 .left)
+returns c =
+    let j = c .before .before .before in
+    let a = j .before .before .before .args in
+    (c .judge-rows .ensures .0 ∙ ap (λ n. planRefusal (a .source .now) (rowsAt (a .plan .now) 0 n)) (many j), c .judge-rows .ensures .1)
 
 pub refusal-spec : {M : Type 1} → statement M
 refusal-spec =
     tie.close
     (tie.spec
-    right-parent-requires
-    returns
-    outside-requires
-    returns-2
-    returns-3
-    body-of-requires
-    exact-requires
-    returns-4
-    returns-5
-    returns-6)
+    count-under-requires
+    slice-aggregate-judge-rows
+    judge-rows-requires
+    returns)

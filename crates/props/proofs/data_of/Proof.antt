@@ -5,7 +5,8 @@ use mathlib.Core.Path.{_≡_, sym, ap, _∙_}
 use lib.ListN.{length}
 use Rattle.props.specs.declared.Size.{Size}
 use Rattle.props.specs.declared.Extent.the-variants.{Takes}
-use Rattle.props.specs.Step.{toZero, extentOf, dataOf}
+use Rattle.props.specs.Step.{toZero}
+use Rattle.props.specs.Private.{extentOf, dataOf}
 use Rattle.props.proofs.Cases.{product-fits, fit-out, fit-in, data-refused, data-right}
 use Rattle.props.proofs.data_of.Statement.{statement}
 use Rattle.props.proofs.data_of.Tie as tie

@@ -3,21 +3,21 @@ use native.Mathlib.Omega.{arith}
 use mathlib.Core.Path.{_≡_, sym, ap, _∙_}
 use mathlib.Core.Bool.{Bool}
 use borrow.Author.Tests.{not-true, not-false}
-use Rattle.props.specs.Types.{sizeOf, noSuch}
+use Rattle.props.specs.Types.{elementSize, noSuch}
 use Rattle.props.proofs.Cases.{no-header, no-type, no-name, name-out, header-right}
 use borrow.Author.Needs.{needs}
 use Rattle.props.proofs.header_refusal.Statement.{statement}
 use Rattle.props.proofs.header_refusal.Tie as tie
 
 -- what was found of the type
-type : (c : tie.After-no-such) {b : Bool} → c .no-such .result ≡ b → noSuch (sizeOf (c .before .before .before .args .code)) ≡ b
-type c e = ap noSuch (sym (c .before .size-of .ensures .0)) ∙ sym (c .no-such .ensures) ∙ e
+type : (c : tie.After-no-such) {b : Bool} → c .no-such .result ≡ b → noSuch (elementSize (c .before .before .before .args .code)) ≡ b
+type c e = ap noSuch (sym (c .before .element-size .ensures .0)) ∙ sym (c .no-such .ensures) ∙ e
 
 returns : tie.Need-returns
 returns c = let a = c .before .args in no-header (a .code) (a .size) (a .room) (c .if1 .taken)
 
-size-of-requires : tie.Need-size-of-requires
-size-of-requires c κs = search needs
+element-size-requires : tie.Need-element-size-requires
+element-size-requires c κs = search needs
 
 no-such-requires : tie.Need-no-such-requires
 no-such-requires c κs = search needs
@@ -59,7 +59,7 @@ header-refusal-spec =
     tie.close
     (tie.spec
     returns
-    size-of-requires
+    element-size-requires
     no-such-requires
     returns-2
     size-ok-requires

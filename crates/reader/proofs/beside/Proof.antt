@@ -1,4 +1,4 @@
--- `reader::beside`: behind the last number there is none.
+-- `reader::beside`: after the last number there is none.
 use native.Mathlib.Omega.{arith}
 use mathlib.Core.Path.{sym}
 use lib.ListN.{List·getD-eq-default}

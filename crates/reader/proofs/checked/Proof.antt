@@ -3,41 +3,38 @@ use Prim.Native.Nat.{ℕ}
 use native.Mathlib.Omega.{arith}
 use mathlib.Core.Path.{_≡_, refl, sym, ap, _∙_}
 use mathlib.Core.List.{List}
-use lib.ListN.{length, length-replicate}
+use lib.ListN.{length}
 use borrow.Author.Needs.{needs}
-use Rattle.base.proofs.Stores.{zeros}
 use Rattle.table.proofs.Rests.{length-rowsAt}
 use Rattle.table.specs.declared.Row.{Row}
 use Rattle.table.specs.Table.{rowsAt}
 use Rattle.links.specs.Links.{linked}
 use Rattle.reader.specs.declared.Reading.the-variants.{Refused}
 use Rattle.reader.specs.Reading.{ruled}
-use Rattle.reader.specs.Contract.{leftIn}
+use Rattle.reader.specs.Private.{leftIn}
 use Rattle.reader.proofs.Judging.{links-counted}
-use Rattle.reader.proofs.Whole.{bones-ok, table-ok, links-place, refused-rules, refused-links, account-checked}
+use Rattle.reader.proofs.Whole.{bones-counted, table-ok, links-place, refused-rules, refused-links, account-checked}
 use Rattle.reader.proofs.checked.Statement.{statement}
 use Rattle.reader.proofs.checked.Tie as tie
 
-slice-aggregate-count-bones : tie.Need-slice-aggregate-count-bones
-slice-aggregate-count-bones c = search needs
-
-count-bones-requires : tie.Need-count-bones-requires
-count-bones-requires c κs =
-    let s = c .before .before .before .before in
-    let a = s .args in
-    (s .pre .0, length-replicate {A = ℕ} 1024 0, zeros 1024, bones-ok (length (a .file .now)) (a .table .now) (a .nodes) (s .pre .0) (s .pre .1))
+count-under-requires : tie.Need-count-under-requires
+count-under-requires c κs = search needs
 
 slice-aggregate-rules-of : tie.Need-slice-aggregate-rules-of
 slice-aggregate-rules-of c = search needs
 
 rules-of-requires : tie.Need-rules-of-requires
-rules-of-requires c κs = search needs
+rules-of-requires c κs =
+    let s = c .before .before .before .before .before .before in
+    let k = c .before .before .count-under in
+    let long : length (k .result) ≡ 1024 = search needs in
+    (s .pre .0, s .pre .1, bones-counted (length (s .args .file .now)) (s .args .table .now) (s .args .nodes) (s .pre .0) (s .pre .1) (k .result) long (k .ensures))
 
-cast-refused : tie.Need-cast-refused
-cast-refused c = search needs
+cast-refuse-and-clear : tie.Need-cast-refuse-and-clear
+cast-refuse-and-clear c = search needs
 
-refused-requires : tie.Need-refused-requires
-refused-requires c κs = search needs
+refuse-and-clear-requires : tie.Need-refuse-and-clear-requires
+refuse-and-clear-requires c κs = search needs
 
 same-length : tie.Need-same-length
 same-length c = search needs
@@ -45,7 +42,7 @@ same-length c = search needs
 -- at the rules' answer: the file, its rows, and that the rules are those of the rows
 module _ (c : tie.After-rules-of) where
   abbrev start : tie.Start
-  start = c .before .before .before .before .before .before .before .before .before
+  start = c .before .before .before .before .before .before .before
 
   abbrev file : List ℕ
   file = start .args .file .now
@@ -63,7 +60,7 @@ module _ (c : tie.After-rules-of) where
 returns : tie.Need-returns
 returns c =
     let r = c .before .before .before .before .before .before .before in
-    let x = c .before .before .refused .ensures in (
+    let x = c .before .before .refuse-and-clear .ensures in (
       x .0 ∙ ap (λ u. Refused (u .number) (u .place)) (rules r) ∙ refused-rules (file r) (rows r) (λ e. c .before .before .before .before .before .if1 .taken (ap (λ u. u .number) (rules r) ∙ e)),
       x .1 ∙ ap (λ y. leftIn y (start r .args .table .now)) (sym (x .0)),
     )
@@ -84,16 +81,16 @@ module _ (c : tie.After-links-of) where
   no-rule : ruled (file ruled-at) (rows ruled-at) (rows ruled-at) .number ≡ 0
   no-rule = right ruled-at (c .before .before .if1 .left)
 
-cast-refused-2 : tie.Need-cast-refused-2
-cast-refused-2 c =
+cast-refuse-and-clear-2 : tie.Need-cast-refuse-and-clear-2
+cast-refuse-and-clear-2 c =
     let l = c .before .before .before in
     let s = start (ruled-at l) in
     let a = s .args in
     let ok = table-ok (length (a .file .now)) (a .table .now) (a .nodes) (s .pre .1) in
     omega (arith, ap (λ u. u .place) (links l), links-place (a .file .now) (rows (ruled-at l)) (length (a .file .now)) (a .nodes) ok, s .pre .2)
 
-refused-requires-2 : tie.Need-refused-requires-2
-refused-requires-2 c κs = search needs
+refuse-and-clear-requires-2 : tie.Need-refuse-and-clear-requires-2
+refuse-and-clear-requires-2 c κs = search needs
 
 same-length-2 : tie.Need-same-length-2
 same-length-2 c = search needs
@@ -102,7 +99,7 @@ returns-2 : tie.Need-returns-2
 returns-2 c =
     let l = c .before .before .before .before .before .before .before in
     let r = ruled-at l in
-    let x = c .before .before .refused2 .ensures in (
+    let x = c .before .before .refuse-and-clear2 .ensures in (
       x .0 ∙ ap (λ u. Refused (u .number) (u .place)) (links l)
           ∙ refused-links (file r) (rows r) (no-rule l) (λ e. c .before .before .before .before .before .if2 .taken (ap (λ u. u .number) (links l) ∙ e)),
       x .1 ∙ ap (λ y. leftIn y (start r .args .table .now)) (sym (x .0)),
@@ -131,17 +128,16 @@ pub checked-spec : {M : Type 1} → statement M
 checked-spec =
     tie.close
     (tie.spec
-    slice-aggregate-count-bones
-    count-bones-requires
+    count-under-requires
     slice-aggregate-rules-of
     rules-of-requires
-    cast-refused
-    refused-requires
+    cast-refuse-and-clear
+    refuse-and-clear-requires
     same-length
     returns
     links-of-requires
-    cast-refused-2
-    refused-requires-2
+    cast-refuse-and-clear-2
+    refuse-and-clear-requires-2
     same-length-2
     returns-2
     own-of-requires

@@ -13,8 +13,8 @@ use Rattle.table.specs.Table.{rowsAt, putRows, hasRoom, cleared}
 use Rattle.walk.specs.Walk.{limited, flagsOf}
 use Rattle.reader.specs.declared.Reading.{Reading}
 use Rattle.reader.specs.declared.Reading.the-variants.{Refused}
-use Rattle.reader.specs.Reading.{checked, numbersOf}
-use Rattle.reader.specs.Contract.{RowsOk, Small}
+use Rattle.reader.specs.Reading.{checked, numbersOf, Small}
+use Rattle.reader.specs.Private.{RowsOk}
 use Rattle.reader.proofs.Exactly.{short}
 use Rattle.reader.proofs.Sizes.{small}
 use Rattle.reader.proofs.Whole.{put-rows, put-ok, walked-ok, short-table, walk-refused, walk-accepted, refused-read, checked-read}
@@ -43,7 +43,7 @@ clear-requires c κs = search needs
 walk-requires : tie.Need-walk-requires
 walk-requires c κs = search needs
 
--- behind the walk: the file's bytes, the table's room, and the rows that were put
+-- after the walk: the file's bytes, the table's room, and the rows that were put
 module _ (c : tie.After-walk) where
   abbrev cleared-at : tie.After-clear
   cleared-at = c .before .before .before .before
@@ -89,8 +89,8 @@ module _ (c : tie.After-walk) where
     rows-there : rowsAt (c .walk .last .1 .0) 0 (c .walk .result .nodes) ≡ rows
     rows-there = ap (λ u. rowsAt u 0 (c .walk .result .nodes)) put ∙ ap (rowsAt (putRows (cleared table) 0 rows) 0) (walked .1) ∙ put-rows table rows room few
 
-refused-requires : tie.Need-refused-requires
-refused-requires c κs = search needs
+refuse-and-clear-requires : tie.Need-refuse-and-clear-requires
+refuse-and-clear-requires c κs = search needs
 
 same-length-2 : tie.Need-same-length-2
 same-length-2 c = search needs
@@ -98,7 +98,7 @@ same-length-2 c = search needs
 returns-2 : tie.Need-returns-2
 returns-2 c =
     let w = c .before .before .before .before .before .before .before .before in
-    let x = c .before .before .refused .ensures in
+    let x = c .before .before .refuse-and-clear .ensures in
     let no = c .before .before .before .before .if2 .taken in
     let is = walk-refused (file w) (table w) (w .walk .ensures .0) no in
     let read = refused-read (file w) (table w) (room w) (few w) (λ e. no (is .0 ∙ e)) (put w) in
@@ -132,7 +132,7 @@ read-spec =
     returns
     clear-requires
     walk-requires
-    refused-requires
+    refuse-and-clear-requires
     same-length-2
     returns-2
     checked-requires

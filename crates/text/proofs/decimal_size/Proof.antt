@@ -2,13 +2,13 @@
 use Prim.Native.Nat.{_+_, _-_, _^_, _≤_, _<_}
 use native.Mathlib.Omega.{arith}
 use mathlib.Core.Path.{_≡_, ap, _∙_}
-use Rattle.text.specs.Text.{sizeIn}
+use Rattle.text.specs.Text.{digitCount}
 use Rattle.text.proofs.Laws.{one-digit, more-digits}
 use Rattle.text.proofs.decimal_size.Statement.{statement}
 use Rattle.text.proofs.decimal_size.Tie as tie
 
 abbrev Inv-loop : tie.InvT-loop
-Inv-loop n k₀ rest₀ k rest = (1 ≤ k) × (k ≤ 20) × (rest < 10 ^ (21 - k)) × (sizeIn 20 n + 1 ≡ k + sizeIn (21 - k) rest)
+Inv-loop n k₀ rest₀ k rest = (1 ≤ k) × (k ≤ 20) × (rest < 10 ^ (21 - k)) × (digitCount 20 n + 1 ≡ k + digitCount (21 - k) rest)
 
 abbrev μ-loop : tie.MeasureT-loop
 μ-loop n k₀ rest₀ k rest = rest

@@ -1,8 +1,8 @@
--- `text::put`: a label with no digits behind it.
+-- `text::put`: a label with no digits after it.
 use mathlib.Core.Path.{ap, _∙_}
 use mathlib.Core.List.{append-nil}
 use borrow.Author.Needs.{needs}
-use Rattle.text.specs.Text.{digits, behind, written}
+use Rattle.text.specs.Text.{digits, placeAfter, withText}
 use Rattle.text.proofs.put.Statement.{statement}
 use Rattle.text.proofs.put.Tie as tie
 
@@ -17,7 +17,7 @@ unfolding digits
 returns c =
     let a = c .before .before .before .before .before .before .args in
     let p = c .before .before .put-number .ensures in
-    (p .0 ∙ ap (behind (a .out .now) (a .at)) (append-nil (a .text .now)), p .1 ∙ ap (written (a .out .now) (a .at)) (append-nil (a .text .now)))
+    (p .0 ∙ ap (placeAfter (a .out .now) (a .at)) (append-nil (a .text .now)), p .1 ∙ ap (withText (a .out .now) (a .at)) (append-nil (a .text .now)))
 
 pub put-spec : {M : Type 1} → statement M
 put-spec = tie.close (tie.spec put-number-requires same-length returns)

@@ -2,7 +2,7 @@
 use mathlib.Core.Path.{ap, _∙_}
 use mathlib.Core.List.{_++_}
 use borrow.Author.Needs.{needs}
-use Rattle.text.specs.Text.{digits, behind, written}
+use Rattle.text.specs.Text.{digits, placeAfter, withText}
 use Rattle.text.proofs.put_decimal.Statement.{statement}
 use Rattle.text.proofs.put_decimal.Tie as tie
 
@@ -20,8 +20,8 @@ returns c =
     let a = c .before .before .before .before .before .before .before .args in
     let p = c .before .before .put-number .ensures in
     let k = c .before .before .before .decimal-size .ensures .0 in (
-      p .0 ∙ ap (λ n. behind (a .out .now) (a .at) (a .label .now ++ digits 10 n (a .n))) k,
-      p .1 ∙ ap (λ n. written (a .out .now) (a .at) (a .label .now ++ digits 10 n (a .n))) k,
+      p .0 ∙ ap (λ n. placeAfter (a .out .now) (a .at) (a .label .now ++ digits 10 n (a .n))) k,
+      p .1 ∙ ap (λ n. withText (a .out .now) (a .at) (a .label .now ++ digits 10 n (a .n))) k,
     )
 
 pub put-decimal-spec : {M : Type 1} → statement M

@@ -1,4 +1,4 @@
--- `text::put_number`: the label is written where digits have room behind it, and then the digits.
+-- `text::put_number`: the label is written where digits have room after it, and then the digits.
 use Prim.Native.Nat.{_+_}
 use native.Mathlib.Omega.{arith}
 use mathlib.Core.List.{_++_}

@@ -3,7 +3,7 @@ use native.Mathlib.Omega.{arith}
 use mathlib.Core.Path.{sym, subst, _∙_}
 use borrow.Author.Needs.{needs}
 use Rattle.le.specs.Le.{AreBytes}
-use Rattle.trimmer.specs.Contract.{Read}
+use Rattle.trimmer.specs.Private.{Read}
 use Rattle.trimmer.proofs.Trimming.{is-read, trimmed, trimmed-refused}
 use Rattle.trimmer.proofs.trim.Statement.{statement}
 use Rattle.trimmer.proofs.trim.Tie as tie
@@ -30,6 +30,9 @@ remove-requires c κs =
 enum-known-reading-2 : tie.Need-enum-known-reading-2
 enum-known-reading-2 c = search needs
 
+refused-requires : tie.Need-refused-requires
+refused-requires c κs = search needs
+
 same-length : tie.Need-same-length
 same-length c = search needs
 
@@ -50,11 +53,12 @@ same-length-3 c = search needs
 
 returns-2 : tie.Need-returns-2
 returns-2 c =
-    let g = c .before .reading2 .given in
-    let r = c .before .before .before .before .before in
+    let g = c .before .before .reading2 .given in
+    let r = c .before .before .before .before .before .before in
     let s = r .before .before .before .before .before in
     let a = s .args in
-    trimmed-refused (a .file .now) (a .table .now) (g .0 .0) (g .0 .1 .0) (a .row) (a .out .now) _ (sym (r .read .ensures .0) ∙ g .1) (r .read .ensures .1 .1 .0)
+    let is = trimmed-refused (a .file .now) (a .table .now) (g .0 .0) (g .0 .1 .0) (a .row) (a .out .now) _ (sym (r .read .ensures .0) ∙ g .1) (r .read .ensures .1 .1 .0) in
+    (c .refused .ensures ∙ is .0, is .1)
 
 pub trim-spec : {M : Type 1} → statement M
 trim-spec =
@@ -64,6 +68,7 @@ trim-spec =
     enum-known-reading
     remove-requires
     enum-known-reading-2
+    refused-requires
     same-length
     same-length-2
     returns

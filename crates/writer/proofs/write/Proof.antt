@@ -1,4 +1,5 @@
 -- `writer::write`: 20, then what judging says, then what emitting says.
+use native.Mathlib.Omega.{arith}
 use mathlib.Core.Path.{sym, _∙_}
 use Rattle.writer.proofs.Writing.{no-plan, bad-row, emitted}
 use borrow.Author.Needs.{needs}
@@ -21,19 +22,22 @@ returns c =
 row-count-requires : tie.Need-row-count-requires
 row-count-requires c κs = search needs
 
-judge-requires : tie.Need-judge-requires
-judge-requires c κs = search needs
+refusal-requires : tie.Need-refusal-requires
+refusal-requires c κs = search needs
+
+cast-refused : tie.Need-cast-refused
+cast-refused c = omega (arith, c .before .before .before .refusal .ensures .1)
 
 refused-requires-2 : tie.Need-refused-requires-2
 refused-requires-2 c κs = search needs
 
 returns-2 : tie.Need-returns-2
 returns-2 c =
-    let j = c .before .before .before in
+    let j = c .before .before .before .before in
     let n = j .before in
     let p = n .before .before in
     let a = p .before .before .before .before .args in
-    bad-row (a .plan .now) (a .source .now) (a .flags) (a .out .now) (sym (p .is-plan .ensures) ∙ not-false _ (n .before .if1 .left)) (n .row-count .ensures) (j .judge .ensures) (c .before .if2 .taken) (c .refused2 .ensures)
+    bad-row (a .plan .now) (a .source .now) (a .flags) (a .out .now) (sym (p .is-plan .ensures) ∙ not-false _ (n .before .if1 .left)) (n .row-count .ensures) (j .refusal .ensures .0) (c .before .before .if2 .taken) (c .refused2 .ensures)
 
 emit-requires : tie.Need-emit-requires
 emit-requires c κs = search needs
@@ -49,7 +53,7 @@ returns-3 c =
     let n = j .before in
     let p = n .before .before in
     let a = p .before .before .before .before .args in
-    emitted (a .plan .now) (a .source .now) (a .flags) (a .out .now) (sym (p .is-plan .ensures) ∙ not-false _ (n .before .if1 .left)) (n .row-count .ensures) (j .judge .ensures) (d .if2 .left) (e .emit .ensures .0) (e .emit .ensures .1)
+    emitted (a .plan .now) (a .source .now) (a .flags) (a .out .now) (sym (p .is-plan .ensures) ∙ not-false _ (n .before .if1 .left)) (n .row-count .ensures) (j .refusal .ensures .0) (d .if2 .left) (e .emit .ensures .0) (e .emit .ensures .1)
 
 pub write-spec : {M : Type 1} → statement M
 write-spec =
@@ -59,7 +63,8 @@ write-spec =
     refused-requires
     returns
     row-count-requires
-    judge-requires
+    refusal-requires
+    cast-refused
     refused-requires-2
     returns-2
     emit-requires

@@ -3,6 +3,7 @@
 use super::{Listings, LONGEST};
 use crate::frame::Case;
 use crate::function::LIST;
+use crate::keep::ALL;
 use corpus::format::{MAX_INPUT, MAX_NODES, ROOT};
 use corpus::mutate::{self, Damage};
 use corpus::tree::{File, Node};
@@ -15,6 +16,7 @@ use reference::listing;
 const MOST: usize = 350;
 
 pub fn add(listings: &mut Listings) {
+    listings.cases.sweep("listings inputs: samples", 6);
     for (_, input) in samples::all() {
         let length = listing(&input).len();
         for room in [length, length - 1, length + 1, 0, LONGEST] {
@@ -51,7 +53,8 @@ fn add_input(listings: &mut Listings, input: &[u8]) {
 }
 
 fn add_valid(listings: &mut Listings, count: usize, profile: &Profile, most: usize) {
-    let mut left = count;
+    listings.cases.sweep("listings inputs: valid", 6);
+    let mut left = listings.cases.draws(count);
     while left > 0 {
         let input = file(&mut listings.rng, profile).bytes();
         if input.len() <= most {
@@ -64,7 +67,8 @@ fn add_valid(listings: &mut Listings, count: usize, profile: &Profile, most: usi
 
 /// Files with damage of this kind, of at most `most` bytes.
 fn add_damaged(listings: &mut Listings, kind: Damage, count: usize, most: usize) {
-    let mut left = count;
+    listings.cases.sweep("listings inputs: damaged", 12);
+    let mut left = listings.cases.draws(count);
     while left > 0 {
         let file = match listings.rng.chance(90) {
             true => file(&mut listings.rng, &Profile::TINY),
@@ -85,6 +89,7 @@ fn add_damaged(listings: &mut Listings, kind: Damage, count: usize, most: usize)
 
 /// As many rows as there may be, as many bytes, and a byte more.
 fn add_long(listings: &mut Listings) {
+    listings.cases.leave_out();
     let pair = Node::with(ROOT, Vec::new(), vec![Node::new(WAGON)]);
     let rows = File::new(u32::MAX, vec![pair; MAX_NODES / 2]).bytes();
     let length = listing(&rows).len();
@@ -92,9 +97,11 @@ fn add_long(listings: &mut Listings) {
     add_with(listings, &rows, length - 1);
     let mut input = large::many_notes(&mut listings.rng, MAX_INPUT).bytes();
     assert!(listing(&input).starts_with(b"cast 1 "));
+    listings.cases.sweep("listings inputs: long", ALL);
     add_with(listings, &input, LONGEST);
     input.push(0);
     assert_eq!(listing(&input), b"too long\n");
     add_with(listings, &input, 9);
+    listings.cases.leave_out();
     add_with(listings, &input, 8);
 }

@@ -11,7 +11,8 @@ pub fn add(listings: &mut Listings) {
     add_rooms(listings);
     add_numbers(listings);
     add_rows(listings);
-    for _ in 0..200 {
+    listings.cases.sweep("listings lines: drawn", 8);
+    for _ in 0..listings.cases.draws(200) {
         let line = drawn(&mut listings.rng);
         add_line(listings, &line);
     }
@@ -99,6 +100,7 @@ fn add_line(listings: &mut Listings, line: &Line) {
 
 /// Every room up to a little more than the line needs.
 fn add_rooms(listings: &mut Listings) {
+    listings.cases.sweep("listings lines: rooms", 14);
     let mut row = Row::new(0x0000_00AF, 1_022);
     row.end = 1_000;
     for line in [
@@ -133,6 +135,7 @@ fn narrow_edges() -> Vec<u32> {
 
 /// Each edge as each number of each line but the row.
 fn add_numbers(listings: &mut Listings) {
+    listings.cases.sweep("listings lines: numbers", 24);
     for edge in edges() {
         let (other, flags, nodes) = {
             let rng = &mut listings.rng;
@@ -158,6 +161,7 @@ fn add_numbers(listings: &mut Listings) {
 
 /// Rows: each edge as index, parent, body's length and own bytes; kinds with every digit at every place.
 fn add_rows(listings: &mut Listings) {
+    listings.cases.sweep("listings lines: rows", 16);
     for edge in narrow_edges() {
         let other = narrow(&mut listings.rng);
         let row = drawn_row(&mut listings.rng);

@@ -10,10 +10,8 @@ use corpus::Rng;
 const LONGEST: usize = 98_304;
 
 pub fn add(cases: &mut Cases) {
-    let mut listings = Listings {
-        cases,
-        rng: Rng::new(32),
-    };
+    let rng = cases.rng(32);
+    let mut listings = Listings { cases, rng };
     inputs::add(&mut listings);
     lines::add(&mut listings);
 }

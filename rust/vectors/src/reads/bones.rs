@@ -17,7 +17,7 @@ fn in_model(parts: Vec<Node>) -> File {
     file(vec![Node::with(ROOT, Vec::new(), vec![model])])
 }
 
-/// Skeletons of so many Bones.
+/// Skeletons of these numbers of Bones.
 fn plain(counts: &[usize]) -> File {
     let skeleton = |&count: &usize| Node::with(SKELETON, Vec::new(), vec![minimal(BONE); count]);
     in_model(counts.iter().map(skeleton).collect())
@@ -96,6 +96,7 @@ fn place(tree: &File, row: usize) -> usize {
 
 /// Every Bone with parents about the ends of what is right.
 fn add_tree(reads: &mut Reads, tree: &File) {
+    reads.cases.sweep("reads bones: tree", 5);
     reads.accepted(tree);
     let most = bones(tree).iter().map(|bone| bone.1).max().unwrap_or(0);
     for (row, bones) in bones(tree) {
@@ -127,7 +128,8 @@ fn add_tree(reads: &mut Reads, tree: &File) {
 
 /// All Bones with a parent; the first wrong one in file order speaks. Rings are right.
 fn add_drawn(reads: &mut Reads) {
-    for round in 0..24 {
+    reads.cases.sweep("reads bones: drawn", 2);
+    for round in 0..reads.cases.draws(24) {
         let mut tree = match round % 2 {
             0 => plain(&[2, 1, 4]),
             _ => mixed(),

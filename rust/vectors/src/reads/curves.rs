@@ -18,6 +18,7 @@ pub fn add(reads: &mut Reads) {
 
 /// Lengths of two arrays, in either order; unequal ones lie at the second of the names.
 fn add_lengths(reads: &mut Reads) {
+    reads.cases.sweep("reads curves: lengths", 6);
     for (kind, left, right, code) in [(BLEND_SHAPE, "vi", "vp", V3), (CURVE, "kb", "kv", V4)] {
         for lengths in 0..16 {
             let (first, second) = (lengths / 4, lengths % 4);
@@ -76,6 +77,7 @@ fn curve(kp: &str, code: u16, length: usize, key_first: bool) -> Node {
 
 /// Every kp with every type of kv, in either order; then with a length that is wrong besides.
 fn add_keys(reads: &mut Reads) {
+    reads.cases.sweep("reads curves: keys", 12);
     for kp in listed().iter().chain(&UNLISTED) {
         for code in [B, H, I, F, V4] {
             for key_first in [false, true] {
@@ -106,6 +108,7 @@ fn add_keys(reads: &mut Reads) {
 
 /// Types that no kp wants are 13, whatever kp is; so is a kp that is no string.
 fn add_types(reads: &mut Reads) {
+    reads.cases.sweep("reads curves: types", 6);
     for code in [L, D, V2, V3, S] {
         for kp in ["rq", "vb", "tx", "xx"] {
             for key_first in [false, true] {

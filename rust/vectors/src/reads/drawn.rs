@@ -1,6 +1,7 @@
 //! Generated wagons, whole and damaged.
 
 use super::Reads;
+use crate::keep::ALL;
 use corpus::format::{MAX_NODES, ROOT};
 use corpus::mutate::{self, Damage};
 use corpus::tree::{File, Node};
@@ -34,7 +35,8 @@ fn some_file(reads: &mut Reads) -> File {
 }
 
 fn add_valid(reads: &mut Reads, count: usize, profile: &Profile, most: usize) {
-    let mut left = count;
+    reads.cases.sweep("reads drawn: valid", 8);
+    let mut left = reads.cases.draws(count);
     while left > 0 {
         let file = file(&mut reads.rng, profile);
         if file.bytes().len() <= most {
@@ -46,7 +48,9 @@ fn add_valid(reads: &mut Reads, count: usize, profile: &Profile, most: usize) {
 
 /// Files with damage of this kind, of at most `most` bytes.
 fn add_damaged(reads: &mut Reads, kind: Damage, count: usize, most: usize) {
-    let mut left = count;
+    let name = format!("reads drawn: {}", kind.name());
+    reads.cases.sweep(&name, 1);
+    let mut left = reads.cases.draws(count);
     while left > 0 {
         let file = some_file(reads);
         let damaged = mutate::damage(&mut reads.rng, &file, kind);
@@ -63,6 +67,7 @@ fn add_damaged(reads: &mut Reads, kind: Damage, count: usize, most: usize) {
 
 /// 1,024 nodes, and one more.
 fn add_many(reads: &mut Reads) {
+    reads.cases.sweep("reads drawn: many", ALL);
     let mut file = File::new(0, vec![Node::new(ROOT); MAX_NODES]);
     reads.accepted(&file);
     file.roots.push(Node::new(ROOT));

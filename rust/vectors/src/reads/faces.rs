@@ -13,7 +13,7 @@ pub fn add(reads: &mut Reads) {
     add_many(reads);
 }
 
-/// A mesh of so many vertices with these faces, in either order. Answers the index of f, too.
+/// A mesh of this number of vertices with these faces, in either order. Answers the index of f, too.
 fn mesh(reads: &mut Reads, vertices: usize, code: u16, indices: &[u32]) -> (Placed, usize) {
     let mut node = minimal(MESH);
     put(&mut node, elements(V3, "vp", vertices));
@@ -35,6 +35,7 @@ fn wrong(reads: &mut Reads, vertices: usize, code: u16, indices: &[u32]) {
 }
 
 fn add_lengths(reads: &mut Reads) {
+    reads.cases.sweep("reads faces: lengths", 8);
     for code in N {
         for length in 0..=10 {
             let indices = vec![0; length];
@@ -65,6 +66,7 @@ fn add_lengths(reads: &mut Reads) {
 
 /// Every face of three vertices.
 fn add_equal(reads: &mut Reads) {
+    reads.cases.sweep("reads faces: equal", 10);
     for code in N {
         for number in 0..27 {
             let [a, b, c] = [number / 9, number / 3 % 3, number % 3];
@@ -85,6 +87,7 @@ fn add_equal(reads: &mut Reads) {
 
 /// Values about V, at the first, a middle and the last place of three faces.
 fn add_values(reads: &mut Reads) {
+    reads.cases.sweep("reads faces: values", 8);
     for code in N {
         for vertices in [1, 2, 3, 128] {
             let most = vertices as u32 - 1;
@@ -133,6 +136,7 @@ fn add_values(reads: &mut Reads) {
 
 /// More faces than fill a block, with one wrong value among them, and several meshes.
 fn add_many(reads: &mut Reads) {
+    reads.cases.sweep("reads faces: many", 3);
     for code in N {
         for faces in [5, 21, 22, 64, 85, 86] {
             let mut indices: Vec<u32> = (0..3 * faces).map(|_| reads.rng.below(4) as u32).collect();

@@ -5,6 +5,7 @@ use super::placed::{
     LENGTH,
 };
 use super::Reads;
+use crate::keep::ALL;
 use corpus::format::{
     element_size, rule_of, rules, Holds, Rule, B, CURVE, D, F, KINDS, MESH, RULES, S, TYPES, V4,
 };
@@ -13,6 +14,7 @@ use corpus::tree::{Node, Property};
 pub fn add(reads: &mut Reads) {
     assert_eq!(RULES.len(), 81);
     for rule in RULES {
+        reads.cases.leave_out();
         let node = shuffled(&mut reads.rng, with_line(rule));
         reads.right(&placed(node));
         add_types(reads, rule);
@@ -21,6 +23,7 @@ pub fn add(reads: &mut Reads) {
         add_elsewhere(reads, rule);
     }
     for (kind, _) in KINDS {
+        reads.cases.sweep(&format!("reads lines: {kind:08X}"), 1);
         add_full(reads, full(kind));
         add_full(reads, minimal(kind));
     }
@@ -63,6 +66,10 @@ fn key_of(code: u16) -> &'static [u8] {
 /// Every type. Where it is wrong, the links' targets may be missing.
 fn add_types(reads: &mut Reads, rule: &Rule) {
     for code in TYPES {
+        match rule.types.contains(&code) {
+            true => reads.sweep_line("right types", rule, ALL),
+            false => reads.sweep_line("other types", rule, 1),
+        }
         let mut node = with_line(rule);
         put(&mut node, of_type(rule, code));
         if (rule.kind, rule.name) == (CURVE, "kv") {
@@ -82,6 +89,7 @@ fn add_types(reads: &mut Reads, rule: &Rule) {
 
 /// A single with other lengths, and an array that no other length binds.
 fn add_lengths(reads: &mut Reads, rule: &Rule) {
+    reads.cases.sweep("reads lines: lengths", 8);
     let free = matches!(rule.name, "ts" | "kb") && rule.kind != CURVE;
     for &code in rule.types.iter().filter(|code| **code != S) {
         let most = if element_size(code) == Some(1) {
@@ -111,6 +119,7 @@ fn add_lengths(reads: &mut Reads, rule: &Rule) {
 
 /// Without the line; with a name in its place that only begins like it, or that it only begins.
 fn add_missing(reads: &mut Reads, rule: &Rule) {
+    reads.sweep_line("missing", rule, 1);
     let node = with_line(rule);
     let index = index_of(&node, rule);
     let shorter = &rule.name[..rule.name.len() - 1];
@@ -136,6 +145,7 @@ fn add_missing(reads: &mut Reads, rule: &Rule) {
 
 /// The name with a type that no line takes, on kinds that do not list it.
 fn add_elsewhere(reads: &mut Reads, rule: &Rule) {
+    reads.cases.sweep("reads lines: elsewhere", 8);
     let name = name_of(rule);
     let mut kinds: Vec<u32> = KINDS.map(|kind| kind.0).to_vec();
     kinds.retain(|&kind| rule_of(kind, name.as_bytes()).is_none());

@@ -95,6 +95,10 @@ fn add_line(reads: &mut Reads, rule: &Rule, target: u32) {
             sets.push((17, [&others[..], &vec![same.clone(); 2]].concat()));
         }
         for (number, nodes) in sets {
+            match nodes.len() {
+                0..=2 => reads.sweep_line("links", rule, 1),
+                _ => reads.cases.sweep("reads links: more nodes", 3),
+            }
             let placed = linked(reads, rule, hash, &nodes);
             match number {
                 0 => drop(reads.right(&placed)),
@@ -106,6 +110,7 @@ fn add_line(reads: &mut Reads, rule: &Rule, target: u32) {
 
 /// Names of links where they are free, and each link of a node that has all of its kind.
 fn add_free(reads: &mut Reads) {
+    reads.cases.sweep("reads links: free", 3);
     for (kind, names) in [
         (MODEL, &["m", "b", "rf", "tb", "albedo"][..]),
         (BONE, &["m", "tb", "sb", "pb", "cb"]),
@@ -137,6 +142,7 @@ fn add_free(reads: &mut Reads) {
 
 /// Links to a child and to what stands beside, where nodes of all kinds have one hash.
 fn add_near(reads: &mut Reads) {
+    reads.cases.sweep("reads links: near", 2);
     let picture = hashed(FILE, 7);
     let mut material = hashed(MATERIAL, 7);
     material.properties.push(link("albedo", 7));
@@ -168,7 +174,8 @@ fn add_near(reads: &mut Reads) {
 
 /// Many Bones of few hashes, and links to them; the first in file order that fails speaks.
 fn add_drawn(reads: &mut Reads) {
-    for round in 0..40 {
+    reads.cases.sweep("reads links: drawn", 2);
+    for round in 0..reads.cases.draws(40) as u64 {
         let hashes: Vec<u64> = (0..round % 10 + 2)
             .map(|number| match reads.rng.below(3) {
                 0 => number,

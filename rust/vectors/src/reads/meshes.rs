@@ -15,7 +15,7 @@ pub fn add(reads: &mut Reads) {
     add_own(reads);
 }
 
-/// A mesh of so many vertices, and no faces.
+/// A mesh of this number of vertices, and no faces.
 fn mesh(vertices: usize) -> Node {
     let mut node = minimal(MESH);
     put(&mut node, elements(V3, "vp", vertices));
@@ -25,6 +25,7 @@ fn mesh(vertices: usize) -> Node {
 
 /// All sets of wb, wv and mi; some of those that pass have lengths that mi does not give.
 fn add_partners(reads: &mut Reads) {
+    reads.cases.sweep("reads meshes: partners", 10);
     for vertices in [0, 1, 2] {
         for set in 0..8 {
             for code in N {
@@ -63,6 +64,7 @@ fn add_partners(reads: &mut Reads) {
 fn add_layers(reads: &mut Reads) {
     for vertices in [0, 1, 2, 5] {
         for (name, code) in [("vn", V3), ("vt", V3), ("c3", I), ("u999", V2)] {
+            reads.cases.sweep(&format!("reads meshes: {name}"), 2);
             for length in 0..=vertices + 2 {
                 let mut node = mesh(vertices);
                 node.properties.push(elements(code, name, length));
@@ -76,6 +78,7 @@ fn add_layers(reads: &mut Reads) {
         }
     }
     // Lengths that agree with V in their lowest byte.
+    reads.cases.sweep("reads meshes: low bytes", 2);
     for (vertices, length) in [(1, 257), (257, 1), (0, 256), (256, 0), (256, 256)] {
         let mut node = mesh(vertices);
         node.properties.push(elements(I, "c0", length));
@@ -84,6 +87,7 @@ fn add_layers(reads: &mut Reads) {
             false => reads.wrong(&placed(node), 15, 2),
         }
     }
+    reads.cases.sweep("reads meshes: layers", 4);
     // Several layers: the first wrong one in file order speaks.
     for wrong in 1..16 {
         let mut node = mesh(2);
@@ -131,6 +135,7 @@ fn judge(reads: &mut Reads, vertices: usize, mi: u32, lengths: [usize; 2], right
 }
 
 fn add_weights(reads: &mut Reads) {
+    reads.cases.sweep("reads meshes: weights", 10);
     for vertices in [0, 1, 2, 3] {
         for mi in 0..=3 {
             let right = mi as usize * vertices;
@@ -169,6 +174,7 @@ fn add_weights(reads: &mut Reads) {
 
 /// Products that are right only where they wrap at 2^32, or at 2^16, or where a number has a sign.
 fn add_products(reads: &mut Reads) {
+    reads.cases.sweep("reads meshes: products", 8);
     for (vertices, mi, length) in [
         (2, 0x8000_0000, 0),
         (2, 0x8000_0001, 2),
@@ -200,6 +206,7 @@ fn add_products(reads: &mut Reads) {
 
 /// Every mesh has its own V; a BlendShape's vp is none.
 fn add_own(reads: &mut Reads) {
+    reads.cases.sweep("reads meshes: own", 2);
     let layered = |vertices: usize, length: usize| {
         let mut node = mesh(vertices);
         node.properties.push(elements(I, "c0", length));

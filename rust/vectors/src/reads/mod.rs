@@ -20,7 +20,7 @@ mod worked;
 use crate::frame::{numbers_checksum, Case, Cases};
 use crate::function::READ;
 use corpus::expect::expected;
-use corpus::format::TABLE;
+use corpus::format::{Rule, TABLE};
 use corpus::tree::File;
 use corpus::Rng;
 use placed::Placed;
@@ -30,10 +30,8 @@ use reference::{read, Reading};
 const LONGEST: usize = 8_300;
 
 pub fn add(cases: &mut Cases) {
-    let mut reads = Reads {
-        cases,
-        rng: Rng::new(31),
-    };
+    let rng = cases.rng(31);
+    let mut reads = Reads { cases, rng };
     worked::add(&mut reads);
     lines::add(&mut reads);
     names::add(&mut reads);
@@ -56,6 +54,12 @@ struct Reads<'a> {
 }
 
 impl Reads<'_> {
+    /// What is added now is of a sweep over this line of the rules.
+    fn sweep_line(&mut self, name: &str, rule: &Rule, most: usize) {
+        let line = format!("reads {name}: {:08X} {}", rule.kind, rule.name);
+        self.cases.sweep(&line, most);
+    }
+
     /// A file, with a table that has room for its rows.
     fn add(&mut self, file: &[u8]) -> Reading {
         let length = match self.rng.below(8) {

@@ -75,6 +75,7 @@ pub fn add(reads: &mut Reads) {
 }
 
 fn add_listed(reads: &mut Reads, kind: u32, name: &str, code: u16) {
+    reads.cases.sweep("reads names: listed", 6);
     let length = if code == L { 1 } else { 2 };
     let mut property = elements(code, name, length);
     if code == L {
@@ -99,6 +100,7 @@ fn add_listed(reads: &mut Reads, kind: u32, name: &str, code: u16) {
 }
 
 fn add_free(reads: &mut Reads, kind: u32, name: &str) {
+    reads.cases.sweep("reads names: free", 16);
     for code in [L, *reads.rng.pick(&[B, D, I, S, V2])] {
         let mut node = minimal(kind);
         node.properties.push(elements(code, name, 1));
@@ -109,6 +111,7 @@ fn add_free(reads: &mut Reads, kind: u32, name: &str) {
 
 /// As many numbered names as a node may have, and one of them a second time.
 fn add_many(reads: &mut Reads) {
+    reads.cases.sweep("reads names: many", 1);
     let mut node = minimal(MATERIAL);
     for number in 0..62 {
         let data = hash_of(FILE).to_le_bytes().to_vec();

@@ -97,6 +97,7 @@ fn judge(reads: &mut Reads, faults: &[Vec<u32>]) {
 
 /// All sets of faults of one node, its properties in several orders.
 fn add_one_row(reads: &mut Reads) {
+    reads.cases.sweep("reads order: one row", 2);
     for set in 0..32 {
         let faults = (0..FAULTS.len()).filter(|fault| set & 1 << fault != 0);
         let faults: Vec<u32> = faults.map(|fault| FAULTS[fault]).collect();
@@ -108,6 +109,7 @@ fn add_one_row(reads: &mut Reads) {
 
 /// Two nodes with a fault each, or none.
 fn add_two_rows(reads: &mut Reads) {
+    reads.cases.sweep("reads order: two rows", 1);
     let sets: Vec<Vec<u32>> = [vec![]]
         .into_iter()
         .chain(FAULTS.map(|fault| vec![fault]))
@@ -121,7 +123,8 @@ fn add_two_rows(reads: &mut Reads) {
 
 /// Up to four nodes with any faults.
 fn add_rows(reads: &mut Reads) {
-    for _ in 0..90 {
+    reads.cases.sweep("reads order: rows", 1);
+    for _ in 0..reads.cases.draws(90) {
         let mut faults = Vec::new();
         for _ in 0..reads.rng.range(2, 4) {
             let mut set = Vec::new();
@@ -167,6 +170,7 @@ fn faulty() -> [(u32, usize, Node); 7] {
 
 /// The walk speaks before all of 13 to 17, wherever in the file its fault is.
 fn add_walk(reads: &mut Reads) {
+    reads.cases.sweep("reads order: walk", 1);
     for (number, place, node) in faulty() {
         for fault in FAULTS {
             let mut tree = tree(vec![shuffled(&mut reads.rng, handle(&[fault]))]);
@@ -182,6 +186,7 @@ fn add_walk(reads: &mut Reads) {
 
 /// 1, 3 and 4 come before all others.
 fn add_headers(reads: &mut Reads) {
+    reads.cases.sweep("reads order: headers", 2);
     for fault in FAULTS {
         let tree = tree(vec![handle(&[fault])]);
         let told = Reading {
@@ -205,6 +210,7 @@ fn add_headers(reads: &mut Reads) {
 
 /// Of two faults with one number in a row the earlier property speaks: a wrong type and a name that is there twice.
 fn add_same(reads: &mut Reads) {
+    reads.cases.sweep("reads order: same", 4);
     let wrong = elements(B, "n", 1);
     let flag = numbers(B, "tr", &[2]);
     let free = elements(B, "q", 1);

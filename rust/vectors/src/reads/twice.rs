@@ -22,6 +22,7 @@ fn short(name: &[u8]) -> Property {
 
 /// Free names on every known kind: side by side, apart, three times, of other types.
 fn add_kinds(reads: &mut Reads) {
+    reads.cases.sweep("reads twice: kinds", 8);
     for (kind, _) in KINDS {
         let node = minimal(kind);
         let first = node.properties.len();
@@ -45,6 +46,7 @@ fn add_kinds(reads: &mut Reads) {
 
 /// Every listed name once more: like the first, of another type, and after a first that is wrong itself.
 fn add_lines(reads: &mut Reads) {
+    reads.cases.sweep("reads twice: lines", 12);
     for rule in RULES {
         let node = with_line(rule);
         let index = index_of(&node, rule);
@@ -62,6 +64,7 @@ fn add_lines(reads: &mut Reads) {
 
 /// Two names that are equal up to some byte, as words of four or eight bytes are, and by their sums.
 fn add_prefixes(reads: &mut Reads) {
+    reads.cases.sweep("reads twice: prefixes", 12);
     let pair = |first: &[u8], second: &[u8]| {
         let properties = vec![short(first), elements(H, "between", 0), short(second)];
         placed(Node::with(ROOT, properties, Vec::new()))
@@ -105,6 +108,7 @@ fn add_prefixes(reads: &mut Reads) {
 
 /// 64 names that differ in their last byte, and two of them made equal.
 fn add_full(reads: &mut Reads) {
+    reads.cases.sweep("reads twice: full", 1);
     for size in [1, 4, 8, 9, MAX_NAME] {
         let properties = (0..MAX_PROPERTIES as u8).map(|number| {
             let mut name = vec![b'n'; size];
@@ -123,6 +127,7 @@ fn add_full(reads: &mut Reads) {
 
 /// Equal names on different nodes, of one kind and of others.
 fn add_across(reads: &mut Reads) {
+    reads.cases.sweep("reads twice: across", 2);
     let named = |kind: u32| {
         let mut node = minimal(kind);
         node.properties.push(short(b"q"));

@@ -16,6 +16,7 @@ pub fn add(reads: &mut Reads) {
 
 /// Bodies of every length about the size of a header, and longer ones.
 fn add_sizes(reads: &mut Reads) {
+    reads.cases.sweep("reads unknown: sizes", 6);
     for size in (0..=50).chain([255, 256, 257, 1_000]) {
         let tree = file(vec![Node::with(
             ROOT,
@@ -30,6 +31,7 @@ fn add_sizes(reads: &mut Reads) {
 
 /// Bodies and counts that would be refused, or counted, on a known node.
 fn add_hidden(reads: &mut Reads) {
+    reads.cases.sweep("reads unknown: hidden", 4);
     let twice = vec![elements(B, "q", 1), elements(B, "q", 1)];
     let mut wrong_faces = minimal(MESH);
     wrong_faces.properties[1] = numbers(B, "f", &[9, 9]);
@@ -62,6 +64,7 @@ fn add_hidden(reads: &mut Reads) {
 
 /// Below every known kind, beside children that are known.
 fn add_below(reads: &mut Reads) {
+    reads.cases.sweep("reads unknown: below", 6);
     let targets = Targets::of(&[]);
     for (parent, _) in KINDS {
         for _ in 0..4 {

@@ -47,6 +47,7 @@ pub fn add(reads: &mut Reads) {
 }
 
 fn add_strings(reads: &mut Reads, rule: &Rule, strings: &[&str]) {
+    reads.sweep_line("strings", rule, 4);
     let mut texts: Vec<Vec<u8>> = STRINGS.map(|text| text.as_bytes().to_vec()).to_vec();
     for text in strings {
         let bytes = text.as_bytes();
@@ -93,6 +94,7 @@ fn add_strings(reads: &mut Reads, rule: &Rule, strings: &[&str]) {
 }
 
 fn add_flags(reads: &mut Reads, rule: &Rule) {
+    reads.sweep_line("flags", rule, 1);
     for value in [0, 1, 2, 3, 127, 128, 129, 254, 255] {
         let mut property = right(rule);
         property.data = vec![value];

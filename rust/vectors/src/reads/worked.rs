@@ -2,6 +2,7 @@
 
 use super::placed::{elements, minimal, placed, put};
 use super::{Reads, LONGEST};
+use crate::keep::ALL;
 use corpus::format::{B, H, I, METADATA, TABLE};
 use corpus::tree::File;
 use corpus::worked::{changed, e1, e10, e11, e3, e4, e5, e6, e7, e8, e9, mesh, triangle};
@@ -18,6 +19,7 @@ pub fn add(reads: &mut Reads) {
 }
 
 fn add_small(reads: &mut Reads) {
+    reads.cases.sweep("reads worked: small", ALL);
     reads.accepted(&e1());
     reads.refused(&[], 3, 0);
     reads.accepted(&e3());
@@ -33,6 +35,7 @@ fn add_small(reads: &mut Reads) {
 
 /// E11, E12, and their like in wider numbers.
 fn add_meshes(reads: &mut Reads) {
+    reads.cases.sweep("reads worked: meshes", 8);
     assert_eq!(e11().bytes().len(), 146);
     let told = Reading {
         nodes: 3,
@@ -56,6 +59,7 @@ fn add_meshes(reads: &mut Reads) {
 
 /// First four bytes that differ in one bit, versions, flags, and cuts.
 fn add_headers(reads: &mut Reads) {
+    reads.cases.sweep("reads worked: headers", 6);
     for bit in 0..32 {
         let magic = |file: &mut File| file.magic[bit / 8] ^= 1 << (bit % 8);
         reads.refused(&changed(magic).bytes(), 3, 0);
@@ -76,6 +80,7 @@ fn add_headers(reads: &mut Reads) {
 
 /// Refusal 1 comes before all others, and leaves the table; numbers past 8,192 stay.
 fn add_tables(reads: &mut Reads) {
+    reads.cases.sweep("reads worked: tables", 6);
     let mut double = minimal(METADATA);
     put(&mut double, elements(B, "x", 0));
     let double_name = double.properties[0].clone();

@@ -22,6 +22,7 @@ fn beside(node: Node) -> File {
 
 /// Bodies of many lengths, about those at which a byte of a size changes.
 fn add_sizes(trims: &mut Trims) {
+    trims.cases.sweep("trims bodies: sizes", 2);
     for size in [
         0, 1, 7, 8, 23, 24, 25, 48, 59, 60, 61, 231, 232, 233, 255, 256, 257, 1_000, 5_000,
     ] {
@@ -36,6 +37,7 @@ fn add_sizes(trims: &mut Trims) {
 
 /// Counts and hashes of any bits, on the node that goes and on one that stays.
 fn add_counts(trims: &mut Trims) {
+    trims.cases.sweep("trims bodies: counts", 4);
     for number in [0, 1, 64, 65, 255, 256, 0xFFFF, 0x8000_0000, NONE - 1, NONE] {
         let mut node = wagon(b"abc");
         node.claimed.properties = Some(number);
@@ -57,6 +59,7 @@ fn add_counts(trims: &mut Trims) {
 
 /// Kinds that are nearly known.
 fn add_kinds(trims: &mut Trims) {
+    trims.cases.sweep("trims bodies: kinds", 4);
     for kind in [
         0,
         1,
@@ -78,6 +81,7 @@ fn add_kinds(trims: &mut Trims) {
 
 /// Bodies that look like nodes: they are no rows, before and after.
 fn add_hidden(trims: &mut Trims) {
+    trims.cases.sweep("trims bodies: hidden", 3);
     let model = Node::with(MODEL, Vec::new(), vec![minimal(MESH)]);
     for hidden in [wagon(b"abc"), minimal(MESH), model, Node::new(ROOT)] {
         let mut around = Node::new(WAGON);

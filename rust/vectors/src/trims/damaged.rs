@@ -28,7 +28,8 @@ fn add_kind(trims: &mut Trims, kind: Damage, count: usize) {
         unknown: 30,
         ..Profile::TINY
     };
-    let mut left = count;
+    trims.cases.sweep("trims damaged", 2);
+    let mut left = trims.cases.draws(count);
     while left > 0 {
         let file = file(&mut trims.rng, &profile);
         let Some(&row) = file.rows(|node| !node.is_known()).first() else {

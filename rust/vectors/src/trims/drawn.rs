@@ -13,13 +13,16 @@ use reference::Tally;
 const MOST: usize = 300;
 
 pub fn add(trims: &mut Trims) {
-    for _ in 0..16 {
+    trims.cases.sweep("trims drawn: rows", 3);
+    for _ in 0..trims.cases.draws(16) {
         let file = noted(trims);
         trims.rows(&file);
     }
-    for _ in 0..55 {
+    trims.cases.sweep("trims drawn: lists", 3);
+    for _ in 0..trims.cases.draws(55) {
         add_list(trims);
     }
+    trims.cases.leave_out();
     let wagon = noted_wagon();
     let notes = wagon.rows(|node| !node.is_known());
     for &row in notes.iter().step_by(2) {

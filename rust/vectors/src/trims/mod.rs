@@ -26,10 +26,8 @@ const LONGEST: usize = 8_300;
 const LONGEST_OUTPUT: usize = 98_304;
 
 pub fn add(cases: &mut Cases) {
-    let mut trims = Trims {
-        cases,
-        rng: Rng::new(36),
-    };
+    let rng = cases.rng(36);
+    let mut trims = Trims { cases, rng };
     worked::add(&mut trims);
     placed::add(&mut trims);
     bodies::add(&mut trims);

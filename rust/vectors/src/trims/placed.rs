@@ -19,6 +19,7 @@ fn unknown(file: &File) -> Vec<usize> {
 
 /// Below a node of every known kind, alone and beside others. What the node's links lead to comes in later rows.
 fn add_below(trims: &mut Trims) {
+    trims.cases.sweep("trims placed: below", 6);
     for (kind, _) in KINDS {
         let bodies: [&[&[u8]]; 2] = [&[b"abc"], &[b"", b"12345678"]];
         for bodies in bodies {
@@ -35,6 +36,7 @@ fn add_below(trims: &mut Trims) {
 /// A chain of known nodes, each with an unknown child before and after the next: the sizes of all that are around the
 /// removed one fall, and only its parent's child count.
 fn add_levels(trims: &mut Trims) {
+    trims.cases.sweep("trims placed: levels", 4);
     let mut size = 0;
     let mut note = || {
         size += 3;
@@ -63,6 +65,7 @@ fn add_levels(trims: &mut Trims) {
 
 /// Unknown nodes only, and between known ones with children, which are renumbered.
 fn add_siblings(trims: &mut Trims) {
+    trims.cases.sweep("trims placed: siblings", 2);
     let notes = (0..6).map(|number: u8| {
         let mut note = wagon(&vec![number; 7 * usize::from(number)]);
         note.hash = 0x8080_8080_8080_8080 >> number;
@@ -86,6 +89,7 @@ fn add_siblings(trims: &mut Trims) {
 
 /// Several roots, with unknown nodes in the first, in one between or in the last.
 fn add_roots(trims: &mut Trims) {
+    trims.cases.sweep("trims placed: roots", 3);
     for with in 1..8 {
         let roots = (0..3).map(|at| {
             let mut root = Node::with(ROOT, Vec::new(), vec![minimal(METADATA)]);

@@ -23,6 +23,7 @@ fn given(row: usize, table: usize, room: usize) -> Trimming {
 
 /// E10 without its row 1 is E3, wherever 40 bytes have room. No other row goes, and 30 and 31 come before 32.
 fn add_wagon(trims: &mut Trims) {
+    trims.cases.sweep("trims worked: wagon", 5);
     let wagon = e10();
     for room in [40, 41, 66, 67, 68, 100, 1_000, LONGEST_OUTPUT] {
         let left = trims.valid(&wagon, given(1, TABLE, room));
@@ -40,6 +41,7 @@ fn add_wagon(trims: &mut Trims) {
 
 /// Tables of many lengths, with each answer.
 fn add_tables(trims: &mut Trims) {
+    trims.cases.sweep("trims worked: tables", 4);
     let wagon = e10();
     for table in SHORT.into_iter().chain(ENOUGH) {
         for (row, room) in [(1, 40), (1, 39), (0, 67), (2, 67), (usize::MAX, 0)] {
@@ -50,6 +52,7 @@ fn add_tables(trims: &mut Trims) {
 
 /// Files that have no unknown node, and E10 with other flags.
 fn add_accepted(trims: &mut Trims) {
+    trims.cases.sweep("trims worked: accepted", 4);
     for file in [e1(), e3(), e11(), triangle([0, 1, 1])] {
         for row in 0..4 {
             trims.valid(&file, given(row, TABLE, 0));
@@ -64,6 +67,7 @@ fn add_accepted(trims: &mut Trims) {
 
 /// The reader's refusals come before 30 to 32, and 1 before all.
 fn add_refused(trims: &mut Trims) {
+    trims.cases.sweep("trims worked: refused", 2);
     let mut cut = e10().bytes();
     cut.pop();
     let mut more = e10();

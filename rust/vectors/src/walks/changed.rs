@@ -26,6 +26,7 @@ fn small() -> File {
 
 /// The file up to each of its bytes.
 fn add_cuts(walks: &mut Walks, file: &File) {
+    walks.cases.sweep("walks changed: cuts", 8);
     let whole = file.encode();
     for end in 0..whole.bytes.len() {
         let roots = whole.nodes.iter().filter(|node| node.depth == 1);
@@ -41,6 +42,7 @@ fn add_cuts(walks: &mut Walks, file: &File) {
 
 /// The file up to each of its bytes, where the nodes that the cut goes through end with it.
 fn add_mended(walks: &mut Walks, file: &File) {
+    walks.cases.sweep("walks changed: mended", 5);
     let whole = file.encode();
     for end in FIRST..whole.bytes.len() {
         let mut bytes = whole.bytes[..end].to_vec();
@@ -55,6 +57,7 @@ fn add_mended(walks: &mut Walks, file: &File) {
 
 /// Each byte with one bit flipped, and with another value.
 fn add_changes(walks: &mut Walks, whole: &[u8]) {
+    walks.cases.sweep("walks changed: changes", 3);
     for at in 0..whole.len() {
         let mut bytes = whole.to_vec();
         bytes[at] ^= 1 << walks.rng.below(8);

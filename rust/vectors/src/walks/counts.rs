@@ -1,6 +1,7 @@
 //! Counts of roots, children and nodes, and bytes after the last: 5, 7 and 12.
 
 use super::{file, nested, root, rooted, wagon, Walks, FIRST, SECOND};
+use crate::keep::ALL;
 use corpus::format::{BONE, MAX_NODES, MESH, METADATA, MODEL, ROOT, SKELETON, TABLE};
 use corpus::tree::{File, Node, Property};
 
@@ -15,6 +16,7 @@ pub fn add(walks: &mut Walks) {
 
 /// Other counts of three children, and of three roots.
 fn add_counts(walks: &mut Walks) {
+    walks.cases.sweep("walks counts: counts", 6);
     let children = rooted(vec![wagon(&[]), Node::new(METADATA), wagon(&[])]);
     let roots = file(vec![root(Vec::new()); 3]);
     for count in [0, 1, 2, 4, 5, 0x103, 0x1_0003, 1 << 31, u32::MAX] {
@@ -40,6 +42,7 @@ fn add_counts(walks: &mut Walks) {
 
 /// Bytes after the last child of each node of a path, and after the last root; with and without siblings after them.
 fn add_rests(walks: &mut Walks) {
+    walks.cases.sweep("walks counts: rests", 6);
     let strays = [
         vec![0],
         vec![0xFF; 23],
@@ -81,19 +84,25 @@ fn many(last: Node) -> File {
 
 /// 1,024 nodes and 1,025, the last one with a fault besides. The tables have a place for its row.
 fn add_many(walks: &mut Walks) {
+    walks.cases.leave_out();
     let mut full = rooted(vec![wagon(&[]); MAX_NODES - 1]);
     let nodes = MAX_NODES as u32;
     assert_eq!(walks.add_with(&full.bytes(), TABLE), (0, 0, nodes));
     full.roots[0].claimed.children = Some(nodes);
     let mut properties = Node::new(MODEL);
     properties.claimed.properties = Some(65);
-    for (file, number) in [
-        (full, 5),
-        (many(wagon(&[])), 7),
-        (many(Node::new(MESH)), 6),
-        (many(properties), 7),
-        (file(vec![root(Vec::new()); MAX_NODES + 1]), 7),
+    for (file, number, kept) in [
+        (full, 5, false),
+        (many(wagon(&[])), 7, false),
+        (many(Node::new(MESH)), 6, false),
+        (many(properties), 7, true),
+        (file(vec![root(Vec::new()); MAX_NODES + 1]), 7, false),
     ] {
+        if kept {
+            walks.cases.sweep("walks counts: many", ALL);
+        } else {
+            walks.cases.leave_out();
+        }
         let answer = walks.add_with(&file.bytes(), TABLE + 8);
         assert_eq!(answer, (number, PAST_MOST as u32, 0));
     }

@@ -4,20 +4,22 @@ use super::Walks;
 use corpus::mutate::{self, Damage};
 use corpus::tree::File;
 use corpus::valid::{file, mixed, Profile};
+use std::ops::RangeInclusive;
 
 /// Longer files are left out.
 const MOST: usize = 700;
 
+/// What the rules of 13 to 17 refuse, the walk accepts.
+const LATER: RangeInclusive<Damage> = Damage::NameTwice..=Damage::DoubledTarget;
+
 pub fn add(walks: &mut Walks) {
     add_valid(walks, 50);
     for &kind in mutate::ALL {
-        // What the rules of 13 to 17 refuse, the walk accepts.
-        let later = Damage::NameTwice..=Damage::DoubledTarget;
         let (count, most) = match kind {
             Damage::ManyNodes => (0, 0),
             Damage::ManyProperties => (2, 4_000),
             Damage::TwoFaults | Damage::ManyFaults => (15, MOST),
-            kind if later.contains(&kind) => (1, MOST),
+            kind if LATER.contains(&kind) => (1, MOST),
             // The only ones that give 4.
             Damage::Version => (15, MOST),
             _ => (8, MOST),
@@ -34,7 +36,8 @@ fn some_file(walks: &mut Walks) -> File {
 }
 
 fn add_valid(walks: &mut Walks, count: usize) {
-    let mut left = count;
+    walks.cases.sweep("walks drawn: valid", 4);
+    let mut left = walks.cases.draws(count);
     while left > 0 {
         let file = some_file(walks);
         let bytes = file.bytes();
@@ -47,7 +50,12 @@ fn add_valid(walks: &mut Walks, count: usize) {
 
 /// Files with damage of this kind, of at most `most` bytes.
 fn add_damaged(walks: &mut Walks, kind: Damage, count: usize, most: usize) {
-    let mut left = count;
+    let name = match LATER.contains(&kind) {
+        true => "walks drawn: later".into(),
+        false => format!("walks drawn: {}", kind.name()),
+    };
+    walks.cases.sweep(&name, 1);
+    let mut left = walks.cases.draws(count);
     while left > 0 {
         let file = some_file(walks);
         let damaged = mutate::damage(&mut walks.rng, &file, kind);

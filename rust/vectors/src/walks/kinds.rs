@@ -28,6 +28,7 @@ fn path(kind: u32) -> Vec<u32> {
 
 /// Anything but a root at the top, as the first and as the second.
 fn add_top(walks: &mut Walks) {
+    walks.cases.sweep("walks kinds: top", 6);
     let unknown = unknown::kind(&mut walks.rng);
     for kind in KINDS.map(|kind| kind.0).into_iter().chain([unknown, WAGON]) {
         let first = file(vec![Node::new(kind), root(Vec::new())]).bytes();
@@ -43,6 +44,7 @@ fn add_top(walks: &mut Walks) {
 
 /// Below each kind all that may stand there, an unknown node, and some that may not.
 fn add_pairs(walks: &mut Walks) {
+    walks.cases.sweep("walks kinds: pairs", 16);
     for (parent, _) in KINDS {
         let path = path(parent);
         let inside = |kind| file(vec![nested(&[&path[..], &[kind]].concat())]).bytes();
@@ -62,6 +64,7 @@ fn add_pairs(walks: &mut Walks) {
 
 /// After a subtree its parent's next child is judged by that parent, and has it as its parent.
 fn add_returns(walks: &mut Walks) {
+    walks.cases.sweep("walks kinds: returns", 3);
     let model = Node::with(
         MODEL,
         Vec::new(),
@@ -108,6 +111,7 @@ fn add_returns(walks: &mut Walks) {
 
 /// Unknown nodes, whose counts and bodies say nothing, below every known kind.
 fn add_unknown(walks: &mut Walks) {
+    walks.cases.sweep("walks kinds: unknown", 4);
     let targets = Targets::of(&[]);
     for (parent, _) in KINDS {
         for _ in 0..3 {

@@ -26,10 +26,8 @@ const FIRST: usize = 16;
 const SECOND: usize = 40;
 
 pub fn add(cases: &mut Cases) {
-    let mut walks = Walks {
-        cases,
-        rng: Rng::new(30),
-    };
+    let rng = cases.rng(30);
+    let mut walks = Walks { cases, rng };
     worked::add(&mut walks);
     sizes::add(&mut walks);
     kinds::add(&mut walks);
@@ -84,7 +82,7 @@ impl Walks<'_> {
         assert_eq!(answer, (number, place as u32, 0), "{file:02X?}");
     }
 
-    /// A file of so many nodes that is accepted.
+    /// A file of exactly this number of nodes that is accepted.
     fn accepted(&mut self, file: &[u8], nodes: usize) {
         let answer = self.add(file);
         assert_eq!(answer, (0, 0, nodes as u32), "{file:02X?}");

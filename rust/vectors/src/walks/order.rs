@@ -12,6 +12,7 @@ pub fn add(walks: &mut Walks) {
 
 /// All sets of faults of the table, the first four bytes, the version and a root's size.
 fn add_headers(walks: &mut Walks) {
+    walks.cases.sweep("walks order: headers", 4);
     for faults in 0..16 {
         let has = |fault: usize| faults & 1 << fault != 0;
         let mut file = rooted(vec![wagon(b"abc")]);
@@ -42,6 +43,7 @@ fn wrong_property(number: u32) -> Property {
 
 /// All sets of faults of one node, in their order: its size, kind, property count, a property, a child, what follows.
 fn add_one_node(walks: &mut Walks) {
+    walks.cases.sweep("walks order: one node", 3);
     for faults in 0..64 {
         let has = |fault: usize| faults & 1 << fault != 0;
         let number = *walks.rng.pick(&[10, 11]);
@@ -112,6 +114,7 @@ fn faulty() -> [(u32, usize, Node); 7] {
 
 /// Of two nodes with a fault each the first speaks; so does a node inside another before what follows it there.
 fn add_two_nodes(walks: &mut Walks) {
+    walks.cases.sweep("walks order: two nodes", 3);
     for (number, place, first) in faulty() {
         for (_, _, second) in faulty() {
             let file = rooted(vec![first.clone(), second.clone()]);

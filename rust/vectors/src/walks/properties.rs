@@ -38,6 +38,7 @@ fn short(name: &[u8]) -> Property {
 
 /// Counts about 64, with as many properties there or other ones.
 fn add_counts(walks: &mut Walks) {
+    walks.cases.sweep("walks properties: counts", 3);
     let each = bytes(&short(b"x"));
     for count in [0, 1, 2, 63, MAX_PROPERTIES] {
         let body = each.repeat(count);
@@ -66,6 +67,7 @@ fn add_counts(walks: &mut Walks) {
 
 /// Every beginning of a property, with bytes enough after the node's end.
 fn add_cuts(walks: &mut Walks) {
+    walks.cases.sweep("walks properties: cuts", 6);
     let first = bytes(&short(b"first"));
     for whole in [
         bytes(&Property::array(I, "xyz", vec![1; 8])),
@@ -81,6 +83,7 @@ fn add_cuts(walks: &mut Walks) {
 
 /// Array lengths that pass the node's end, some of which come back into it when they wrap.
 fn add_lengths(walks: &mut Walks) {
+    walks.cases.sweep("walks properties: lengths", 6);
     for code in TYPES {
         let Some(size) = element_size(code) else {
             continue;
@@ -99,6 +102,7 @@ fn add_lengths(walks: &mut Walks) {
 
 /// Names of every size at the limits, barred bytes and codes of no type.
 fn add_names_and_types(walks: &mut Walks) {
+    walks.cases.sweep("walks properties: names and types", 6);
     for size in [1, 2, 31, MAX_NAME] {
         let mut name = vec![b'a'; size];
         walks.accepted(&with_body(1, &bytes(&short(&name))), 3);
@@ -129,6 +133,7 @@ fn add_names_and_types(walks: &mut Walks) {
 
 /// Strings whose zero lies in the node, at its end, and after it.
 fn add_strings(walks: &mut Walks) {
+    walks.cases.sweep("walks properties: strings", 5);
     for text in [&b""[..], b"a", &[b'x'; 62], &[b'x'; 63], &[0xFF; 200]] {
         let mut body = bytes(&Property::string("s", text));
         walks.accepted(&with_body(1, &body), 3);
@@ -147,6 +152,7 @@ fn add_strings(walks: &mut Walks) {
 
 /// Data that goes on into the child after it.
 fn add_eaten(walks: &mut Walks) {
+    walks.cases.sweep("walks properties: eaten", 3);
     let child = wagon(b"abc");
     let whole = |length: usize, children: u32| -> Vec<u8> {
         let mut property = short(b"x");
@@ -194,6 +200,7 @@ fn add_eaten(walks: &mut Walks) {
 
 /// Two faults of one property: the order is header, type, name size, name, name's bytes, string length, data.
 fn add_within(walks: &mut Walks) {
+    walks.cases.sweep("walks properties: within", 5);
     let faults: [(&[u8], u32); 14] = [
         (b"\x61\0\xFF\xFF\0\0\0", 10),
         (b"\x61\0\xFF\xFF\0\0\0\0", 11),

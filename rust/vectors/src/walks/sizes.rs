@@ -1,6 +1,7 @@
 //! The sizes of nodes and the room that they have: 5, and 12 where a node is longer than what it holds.
 
 use super::{file, nested, root, rooted, wagon, Walks, FIRST, SECOND, WAGON};
+use crate::keep::ALL;
 use corpus::format::{BONE, METADATA, MODEL, ROOT, SKELETON};
 use corpus::tree::{File, Node};
 
@@ -20,6 +21,7 @@ fn sized(file: &File, row: usize, size: usize) -> Vec<u8> {
 
 /// A bare root and a bare child of sizes that no such node has. The last ones wrap when the place is added.
 fn add_values(walks: &mut Walks) {
+    walks.cases.sweep("walks sizes: values", 8);
     let bare = rooted(Vec::new());
     let inner = [METADATA, WAGON].map(|kind| rooted(vec![Node::new(kind)]));
     walks.accepted(&bare.bytes(), 1);
@@ -38,6 +40,7 @@ fn add_values(walks: &mut Walks) {
 
 /// Nodes as deep as they go, each longer and shorter than it is, with a second root after them.
 fn add_depths(walks: &mut Walks) {
+    walks.cases.sweep("walks sizes: depths", 6);
     let mut deep = nested(&[ROOT, MODEL, SKELETON, BONE]);
     let bone = &mut deep.children[0].children[0].children[0];
     bone.children.push(wagon(b"abc"));
@@ -69,6 +72,7 @@ fn add_depths(walks: &mut Walks) {
 
 /// Fewer bytes than a header has, where a child or a root is counted.
 fn add_room(walks: &mut Walks) {
+    walks.cases.sweep("walks sizes: room", 6);
     let inner = Node::new(METADATA).bytes();
     let outer = root(Vec::new()).bytes();
     for room in 0..24 {
@@ -85,6 +89,7 @@ fn add_room(walks: &mut Walks) {
 
 /// A child that takes bytes of its sibling.
 fn add_siblings(walks: &mut Walks) {
+    walks.cases.sweep("walks sizes: siblings", ALL);
     let two = rooted(vec![wagon(&[]), wagon(&[])]);
     walks.accepted(&two.bytes(), 3);
     for size in [25, 30, 46, 47, 48] {

@@ -1,6 +1,7 @@
 //! The worked files of the rules, and tables that are too short for any file.
 
 use super::{Walks, FIRST, LONGEST, SECOND};
+use crate::keep::ALL;
 use corpus::format::TABLE;
 use corpus::tree::File;
 use corpus::worked::{changed, e1, e10, e3, e4, e5, e6, e7, e8, e9};
@@ -9,6 +10,7 @@ use corpus::worked::{changed, e1, e10, e3, e4, e5, e6, e7, e8, e9};
 const SHORT: [usize; 9] = [0, 1, 7, 8, 16, 4_096, 8_184, 8_190, 8_191];
 
 pub fn add(walks: &mut Walks) {
+    walks.cases.sweep("walks worked", ALL);
     walks.accepted(&e1().bytes(), 0);
     walks.refused(&[], 3, 0);
     walks.accepted(&e3().bytes(), 1);
@@ -26,6 +28,7 @@ pub fn add(walks: &mut Walks) {
 
 /// Every first four bytes that differ in one bit, versions, and flags.
 fn add_headers(walks: &mut Walks) {
+    walks.cases.sweep("walks worked: headers", 6);
     for bit in 0..32 {
         let magic = |file: &mut File| file.magic[bit / 8] ^= 1 << (bit % 8);
         walks.refused(&changed(magic).bytes(), 3, 0);
@@ -52,6 +55,7 @@ fn add_headers(walks: &mut Walks) {
 
 /// Refusal 1 comes before all others, and leaves the table; numbers past 8,192 stay.
 fn add_tables(walks: &mut Walks) {
+    walks.cases.sweep("walks worked: tables", 6);
     let files = [
         e3().bytes(),
         e10().bytes(),

@@ -21,6 +21,7 @@ pub fn add(writes: &mut Writes) {
 
 /// A row's body elsewhere.
 fn add_places(writes: &mut Writes, base: &Planned, row: usize) {
+    writes.cases.sweep("writes bodies: places", 3);
     let Row { start, end, .. } = base.rows[row];
     let source = base.source.len() as u32;
     let mut at = |start, end| {
@@ -66,6 +67,7 @@ fn add_places(writes: &mut Writes, base: &Planned, row: usize) {
 
 /// Any row may have the body of any other.
 fn add_exchanged(writes: &mut Writes, base: &Planned, row: usize) {
+    writes.cases.sweep("writes bodies: exchanged", 3);
     for other in [1, 2] {
         let mut rows = base.rows.clone();
         rows[row].start = base.rows[other].start;
@@ -77,6 +79,7 @@ fn add_exchanged(writes: &mut Writes, base: &Planned, row: usize) {
 
 /// The source up to the end of each body, and to a byte before.
 fn add_cuts(writes: &mut Writes, base: &Planned) {
+    writes.cases.sweep("writes bodies: cuts", 3);
     for row in &base.rows {
         for cut in [row.end - 1, row.end] {
             let source = &base.source[..cut as usize];
@@ -157,6 +160,7 @@ fn contents() -> Vec<(u32, Vec<u8>, bool)> {
 /// As the body of the only row, and of an unknown row and the last one. Zeros follow it in the source, so that a string
 /// could go on.
 fn add_content(writes: &mut Writes, count: u32, body: &[u8], right: bool) {
+    writes.cases.sweep("writes bodies: content", 6);
     let mut judge = |mut plan: Planned, row: usize| {
         plan.source.extend_from_slice(&[0; 3]);
         mend_children(&mut plan.rows);

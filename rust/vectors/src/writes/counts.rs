@@ -8,6 +8,7 @@ use corpus::worked::WAGON;
 
 pub fn add(writes: &mut Writes) {
     let base = base();
+    writes.cases.sweep("writes counts", 3);
     for row in 0..base.rows.len() {
         let Row {
             properties,
@@ -48,6 +49,7 @@ fn judge(writes: &mut Writes, base: &Planned, rows: &[Row], number: u32, row: us
 
 /// Without one of the rows that have none below them, its parent has a child too many.
 fn add_dropped(writes: &mut Writes, base: &Planned) {
+    writes.cases.sweep("writes counts: dropped", 1);
     for row in [2, 3, 6, 8] {
         let parent = base.rows[row].parent as usize;
         let mut rows = base.rows.clone();
@@ -66,6 +68,7 @@ fn add_dropped(writes: &mut Writes, base: &Planned) {
 /// Rows that are wrong themselves count, too: where the row that they name is told to have them, they speak, else that
 /// row does.
 fn add_later(writes: &mut Writes) {
+    writes.cases.sweep("writes counts: later", 3);
     let wrong = [
         // A root with a parent, a row that is no child any more, and a body that is not there.
         (ROOT, 0, 0, 21),

@@ -24,7 +24,9 @@ pub fn add(writes: &mut Writes) {
 
 /// Plans of this kind, some by one call and some in parts.
 fn add_kind(writes: &mut Writes, kind: Plan, count: usize) {
-    let mut left = count;
+    let name = format!("writes drawn: {}", kind.name());
+    writes.cases.sweep(&name, 1);
+    let mut left = writes.cases.draws(count);
     while left > 0 {
         let file = file(&mut writes.rng, &Profile::TINY);
         let encoded = file.encode();
@@ -41,8 +43,8 @@ fn add_kind(writes: &mut Writes, kind: Plan, count: usize) {
             false => {
                 let rows = case.plan.len() / 8;
                 let mut table = case.plan.clone();
-                let behind = writes.rng.below(20);
-                writes.follow(&mut table, rows, behind);
+                let later = writes.rng.below(20);
+                writes.follow(&mut table, rows, later);
                 writes.add_parts(&table, rows, &case.source, room)
             }
         };

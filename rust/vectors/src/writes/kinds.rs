@@ -9,6 +9,7 @@ use corpus::worked::WAGON;
 
 pub fn add(writes: &mut Writes) {
     let base = base();
+    writes.cases.sweep("writes kinds", 2);
     for row in 0..base.rows.len() {
         let drawn = unknown::kind(&mut writes.rng);
         let known = writes.rng.pick(&KINDS).0;
@@ -39,6 +40,7 @@ pub fn add(writes: &mut Writes) {
 
 /// Each known kind below a root, and below itself.
 fn add_each(writes: &mut Writes) {
+    writes.cases.sweep("writes kinds: each", 3);
     let plan = |kind| {
         let mut plan = Planned::empty();
         plan.push_known(ROOT, NONE, Vec::new());

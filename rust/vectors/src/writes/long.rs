@@ -2,6 +2,7 @@
 
 use super::planned::base;
 use super::{refusal, Writes, LONGEST};
+use crate::keep::ALL;
 use corpus::format::{FILE, MAX_FILE, MAX_NODES, NONE, ROOT, TABLE};
 use corpus::plans::{chain, overlapping};
 use corpus::rows::{mend_children, numbers, rows, written_length, Row};
@@ -29,10 +30,12 @@ fn written(length: usize) -> Written {
 
 /// A chain of 1,024 rows, and with a change of its last row.
 fn add_chains(writes: &mut Writes) {
+    writes.cases.sweep("writes long: chain", ALL);
     let case = chain(&mut writes.rng, MAX_NODES);
     let whole = rows(&case.plan, MAX_NODES);
     let answer = writes.add_whole(&case.plan, b"", BARE);
     assert_eq!(answer, written(BARE));
+    writes.cases.leave_out();
     let mut table = case.plan.clone();
     writes.follow(&mut table, MAX_NODES, LONGEST - TABLE);
     let answer = writes.add_parts(&table, MAX_NODES, b"", BARE + 9);
@@ -49,13 +52,14 @@ fn add_chains(writes: &mut Writes) {
     let plan = numbers(&changed);
     let answer = writes.add_whole(&plan, b"", BARE + 1);
     assert_eq!(answer, written(BARE));
-    // The last row is behind the plan, and names row 0 no more.
+    // The last row is after the plan, and names row 0 no more.
     let answer = writes.add_parts(&plan, LAST, b"", BARE);
     assert_eq!(answer, refusal(24, 0));
 }
 
 /// 1,023 rows below one root, the output a byte short.
 fn add_wide(writes: &mut Writes) {
+    writes.cases.leave_out();
     let mut rows = vec![Row::new(FILE, 0); MAX_NODES];
     rows[0] = Row::new(ROOT, NONE);
     mend_children(&mut rows);
@@ -65,6 +69,7 @@ fn add_wide(writes: &mut Writes) {
 
 /// A whole table as a plan, a number less, and a row more.
 fn add_lengths(writes: &mut Writes) {
+    writes.cases.leave_out();
     let base = base();
     let mut table = numbers(&base.rows);
     table.resize(TABLE, 0);
@@ -76,6 +81,7 @@ fn add_lengths(writes: &mut Writes) {
     let room = written_length(&base.rows) as usize;
     let answer = writes.add_parts(&table, base.rows.len(), &base.source, room);
     assert_eq!(answer, written(room));
+    writes.cases.sweep("writes long: rows", ALL);
     let roots = numbers(&vec![Row::new(ROOT, NONE); MAX_NODES + 1]);
     let answer = writes.add_whole(&roots, b"", BARE + 24);
     assert_eq!(answer, refusal(20, 0));
@@ -83,12 +89,14 @@ fn add_lengths(writes: &mut Writes) {
 
 /// Bodies that overlap, so that the file is as long as it may be, a byte longer, or much longer.
 fn add_files(writes: &mut Writes) {
+    writes.cases.sweep("writes long: files", ALL);
     let longest = overlapping(&mut writes.rng, MAX_FILE as u64);
     let answer = writes.add_whole(&longest.plan, &longest.source, 1_000);
     assert_eq!(answer, refusal(26, 0));
     let over = overlapping(&mut writes.rng, MAX_FILE as u64 + 1);
     let answer = writes.add_whole(&over.plan, &over.source, 1_000);
     assert_eq!(answer, refusal(25, 0));
+    writes.cases.leave_out();
     let answer = writes.add_parts(&over.plan, MAX_NODES, &over.source, 1_000);
     assert_eq!(answer, refusal(25, 0));
 

@@ -27,10 +27,8 @@ const LONGEST: usize = 8_300;
 const LONGEST_OUTPUT: usize = 98_304;
 
 pub fn add(cases: &mut Cases) {
-    let mut writes = Writes {
-        cases,
-        rng: Rng::new(34),
-    };
+    let rng = cases.rng(34);
+    let mut writes = Writes { cases, rng };
     rooms::add(&mut writes);
     parents::add(&mut writes);
     kinds::add(&mut writes);
@@ -106,18 +104,18 @@ impl Writes<'_> {
         if self.rng.chance(55) {
             return self.add_whole(&numbers, source, room);
         }
-        let behind = match self.rng.below(4) {
+        let later = match self.rng.below(4) {
             0 => 0,
             1 => self.rng.range(1, 7),
             _ => self.rng.range(8, 24),
         };
-        self.follow(&mut numbers, rows.len(), behind);
+        self.follow(&mut numbers, rows.len(), later);
         self.add_parts(&numbers, rows.len(), source, room)
     }
 
-    /// Puts numbers behind the rows, mostly such as name some of these as parents.
-    fn follow(&mut self, numbers: &mut Vec<u32>, rows: usize, behind: usize) {
-        let end = numbers.len() + behind;
+    /// Puts numbers after the rows, mostly such as name some of these as parents.
+    fn follow(&mut self, numbers: &mut Vec<u32>, rows: usize, later: usize) {
+        let end = numbers.len() + later;
         while numbers.len() < end {
             numbers.push(match self.rng.chance(60) {
                 true => self.rng.below(rows + 1) as u32,

@@ -52,6 +52,7 @@ fn judge(writes: &mut Writes, faults: &[(usize, u32)]) {
 
 /// All sets of faults of one row.
 fn add_one_row(writes: &mut Writes) {
+    writes.cases.sweep("writes order: one row", 2);
     for row in ROWS {
         for set in 1..16 {
             let faults = (0..FAULTS.len()).filter(|fault| set & 1 << fault != 0);
@@ -63,6 +64,7 @@ fn add_one_row(writes: &mut Writes) {
 
 /// Two rows with a fault each.
 fn add_two_rows(writes: &mut Writes) {
+    writes.cases.sweep("writes order: two rows", 2);
     for (earlier, later) in [(0, 4), (0, 8), (4, 8)] {
         for first in FAULTS {
             for second in FAULTS {
@@ -74,7 +76,8 @@ fn add_two_rows(writes: &mut Writes) {
 
 /// Any faults of any known rows.
 fn add_drawn(writes: &mut Writes) {
-    for _ in 0..30 {
+    writes.cases.sweep("writes order: drawn", 1);
+    for _ in 0..writes.cases.draws(30) {
         let mut faults = Vec::new();
         for row in [0, 1, 2, 4, 6, 7, 8] {
             for fault in FAULTS {
@@ -89,6 +92,7 @@ fn add_drawn(writes: &mut Writes) {
 
 /// 20 comes before all of them.
 fn add_length(writes: &mut Writes) {
+    writes.cases.sweep("writes order: length", 2);
     let base = base();
     for row in ROWS {
         for fault in FAULTS {

@@ -27,6 +27,7 @@ fn right(rows: &[Row], row: usize) -> bool {
 
 /// Parents of every sort, the child counts mended.
 fn add_mended(writes: &mut Writes, base: &Planned, row: usize) {
+    writes.cases.sweep("writes parents: mended", 4);
     let count = base.rows.len() as u32;
     let far = [1_024, NONE - 1, NONE];
     for parent in (0..=count).chain(far) {
@@ -43,6 +44,7 @@ fn add_mended(writes: &mut Writes, base: &Planned, row: usize) {
 
 /// The child counts as they were: the first row that is told to have another count speaks, where it comes before.
 fn add_kept(writes: &mut Writes, base: &Planned, row: usize) {
+    writes.cases.sweep("writes parents: kept", 3);
     let old = base.rows[row].parent;
     for parent in (0..base.rows.len() as u32).filter(|&parent| parent != old) {
         let mut rows = base.rows.clone();
@@ -64,6 +66,7 @@ fn add_kept(writes: &mut Writes, base: &Planned, row: usize) {
 
 /// A root put before each row: what follows in it has lost its parent.
 fn add_roots(writes: &mut Writes, base: &Planned) {
+    writes.cases.sweep("writes parents: roots", 2);
     for at in 0..=base.rows.len() {
         let mut rows = base.rows.clone();
         for row in &mut rows {
@@ -81,6 +84,7 @@ fn add_roots(writes: &mut Writes, base: &Planned) {
 
 /// Plans of a few bare rows: kinds and parents, and the row that is wrong.
 fn add_few(writes: &mut Writes) {
+    writes.cases.sweep("writes parents: few", 8);
     type Rows<'a> = &'a [(u32, u32)];
     let plans: [(Rows, usize); 20] = [
         (&[(MODEL, NONE)], 0),

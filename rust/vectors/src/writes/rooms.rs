@@ -18,6 +18,7 @@ pub fn add(writes: &mut Writes) {
 
 /// Outputs about the file's length, and of these lengths, each by one call and in parts.
 fn add_rooms(writes: &mut Writes, plan: &Planned, rooms: &[usize]) {
+    writes.cases.sweep("writes rooms: rooms", 6);
     let length = written_length(&plan.rows) as usize;
     let about = [length - 1, length, length + 1, length + 100];
     for &room in about.iter().chain(rooms) {
@@ -51,6 +52,7 @@ fn few() -> [Planned; 4] {
 
 /// A plan without rows takes any source; so does one whose rows have no bodies.
 fn add_sources(writes: &mut Writes) {
+    writes.cases.sweep("writes rooms: sources", 3);
     for source in [&b""[..], b"\0", b"cast", &[0xFF; 40]] {
         for rows in [Vec::new(), vec![Row::new(ROOT, NONE); 2]] {
             // Twice, as each draws its way.
@@ -72,6 +74,7 @@ fn add_sources(writes: &mut Writes) {
 
 /// Numbers that are no rows, whatever they are and whatever room there is.
 fn add_lengths(writes: &mut Writes) {
+    writes.cases.sweep("writes rooms: lengths", 6);
     let base = base();
     let numbers = numbers(&base.rows);
     let length = written_length(&base.rows) as usize;
@@ -85,7 +88,7 @@ fn add_lengths(writes: &mut Writes) {
         writes.follow(&mut longer, base.rows.len(), more);
         let written = writes.add_whole(&longer, &base.source, length);
         assert_eq!(written, refusal(20, 0));
-        // 20 is told before a wrong row.
+        // 20 is reported before a wrong row.
         longer[3] = 0;
         let written = writes.add_whole(&longer, b"", 0);
         assert_eq!(written, refusal(20, 0));

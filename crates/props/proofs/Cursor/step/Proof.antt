@@ -7,10 +7,11 @@ use lib.ListN.{length, take, drop}
 use borrow.Author.Tests.{not-true, not-false}
 use Rattle.le.proofs.Laws.{rest, rest-drop}
 use Rattle.names.specs.Names.{bytesOk}
-use Rattle.props.specs.Types.{sizeOf}
-use Rattle.props.specs.Step.{headerRefusal, dataOf, past, stepAt, stepNumbers}
+use Rattle.props.specs.Types.{elementSize}
+use Rattle.props.specs.Step.{headerRefusal, stepAt, stepNumbers}
+use Rattle.props.specs.Private.{dataOf}
 use Rattle.base.proofs.Answers.{told}
-use Rattle.props.proofs.Cases.{Within, name-fits, data-within, past-end, header-refused, name-refused, by-data}
+use Rattle.props.proofs.Cases.{Within, name-fits, data-within, past, past-end, header-refused, name-refused, by-data}
 use borrow.Author.Needs.{needs}
 use Rattle.props.proofs.Cursor.step.Statement.{statement}
 use Rattle.props.proofs.Cursor.step.Tie as tie
@@ -49,9 +50,9 @@ finish d =
     ap (λ n. past (a .self .at) (a .self .at + (8 + n)) (d .data-of .result)) (w .wide .ensures .0)
     ∙ by-data (a .body .now) (a .self .at) (b .before .u16-at .ensures) (b .u16-at2 .ensures) (right w) (named (f .before) (not-false _ (f .if3 .left))) (d .before .before .before .u32-at .ensures)
     (d .data-of .ensures
-    ∙ ap (λ z. dataOf z len (rest header (8 + w .wide .result))) (d .before .before .size-of .ensures .0)
-    ∙ ap (dataOf (sizeOf (b .before .u16-at .result)) len) (rest-drop header (8 + w .wide .result))
-    ∙ ap (λ n. dataOf (sizeOf (b .before .u16-at .result)) len (drop (8 + n) header)) (w .wide .ensures .0))
+    ∙ ap (λ z. dataOf z len (rest header (8 + w .wide .result))) (d .before .before .element-size .ensures .0)
+    ∙ ap (dataOf (elementSize (b .before .u16-at .result)) len) (rest-drop header (8 + w .wide .result))
+    ∙ ap (λ n. dataOf (elementSize (b .before .u16-at .result)) len (drop (8 + n) header)) (w .wide .ensures .0))
 
 -- the data takes what is there
 taken : (c : tie.After-known-told) →
@@ -60,7 +61,7 @@ taken c =
     let d = c .before .before .before in
     subst (Within (length (rest (rest (d .before .before .before .before .before .before .before .before .before .before .before .before .before .before .before .args .body .now) (d .before .before .before .before .before .before .before .before .before .before .before .before .before .before .before .args .self .at)) (8 + d .before .before .before .before .before .before .before .wide .result))))
     (sym (d .data-of .ensures) ∙ c .before .n .given .1)
-    (data-within (d .before .before .size-of .result) (d .before .before .before .u32-at .result) _)
+    (data-within (d .before .before .element-size .result) (d .before .before .before .u32-at .result) _)
 
 returns : tie.Need-returns
 returns c = let a = c .before .before .args in told stepNumbers (past-end (a .body .now) (a .self .at) (c .if1 .taken))
@@ -117,8 +118,8 @@ returns-3 c =
 u32-at-requires : tie.Need-u32-at-requires
 u32-at-requires c κs = search needs
 
-size-of-requires : tie.Need-size-of-requires
-size-of-requires c κs = search needs
+element-size-requires : tie.Need-element-size-requires
+element-size-requires c κs = search needs
 
 sub-data-of : tie.Need-sub-data-of
 sub-data-of c = fits (c .before .before .before .before .before)
@@ -173,7 +174,7 @@ step-spec =
     bytes-ok-requires
     returns-3
     u32-at-requires
-    size-of-requires
+    element-size-requires
     sub-data-of
     part-data-of-start
     part-data-of-end

@@ -5,13 +5,13 @@ use native.Mathlib.Omega.{arith}
 use lib.ListN.{length, take, length-set}
 use borrow.Author.Needs.{needs}
 use Prim.Native.Nat.{_+_, _-_, _≤_, _<_}
-use Rattle.vectors.specs.Buffers.{numbersIn, numbersFrom}
+use Rattle.vectors.specs.Buffers.{numbersIn, numbersRead}
 use Rattle.vectors.proofs.Lent.{stored-more, stored-all, numbers-more, numbers-none}
 use Rattle.vectors.proofs.buffers.numbers.Statement.{statement}
 use Rattle.vectors.proofs.buffers.numbers.Tie as tie
 
 abbrev Inv-loop : tie.InvT-loop
-Inv-loop out₀ bytes i₀ out i = (i ≤ length out) × (length out ≡ length out₀) × (take i out ++ numbersFrom bytes i (length out₀ - i) ≡ numbersIn bytes (length out₀))
+Inv-loop out₀ bytes i₀ out i = (i ≤ length out) × (length out ≡ length out₀) × (take i out ++ numbersRead bytes i (length out₀ - i) ≡ numbersIn bytes (length out₀))
 
 abbrev μ-loop : tie.MeasureT-loop
 μ-loop out₀ bytes i₀ out i = length out - i
@@ -20,7 +20,7 @@ loop-holds : tie.Need-loop-holds Inv-loop μ-loop
 loop-holds c =
     let a = c .before .before .args in
     let all : length (a .out .now) - 0 ≡ length (a .out .now) = omega arith in
-    (omega arith, refl, ap (numbersFrom (a .bytes .now) 0) all)
+    (omega arith, refl, ap (numbersRead (a .bytes .now) 0) all)
 
 mul-u32-at : tie.Need-mul-u32-at Inv-loop μ-loop
 mul-u32-at c = search needs
@@ -48,7 +48,7 @@ loop-again c =
     let n = length (at-start .args .out .now) in
     let h : l .i < length (l .out) = omega arith in
     let k : l .i < n = omega arith in
-    let rest = numbersFrom s (l .i + 1) (n - (l .i + 1)) in
+    let rest = numbersRead s (l .i + 1) (n - (l .i + 1)) in
     (simp length-set (omega arith), simp length-set (omega arith), stored-more (l .out) (l .i) (c .u32-at .result) rest h (ap (λ x. take (l .i) (l .out) ++ (x ∷ rest)) (c .u32-at .ensures) ∙ ap (λ r. take (l .i) (l .out) ++ r) (sym (numbers-more n (l .i) s k)) ∙ l .inv .2))
 
 same-length : tie.Need-same-length Inv-loop μ-loop

@@ -6,8 +6,8 @@ use Rattle.vectors.specs.Parts.{sizeLine}
 use Rattle.vectors.proofs.parts.element.Statement.{statement}
 use Rattle.vectors.proofs.parts.element.Tie as tie
 
-size-of-requires : tie.Need-size-of-requires
-size-of-requires c κs = search needs
+element-size-requires : tie.Need-element-size-requires
+element-size-requires c κs = search needs
 
 enum-known-n : tie.Need-enum-known-n
 enum-known-n c = search needs
@@ -33,22 +33,22 @@ two-requires-3 c κs = search needs
 returns : tie.Need-returns
 unfolding sizeLine
 returns c =
-    let at-size-of = c .before .before .before .before in
-    c .two .ensures ∙ ap (λ s. answered (sizeLine s)) (sym (c .before .before .n .given .1) ∙ at-size-of .size-of .ensures .0)
+    let at-element-size = c .before .before .before .before in
+    c .two .ensures ∙ ap (λ s. answered (sizeLine s)) (sym (c .before .before .n .given .1) ∙ at-element-size .element-size .ensures .0)
 
 returns-2 : tie.Need-returns-2
 unfolding sizeLine
-returns-2 c = c .two2 .ensures ∙ ap (λ s. answered (sizeLine s)) (sym (c .before .enum-told .given .1) ∙ c .before .before .before .size-of .ensures .0)
+returns-2 c = c .two2 .ensures ∙ ap (λ s. answered (sizeLine s)) (sym (c .before .enum-told .given .1) ∙ c .before .before .before .element-size .ensures .0)
 
 returns-3 : tie.Need-returns-3
 unfolding sizeLine
-returns-3 c = c .two3 .ensures ∙ ap (λ s. answered (sizeLine s)) (sym (c .before .enum-told2 .given .1) ∙ c .before .before .before .size-of .ensures .0)
+returns-3 c = c .two3 .ensures ∙ ap (λ s. answered (sizeLine s)) (sym (c .before .enum-told2 .given .1) ∙ c .before .before .before .element-size .ensures .0)
 
 pub element-spec : {M : Type 1} → statement M
 element-spec =
     tie.close
     (tie.spec
-    size-of-requires
+    element-size-requires
     enum-known-n
     cast-two
     two-requires

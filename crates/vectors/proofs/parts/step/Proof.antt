@@ -9,8 +9,8 @@ use Rattle.vectors.proofs.parts.step.Tie as tie
 step-requires : tie.Need-step-requires
 step-requires c κs = search needs
 
-enum-known-property : tie.Need-enum-known-property
-enum-known-property c = search needs
+enum-known-offsets : tie.Need-enum-known-offsets
+enum-known-offsets c = search needs
 
 four-requires : tie.Need-four-requires
 four-requires c κs = search needs
@@ -28,7 +28,7 @@ returns : tie.Need-returns
 unfolding stepLine
 returns c =
     let at-step = c .before .before .before .before in
-    c .four .ensures ∙ ap (λ s. answered (stepLine s)) (sym (c .before .before .property .given .1) ∙ at-step .step .ensures .0)
+    c .four .ensures ∙ ap (λ s. answered (stepLine s)) (sym (c .before .before .offsets .given .1) ∙ at-step .step .ensures .0)
 
 returns-2 : tie.Need-returns-2
 unfolding stepLine
@@ -41,7 +41,7 @@ step-spec =
     tie.close
     (tie.spec
     step-requires
-    enum-known-property
+    enum-known-offsets
     four-requires
     enum-known-number
     cast-four

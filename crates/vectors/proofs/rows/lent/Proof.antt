@@ -6,7 +6,7 @@ use borrow.Author.Needs.{needs}
 use Rattle.table.specs.Table.{cleared, withRow}
 use Rattle.vectors.specs.Answers.{answered, extended}
 use Rattle.vectors.specs.Buffers.{numbersIn, checksum}
-use Rattle.vectors.specs.Rows.{rowIn, seenNumbers, tableNumbers}
+use Rattle.vectors.specs.Rows.{rowIn, seenNumbers, rowTable}
 use Rattle.vectors.proofs.Answers.{joined}
 use Rattle.vectors.proofs.rows.lent.Statement.{statement}
 use Rattle.vectors.proofs.rows.lent.Tie as tie
@@ -39,7 +39,7 @@ same-length : tie.Need-same-length
 same-length c = search needs
 
 returns : tie.Need-returns
-unfolding tableNumbers
+unfolding rowTable
 returns c =
     let at-clear = c .before .before .before .before .before in
     let at-put-row = at-clear .before .before .before .before .before .before in

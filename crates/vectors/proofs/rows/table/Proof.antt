@@ -7,7 +7,7 @@ use borrow.Author.Needs.{needs}
 use Prim.Native.Nat.{_/_}
 use Rattle.vectors.specs.Answers.{answered}
 use Rattle.vectors.specs.Buffers.{numbersIn}
-use Rattle.vectors.specs.Rows.{rowIn, tableNumbers, tableLine}
+use Rattle.vectors.specs.Rows.{rowIn, rowTable, tableLine}
 use Rattle.vectors.proofs.rows.table.Statement.{statement}
 use Rattle.vectors.proofs.rows.table.Tie as tie
 
@@ -39,7 +39,7 @@ returns-2 c =
     let a = at-else1 .before .before .before .args in
     rw (le-ltb _ _ (at-else1 .if1 .left))
     (c .before .lent .ensures
-    ∙ ap (λ n. answered (tableNumbers (numbersIn (a .numbers .now) n) (a .row) (rowIn (a .fields .now)))) (length-take-le (length (a .numbers .now) / 4) (c .before .before .before .space .result) (search needs)))
+    ∙ ap (λ n. answered (rowTable (numbersIn (a .numbers .now) n) (a .row) (rowIn (a .fields .now)))) (length-take-le (length (a .numbers .now) / 4) (c .before .before .before .space .result) (search needs)))
 
 pub table-spec : {M : Type 1} → statement M
 table-spec =

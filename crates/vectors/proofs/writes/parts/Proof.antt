@@ -9,14 +9,11 @@ use Rattle.vectors.proofs.Answers.{put-after}
 use Rattle.vectors.proofs.writes.parts.Statement.{statement}
 use Rattle.vectors.proofs.writes.parts.Tie as tie
 
-judge-requires : tie.Need-judge-requires
-judge-requires c κs = search needs
+refusal-requires : tie.Need-refusal-requires
+refusal-requires c κs = search needs
 
 cast-two : tie.Need-cast-two
 cast-two c = search needs
-
-cast-two-2 : tie.Need-cast-two-2
-cast-two-2 c = search needs
 
 two-requires : tie.Need-two-requires
 two-requires c κs = search needs
@@ -31,7 +28,7 @@ returns : tie.Need-returns
 unfolding partsNumbers partsOutput
 returns c =
     let at-two = c .before .before .before .before in
-    rw (← at-two .before .before .before .judge .ensures, ne-eqb _ _ (c .before .before .if1 .taken))
+    rw (← at-two .before .before .refusal .ensures .0, ne-eqb _ _ (c .before .before .if1 .taken))
     (put-after (0 ∷ []) (c .push .ensures) (put-after (0 ∷ 0 ∷ []) (c .before .push-two .ensures) (at-two .two .ensures)), refl)
 
 emit-requires : tie.Need-emit-requires
@@ -48,12 +45,12 @@ unfolding partsNumbers partsOutput
 returns-2 c =
     let at-emit = c .before .before .before in
     let at-two = at-emit .before .before .before .before in
-    let at-judge = at-two .before .before .before in
-    let j = at-judge .judge .result in
+    let at-refusal = at-two .before .before in
+    let j = at-refusal .refusal .result in
     let e = at-emit .emit .ensures in
-    rw (← at-judge .judge .ensures, eq-eqb _ _ (at-emit .before .before .if1 .left)) (
+    rw (← at-refusal .refusal .ensures .0, eq-eqb _ _ (at-emit .before .before .if1 .left)) (
       put-after (writtenNumbers (at-emit .emit .result)) (c .with-written .ensures) (at-two .two .ensures)
-          ∙ ap (λ w. answered (j .number ∷ j .row ∷ writtenNumbers w)) (e .0),
+          ∙ ap (λ w. answered (j .number ∷ j .place ∷ writtenNumbers w)) (e .0),
       e .1,
     )
 
@@ -61,9 +58,8 @@ pub parts-spec : {M : Type 1} → statement M
 parts-spec =
     tie.close
     (tie.spec
-    judge-requires
+    refusal-requires
     cast-two
-    cast-two-2
     two-requires
     push-two-requires
     push-requires

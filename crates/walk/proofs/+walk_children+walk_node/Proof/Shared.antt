@@ -7,7 +7,7 @@ use Rattle.body.proofs.pass.Reads as pass-reads
 use Rattle.kinds.proofs.known.Reads as known-reads
 use Rattle.table.proofs.put_row.Reads as put-row-reads
 use Rattle.walk.proofs.header_at.Reads as header-at-reads
-use Rattle.walk.proofs.refusal.Reads as refusal-reads
+use Rattle.walk.proofs.node_refusal.Reads as node-refusal-reads
 use Rattle.walk.proofs.row_of.Reads as row-of-reads
 use Rattle.walk.proofs.walk_children.Reads as walk-children
 use Rattle.walk.proofs.walk_children.Kinds as walk-children-kinds
@@ -48,8 +48,8 @@ abbrev pub walk-node-calls : ℕ → walk-node-lts.Claims
 walk-node-calls t = (
   header-at-reads.Asked,
   header-at-reads.Learnt,
-  refusal-reads.Asked,
-  refusal-reads.Learnt,
+  node-refusal-reads.Asked,
+  node-refusal-reads.Learnt,
   known-reads.Asked,
   known-reads.Learnt,
   row-of-reads.Asked,

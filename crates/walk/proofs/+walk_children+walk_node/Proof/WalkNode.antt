@@ -21,7 +21,7 @@ bounds : (t : ℕ) (c : walk-node-lts.Else1 (walk-node-calls t) (walk-node-at t)
     (24 ≤ h .header-at .result .size) × (h .header-at .result .size ≤ length (a .bytes .now)) × (a .row < 1024)
     × (a .at + length (a .bytes .now) ≤ 16777216) × (a .depth ≤ a .row + 1)
 bounds t c =
-    let f = passes _ _ _ _ _ (sym (c .before .refusal .ensures) ∙ c .if1 .left) in
+    let f = passes _ _ _ _ _ (sym (c .before .node-refusal .ensures) ∙ c .if1 .left) in
     let p = c .before .before .before .before .before .pre .1 in
     (f .own, f .within, f .few, p .0, p .2)
 
@@ -43,11 +43,11 @@ ends t c =
 header-at-requires : (t : ℕ) → walk-node-lts.Need-header-at-requires (walk-node-calls t) (walk-node-at t) walk-node.Post
 header-at-requires t c κs = search needs
 
-refusal-requires : (t : ℕ) → walk-node-lts.Need-refusal-requires (walk-node-calls t) (walk-node-at t) walk-node.Post
-refusal-requires t c κs = search needs
+node-refusal-requires : (t : ℕ) → walk-node-lts.Need-node-refusal-requires (walk-node-calls t) (walk-node-at t) walk-node.Post
+node-refusal-requires t c κs = search needs
 
 returns : (t : ℕ) → walk-node-lts.Need-returns (walk-node-calls t) (walk-node-at t) walk-node.Post
-returns t c = header-refused _ _ _ _ _ _ _ (c .before .before .header-at .ensures) (c .before .refusal .ensures) (c .if1 .taken) (omega arith)
+returns t c = header-refused _ _ _ _ _ _ _ (c .before .before .header-at .ensures) (c .before .node-refusal .ensures) (c .if1 .taken) (omega arith)
 
 add-start : (t : ℕ) → walk-node-lts.Need-add-start (walk-node-calls t) (walk-node-at t) walk-node.Post
 add-start t c = search needs
@@ -84,7 +84,7 @@ returns-2 t c =
     let r = c .before .before in
     let k = r .before .before .before .before in
     let e = k .before .before in
-    passed-over _ _ _ _ _ _ _ (e .before .before .header-at .ensures) (sym (e .before .refusal .ensures) ∙ e .if1 .left)
+    passed-over _ _ _ _ _ _ _ (e .before .before .header-at .ensures) (sym (e .before .node-refusal .ensures) ∙ e .if1 .left)
     (sym (k .before .known .ensures) ∙ not-true _ (k .if2 .taken)) (r .put-row .ensures ∙ ap (withRow _ _) (r .before .row-of .ensures))
 
 cast-size : (t : ℕ) → walk-node-lts.Need-cast-size (walk-node-calls t) (walk-node-at t) walk-node.Post
@@ -110,7 +110,7 @@ returns-3 t c =
     let d = c .before in
     let k = d .before .before .before in
     let e = k .before .before in
-    body-bad _ _ _ _ _ _ _ (e .before .before .header-at .ensures) (sym (e .before .refusal .ensures) ∙ e .if1 .left)
+    body-bad _ _ _ _ _ _ _ (e .before .before .header-at .ensures) (sym (e .before .node-refusal .ensures) ∙ e .if1 .left)
     (sym (k .before .known .ensures) ∙ not-false _ (k .if2 .left)) (d .pass .ensures) (c .if3 .taken)
 
 cast-row-of-3 : (t : ℕ) → walk-node-lts.Need-cast-row-of-3 (walk-node-calls t) (walk-node-at t) walk-node.Post
@@ -155,7 +155,7 @@ returns-4 t c =
     let d = r .before .before .before .before in
     let k = d .before .before .before in
     let e = k .before .before in
-    with-children _ _ _ _ _ _ _ (e .before .before .header-at .ensures) (sym (e .before .refusal .ensures) ∙ e .if1 .left)
+    with-children _ _ _ _ _ _ _ (e .before .before .header-at .ensures) (sym (e .before .node-refusal .ensures) ∙ e .if1 .left)
     (sym (k .before .known .ensures) ∙ not-false _ (k .if2 .left)) (d .pass .ensures) (r .before .before .before .if3 .left)
     (r .put-row2 .ensures ∙ ap (withRow _ _) (r .before .row-of2 .ensures)) (w .walk-children .ensures)
 
@@ -166,7 +166,7 @@ closed t =
     (walk-node-at t)
     walk-node.Post
     (header-at-requires t)
-    (refusal-requires t)
+    (node-refusal-requires t)
     (returns t)
     (add-start t)
     (add-rows t)

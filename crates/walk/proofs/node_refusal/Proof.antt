@@ -1,0 +1,73 @@
+-- `walk::node_refusal`: the definition's tests in their order.
+use mathlib.Core.Path.{sym, _∙_}
+use borrow.Author.Needs.{needs}
+use borrow.Author.Tests.{not-true, not-false}
+use Rattle.walk.proofs.Cases.{ill, misplaced, rowless, deep, crowded, right}
+use Rattle.walk.proofs.node_refusal.Statement.{statement}
+use Rattle.walk.proofs.node_refusal.Tie as tie
+
+ill-sized-requires : tie.Need-ill-sized-requires
+ill-sized-requires c κs = search needs
+
+returns : tie.Need-returns
+returns c = ill _ _ _ _ _ (sym (c .before .ill-sized .ensures) ∙ c .if1 .taken)
+
+may-stand-requires : tie.Need-may-stand-requires
+may-stand-requires c κs = search needs
+
+returns-2 : tie.Need-returns-2
+returns-2 c =
+    let one = c .before .before in
+    misplaced _ _ _ _ _ (sym (one .before .ill-sized .ensures) ∙ one .if1 .left)
+    (sym (c .before .may-stand .ensures) ∙ not-true _ (c .if2 .taken))
+
+returns-3 : tie.Need-returns-3
+returns-3 c =
+    let two = c .before in
+    let one = two .before .before in
+    rowless _ _ _ _ _ (sym (one .before .ill-sized .ensures) ∙ one .if1 .left)
+    (sym (two .before .may-stand .ensures) ∙ not-false _ (two .if2 .left))
+    (c .if3 .taken)
+
+returns-4 : tie.Need-returns-4
+returns-4 c =
+    let two = c .before .before in
+    let one = two .before .before in
+    deep _ _ _ _ _ (sym (one .before .ill-sized .ensures) ∙ one .if1 .left)
+    (sym (two .before .may-stand .ensures) ∙ not-false _ (two .if2 .left))
+    (c .before .if3 .left) (c .if4 .taken)
+
+too-many-requires : tie.Need-too-many-requires
+too-many-requires c κs = search needs
+
+returns-5 : tie.Need-returns-5
+returns-5 c =
+    let four = c .before .before in
+    let two = four .before .before in
+    let one = two .before .before in
+    crowded _ _ _ _ _ (sym (one .before .ill-sized .ensures) ∙ one .if1 .left)
+    (sym (two .before .may-stand .ensures) ∙ not-false _ (two .if2 .left))
+    (four .before .if3 .left) (four .if4 .left) (sym (c .before .too-many .ensures) ∙ c .if5 .taken)
+
+returns-6 : tie.Need-returns-6
+returns-6 c =
+    let four = c .before .before in
+    let two = four .before .before in
+    let one = two .before .before in
+    right _ _ _ _ _ (sym (one .before .ill-sized .ensures) ∙ one .if1 .left)
+    (sym (two .before .may-stand .ensures) ∙ not-false _ (two .if2 .left))
+    (four .before .if3 .left) (four .if4 .left) (sym (c .before .too-many .ensures) ∙ c .if5 .left)
+
+pub node-refusal-spec : {M : Type 1} → statement M
+node-refusal-spec =
+    tie.close
+    (tie.spec
+    ill-sized-requires
+    returns
+    may-stand-requires
+    returns-2
+    returns-3
+    returns-4
+    too-many-requires
+    returns-5
+    returns-6)
