@@ -57,7 +57,7 @@ places w = w .starts ++ (w .at ∷ [])
 abbrev pub indexOf : PropertyWalk → Index
 indexOf w = record { number = w .number; count = length (w .starts); starts = sets (replicate 65 0) 0 (places w) }
 
--- the first of the properties at these places that has the name; their number where none has
+-- the first of the properties at these places that has the name; their number where none has. "Of two equal names the first is found."
 unfoldable pub firstNamed : List ℕ → List ℕ → List ℕ → ℕ
 firstNamed s name [] = 0
 firstNamed s name (at ∷ more) = cond (same (nameAt s at) name) 0 (suc (firstNamed s name more))

@@ -59,6 +59,7 @@ pub record Beside : Type 0 where
   pub types : Types
   pub bones : ℕ
 
+-- "Let V be a mesh's vp length."
 unfoldable pub besideOf : (kind : ℕ) (s starts : List ℕ) (bones : ℕ) → Beside
 besideOf kind s starts bones =
     cond (eqb kind mesh)

@@ -2,7 +2,7 @@
 -- equation says that this packing loses nothing of the table.
 use Prim.Native.Nat.{ℕ, suc, min}
 use mathlib.Core.Path.{_≡_, refl}
-use mathlib.Core.Bool.{Bool, true, false, cond}
+use mathlib.Core.Bool.{Bool, true, false, cond, not}
 use mathlib.Core.List.{List, [], _∷_, _++_, map}
 use lib.Dec.{eqb}
 use lib.ListN.{length, take, getD}
@@ -43,7 +43,7 @@ lineOf e = record {
   name = take (e .size) (unpacked (e .first) (e .second) (e .third));
   numbered = eqb (e .numbered) 1;
   types = typesFrom (e .types);
-  array = eqb (e .array) 1;
+  array = not (eqb (e .array) 0);
   required = eqb (e .required) 1;
   held = heldFrom (e .held) (e .set) (e .target);
 }

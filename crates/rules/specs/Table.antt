@@ -41,7 +41,8 @@ pub data Held : Type 0 where
   keys : Held
   -- "Bone p is read as signed: -1 is no parent"
   boneNumber : Held
-  -- "Links, where the node's kind lists the name as l": to a kind
+  -- "Links, where the node's kind lists the name as l: m to Material; b to Mesh; sb eb tb pv pb cb to Bone; the Material hashes and rf to
+  -- File."
   linkTo : (kind : ℕ) → Held
 
 -- "a line per kind and name". The name is in letters; where it is numbered, `%d` follows them.
@@ -104,7 +105,9 @@ axes = map letters ("x" ∷ "y" ∷ "z" ∷ [])
 
 unfoldable pub lines : List Line
 lines =
+    -- "Model: n s."
     rule model "n" plain (only string) single optional nothing ∷
+    -- "Mesh: n s, vp! v3[], vn vt v3[], c%d i[], u%d v2[], wb N[], wv f[], f! N[], cl ul mi N, sm s (linear, quaternion), m l."
     rule mesh "n" plain (only string) single optional nothing ∷
     rule mesh "vp" plain (only v3) array required nothing ∷
     rule mesh "vn" plain (only v3) array optional vertices ∷
@@ -119,11 +122,13 @@ lines =
     rule mesh "mi" plain N single optional nothing ∷
     rule mesh "sm" plain (only string) single optional (oneOf skinning) ∷
     rule mesh "m" plain (only long) single optional (linkTo material) ∷
+    -- "BlendShape: n! s, b! l, vi! N[], vp! v3[], ts f[]."
     rule blendShape "n" plain (only string) single required nothing ∷
     rule blendShape "b" plain (only long) single required (linkTo mesh) ∷
     rule blendShape "vi" plain N array required nothing ∷
     rule blendShape "vp" plain (only v3) array required indices ∷
     rule blendShape "ts" plain (only float) array optional nothing ∷
+    -- "Bone: n! s, p i, ssc B, lp wp s v3, lr wr v4."
     rule bone "n" plain (only string) single required nothing ∷
     rule bone "p" plain (only int) single optional boneNumber ∷
     rule bone "ssc" plain (only byte) single optional flag ∷
@@ -132,6 +137,7 @@ lines =
     rule bone "s" plain (only v3) single optional nothing ∷
     rule bone "lr" plain (only v4) single optional nothing ∷
     rule bone "wr" plain (only v4) single optional nothing ∷
+    -- "IKHandle: n s, sb! eb! l, tb pv pb l, tr B."
     rule ikHandle "n" plain (only string) single optional nothing ∷
     rule ikHandle "sb" plain (only long) single required (linkTo bone) ∷
     rule ikHandle "eb" plain (only long) single required (linkTo bone) ∷
@@ -139,6 +145,7 @@ lines =
     rule ikHandle "pv" plain (only long) single optional (linkTo bone) ∷
     rule ikHandle "pb" plain (only long) single optional (linkTo bone) ∷
     rule ikHandle "tr" plain (only byte) single optional flag ∷
+    -- "Constraint: n s, ct! s (pt, or, sc), cb! tb! l, mo sx sy sz B."
     rule constraint "n" plain (only string) single optional nothing ∷
     rule constraint "ct" plain (only string) single required (oneOf constraints) ∷
     rule constraint "cb" plain (only long) single required (linkTo bone) ∷
@@ -147,6 +154,7 @@ lines =
     rule constraint "sx" plain (only byte) single optional flag ∷
     rule constraint "sy" plain (only byte) single optional flag ∷
     rule constraint "sz" plain (only byte) single optional flag ∷
+    -- "Material: n! t! s; albedo diffuse normal specular emissive gloss roughness ao cavity aniso extra%d, all l."
     rule material "n" plain (only string) single required nothing ∷
     rule material "t" plain (only string) single required nothing ∷
     rule material "albedo" plain (only long) single optional (linkTo file) ∷
@@ -160,28 +168,35 @@ lines =
     rule material "cavity" plain (only long) single optional (linkTo file) ∷
     rule material "aniso" plain (only long) single optional (linkTo file) ∷
     rule material "extra" numbered (only long) single optional (linkTo file) ∷
+    -- "File: p! s."
     rule file "p" plain (only string) single required nothing ∷
+    -- "Animation: n s, fr! f, lo B."
     rule animation "n" plain (only string) single optional nothing ∷
     rule animation "fr" plain (only float) single required nothing ∷
     rule animation "lo" plain (only byte) single optional flag ∷
+    -- "Curve: nn! s, kp! s (rq tx ty tz sx sy sz bs vb), kb! N[], kv! one of b h i f v4 [], m! s (additive, absolute, relative), ab f."
     rule curve "nn" plain (only string) single required nothing ∷
     rule curve "kp" plain (only string) single required (oneOf keyProperties) ∷
     rule curve "kb" plain N array required nothing ∷
     rule curve "kv" plain keyType array required keys ∷
     rule curve "m" plain (only string) single required (oneOf modes) ∷
     rule curve "ab" plain (only float) single optional nothing ∷
+    -- "CurveModeOverride: nn! s, m! s (as Curve), `ot` `or` `os` B."
     rule curveModeOverride "nn" plain (only string) single required nothing ∷
     rule curveModeOverride "m" plain (only string) single required (oneOf modes) ∷
     rule curveModeOverride "ot" plain (only byte) single optional flag ∷
     rule curveModeOverride "or" plain (only byte) single optional flag ∷
     rule curveModeOverride "os" plain (only byte) single optional flag ∷
+    -- "NotificationTrack: n! s, kb! N[]."
     rule notificationTrack "n" plain (only string) single required nothing ∷
     rule notificationTrack "kb" plain N array required nothing ∷
+    -- "Instance: n s, rf! l, p! v3, r! v4, s! v3."
     rule instance "n" plain (only string) single optional nothing ∷
     rule instance "rf" plain (only long) single required (linkTo file) ∷
     rule instance "p" plain (only v3) single required nothing ∷
     rule instance "r" plain (only v4) single required nothing ∷
     rule instance "s" plain (only v3) single required nothing ∷
+    -- "Metadata: a s, s s, up s (x, y, z). Root, Skeleton: none."
     rule metadata "a" plain (only string) single optional nothing ∷
     rule metadata "s" plain (only string) single optional nothing ∷
     rule metadata "up" plain (only string) single optional (oneOf axes) ∷

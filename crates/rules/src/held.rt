@@ -3,15 +3,15 @@
 // Types: one by its code, or one of these.
 pub const N: u32 = 1; // b h i
 
-pub const KEY_TYPES: u32 = 2; // b h i f v4
+pub const KEY_TYPE: u32 = 2; // b h i f v4
 
 pub const ANY_TYPE: u32 = 3; // of a name that is not listed
 
 // A name that a number follows, `%d`.
 pub const NUMBERED: u32 = 1;
 
-// Any number of elements, and not a length of 1.
-pub const ARRAY: u32 = 1;
+// A length of 1, and not any number of elements.
+pub const SINGLE: u32 = 0;
 
 pub const REQUIRED: u32 = 1;
 

@@ -90,7 +90,7 @@ pub fn takes(types: u32, code: u16) -> bool
     let n = (code == props::BYTE) | (code == props::SHORT) | (code == props::INT);
     match types {
         held::N => n,
-        held::KEY_TYPES => n | (code == props::FLOAT) | (code == props::V4),
+        held::KEY_TYPE => n | (code == props::FLOAT) | (code == props::V4),
         held::ANY_TYPE => true,
         _ => types == code as u32,
     }
@@ -100,7 +100,7 @@ pub fn takes(types: u32, code: u16) -> bool
 pub fn misfits(e: Entry, code: u16, elements: u32) -> bool
     ensures { λ r. ⌜ r ≡ misfits (lineOf e) code elements ⌝ }
 {
-    !takes(e.types, code) | ((e.array != held::ARRAY) & (elements != 1))
+    !takes(e.types, code) | ((e.array == held::SINGLE) & (elements != 1))
 }
 
 // Whether a name is the line's as it stands.

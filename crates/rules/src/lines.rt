@@ -50,7 +50,7 @@ const V4: u32 = props::V4 as u32;
 
 const N: u32 = held::N;
 
-const K: u32 = held::KEY_TYPES;
+const K: u32 = held::KEY_TYPE;
 
 // what a line holds its property to.
 const BIT: u32 = held::FLAG;

@@ -32,7 +32,7 @@ fields r =
 abbrev pub noParent : ℕ
 noParent = 0xFFFFFFFF
 
--- the row lies wholly in the table
+-- not 40: "row not wholly in the table"
 unfoldable pub hasRow : List ℕ → ℕ → Bool
 hasRow t k = leb (k * 8 + 8) (length t)
 

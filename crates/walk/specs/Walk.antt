@@ -45,9 +45,9 @@ tooMany kind count = isKnown kind && ltb mostProperties count
 unfoldable pub nodeRefusal : Header → (room : ℕ) → Parent → (row depth : ℕ) → ℕ
 nodeRefusal h room parent row depth =
     cond (illSized (h .size) room) 5
-    (cond (not (mayStand parent (h .kind))) 6
-    (cond (leb mostRows row) 7
-    (cond (ltb 8 depth) 8
+    (cond (not (mayStand parent (h .kind))) 6  -- "kind not allowed there"
+    (cond (leb mostRows row) 7  -- "a 1,025th node"
+    (cond (ltb 8 depth) 8  -- "depth over 8 (a root has depth 1)"
     (cond (tooMany (h .kind) (h .properties)) 9 0))))
 
 -- the row of a node with this header, from its parent's row, and its body's start and end
@@ -136,7 +136,7 @@ isCast s = leb 16 (length s) && eqb (numberAt 4 s 0) 0x74736163
 unfoldable pub walkOf : List ℕ → Walked
 walkOf s =
     cond (not (isCast s)) (refusedWalk 3 0)
-    (cond (not (eqb (numberAt 4 s 4) 1)) (refusedWalk 4 4)
+    (cond (not (eqb (numberAt 4 s 4) 1)) (refusedWalk 4 4)  -- "version not 1"
     (childrenAt None noParent 1 (numberAt 4 s 8) 16 0 (drop 16 s)))
 
 abbrev pub flagsOf : List ℕ → ℕ
