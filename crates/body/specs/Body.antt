@@ -21,28 +21,29 @@ pub record PropertyWalk : Type 0 where
   pub at : ℕ
   pub starts : List ℕ
 
-abbrev pub stop : ℕ → ℕ → PropertyWalk
+abbrev pub stop : (number at : ℕ) → PropertyWalk
 stop n at = record { number = n; at = at; starts = [] }
 
-abbrev pub after : ℕ → PropertyWalk → PropertyWalk
+-- a walk that comes after the property at a place
+abbrev pub after : (at : ℕ) → PropertyWalk → PropertyWalk
 after at w = record { number = w .number; at = w .at; starts = at ∷ w .starts }
 
 -- past the property at a place, and on from there; or refused there
-abbrev pub byStep : ℕ → (ℕ → PropertyWalk) → Step → PropertyWalk
+abbrev pub byStep : (at : ℕ) → (on : ℕ → PropertyWalk) → Step → PropertyWalk
 byStep at on (Past p next) = after at (on (next .at))
 byStep at on (Refused n) = stop n at
 
 -- k properties from a place on
-unfoldable pub pass : List ℕ → ℕ → ℕ → PropertyWalk
+unfoldable pub pass : List ℕ → (k at : ℕ) → PropertyWalk
 pass s zero at = stop 0 at
 pass s (suc k) at = byStep at (pass s k) (stepAt s at)
 
--- 9, "over 64 properties"; or what the first property that is refused is refused with
-unfoldable pub properties : List ℕ → ℕ → PropertyWalk
+-- k properties from the start on. 9: "over 64 properties"; else 10 or 11, as the first property that is refused says
+unfoldable pub properties : List ℕ → (k : ℕ) → PropertyWalk
 properties s k = cond (ltb mostProperties k) (stop 9 0) (pass s k 0)
 
 -- "exactly its count (at most 64) of properties by the rules of 9 to 11": none is refused, and they end with the bytes
-unfoldable pub exactly : List ℕ → ℕ → Bool
+unfoldable pub exactly : List ℕ → (k : ℕ) → Bool
 exactly s k = eqb (properties s k .number) 0 && eqb (properties s k .at) (length s)
 
 -- the walk's end alone
@@ -58,6 +59,6 @@ abbrev pub indexOf : PropertyWalk → Index
 indexOf w = record { number = w .number; count = length (w .starts); starts = sets (replicate 65 0) 0 (places w) }
 
 -- the first of the properties at these places that has the name; their number where none has. "Of two equal names the first is found."
-unfoldable pub firstNamed : List ℕ → List ℕ → List ℕ → ℕ
+unfoldable pub firstNamed : (s name starts : List ℕ) → ℕ
 firstNamed s name [] = 0
 firstNamed s name (at ∷ more) = cond (same (nameAt s at) name) 0 (suc (firstNamed s name more))

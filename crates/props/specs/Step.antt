@@ -15,19 +15,19 @@ use Rattle.props.specs.declared.Step.the-variants.{Past, Refused}
 use Rattle.props.specs.Types.{elementSize, noSuch}
 
 -- the property at a place: its type, its name size, its array length, its name, and where its data starts
-abbrev pub codeAt : List ℕ → ℕ → ℕ
+abbrev pub codeAt : List ℕ → (at : ℕ) → ℕ
 codeAt s at = numberAt 2 s at
 
-abbrev pub sizeAt : List ℕ → ℕ → ℕ
+abbrev pub sizeAt : List ℕ → (at : ℕ) → ℕ
 sizeAt s at = numberAt 2 s (at + 2)
 
-abbrev pub lengthAt : List ℕ → ℕ → ℕ
+abbrev pub lengthAt : List ℕ → (at : ℕ) → ℕ
 lengthAt s at = numberAt 4 s (at + 4)
 
-unfoldable pub nameAt : List ℕ → ℕ → List ℕ
+unfoldable pub nameAt : List ℕ → (at : ℕ) → List ℕ
 nameAt s at = take (sizeAt s at) (drop (at + 8) s)
 
-abbrev pub startAt : List ℕ → ℕ → ℕ
+abbrev pub startAt : List ℕ → (at : ℕ) → ℕ
 startAt s at = at + 8 + sizeAt s at
 
 -- "0x73 `s`: array length must be 1, .."
@@ -48,7 +48,7 @@ dataSize Text len rest = toZero rest
 dataSize NoSuch len rest = 0
 
 -- one step past it: "header fits, type, name size, name fits, name bytes, string length, data fits"
-unfoldable pub stepAt : List ℕ → ℕ → Step
+unfoldable pub stepAt : List ℕ → (at : ℕ) → Step
 stepAt s at =
     let size = elementSize (codeAt s at) in
     let room = length s - at in
@@ -95,5 +95,5 @@ stepNumbers (Past p next) = record { number = 0; name = p .name; start = p .star
 stepNumbers (Refused n) = record { number = n; name = 0; start = 0; next = 0 }
 
 -- where its data starts, or the end of the bytes where that is past it
-unfoldable pub dataAt : List ℕ → ℕ → ℕ
+unfoldable pub dataAt : List ℕ → (at : ℕ) → ℕ
 dataAt s at = cond (ltb (length s) (startAt s at)) (length s) (startAt s at)

@@ -38,8 +38,12 @@ judgedWith s r bones = cond (isKnown (r .kind)) (judged (r .kind) (r .properties
 abbrev pub judgedRow : (s : List ℕ) (all : List Row) → Row → Judged
 judgedRow s all r = judgedWith s r (bonesUnder all (r .parent))
 
--- what some rows give: a refusal's number, 0 for none, and its place; and what was counted before it. (The code resolves
--- no links where this count is 0; the answer's links are those of `linked`.)
+-- what some rows give: a refusal's number, 0 for none, and its place; and what was counted before it, here nothing. (The code
+-- resolves no links where their count is 0; the answer's links are those of `linked`.)
+abbrev pub uncounted : (number place : ℕ) → Ruled
+uncounted n place = record { number = n; place = place; faces = 0; degenerate = 0; links = 0 }
+
+-- a row that is not refused, with what the rows after it give
 abbrev pub counted : Judged → Ruled → Ruled
 counted j next = record {
   number = next .number;
@@ -48,9 +52,6 @@ counted j next = record {
   degenerate = j .degenerate + next .degenerate;
   links = j .links + next .links;
 }
-
-abbrev pub uncounted : (number place : ℕ) → Ruled
-uncounted n place = record { number = n; place = place; faces = 0; degenerate = 0; links = 0 }
 
 -- a row's refusal lies at its node's header plus the offset
 unfoldable pub ruled : (s : List ℕ) (all rows : List Row) → Ruled
