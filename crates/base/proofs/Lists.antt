@@ -1,11 +1,7 @@
--- What holds of each member of a list, and of numbers that are counted up.
-use Prim.Native.Nat.{ℕ, zero, suc, _+_, _<_}
-use native.Mathlib.Omega.{arith}
-use mathlib.Core.Path.{_≡_, refl, ap, _∙_}
+-- What holds of each member of a list.
 use mathlib.Core.Logic.{_↔_}
-use mathlib.Core.List.{List, [], _∷_, _++_, map}
-use lib.ListN.{length, getD}
-use Rattle.base.specs.Lists.{Each, numbersFrom}
+use mathlib.Core.List.{List, [], _∷_, _++_}
+use Rattle.base.specs.Lists.{Each}
 
 module _ {A : Type 0} where
   pub each-append : (P : A → Type 0) (xs ys : List A) → Each P (xs ++ ys) ↔ (Each P xs × Each P ys)
@@ -23,13 +19,3 @@ module _ {A : Type 0} where
   pub each-map : {P Q : A → Type 0} → ((x : A) → P x → Q x) → (xs : List A) → Each P xs → Each Q xs
   each-map g [] h = tt
   each-map g (x ∷ xs) h = (g x (h .0), each-map g xs (h .1))
-
-module _ (f : ℕ → ℕ) where
-  pub length-numbers : (k n : ℕ) → length (map f (numbersFrom k n)) ≡ n
-  length-numbers k zero = refl
-  length-numbers k (suc n) = ap suc (length-numbers (suc k) n)
-
-  pub getD-numbers : (k n i : ℕ) → i < n → getD (map f (numbersFrom k n)) i 0 ≡ f (k + i)
-  getD-numbers k zero i h = absurd (omega arith)
-  getD-numbers k (suc n) zero h = ap f (omega arith)
-  getD-numbers k (suc n) (suc i) h = getD-numbers (suc k) n i (omega arith) ∙ ap f (omega arith)

@@ -1,5 +1,4 @@
 -- What holds of each of a list, of one of it at least, and exactly those of a list that have a property.
-use Prim.Native.Nat.{ℕ, zero, suc}
 use mathlib.Core.Logic.{_⊎_}
 use mathlib.Core.List.{List, [], _∷_}
 
@@ -16,8 +15,3 @@ pub data Picks {A : Type 0} (P : A → Type 0) : List A → List A → Type 0 wh
   none : Picks P [] []
   taken : {x : A} {xs ys : List A} → P x → Picks P xs ys → Picks P (x ∷ xs) (x ∷ ys)
   left : {x : A} {xs ys : List A} → (P x → ⊥) → Picks P xs ys → Picks P (x ∷ xs) ys
-
--- n numbers, from k on
-abbrev pub numbersFrom : (k n : ℕ) → List ℕ
-numbersFrom k zero = []
-numbersFrom k (suc n) = k ∷ numbersFrom (suc k) n

@@ -19,8 +19,7 @@ use Rattle.table.specs.declared.Which.the-variants.{OfKind}
 use Rattle.table.specs.Table.{blank, noParent, rowAt, rowsAt, putRows, hasRoom, cleared}
 use Rattle.table.proofs.Clearing.{cleared-again, filled-putRows, rowAt-filled}
 use Rattle.table.proofs.Plans.{rows-filled}
-use Rattle.table.specs.Counts.{countsUnder}
-use Rattle.table.proofs.Counts.{count-of, counted-none}
+use Rattle.table.proofs.Counts.{counted-none}
 use Rattle.format.specs.declared.OwnBytes.{OwnBytes}
 use Rattle.format.specs.Forest.{Forest, nodes, encode, count, fileHeader, fileOf}
 use Rattle.format.specs.Rows.{rows, rowsOf}
@@ -38,7 +37,7 @@ use Rattle.walk.proofs.Sound.{sound}
 use Rattle.reader.specs.declared.Reading.{Reading}
 use Rattle.reader.specs.declared.Reading.the-variants.{Accepted, Refused}
 use Rattle.reader.specs.Reading.{bonesUnder, ruled, ownKnown, ownUnknown, checked, verdict, readingOf, tableLeft, tableAfter}
-use Rattle.reader.specs.Private.{RowOk, RowsOk, BonesCounted, leftIn}
+use Rattle.reader.specs.Private.{RowOk, RowsOk, Counted, leftIn}
 use Rattle.reader.proofs.Bounds.{links-lie, resolved-lies}
 use Rattle.reader.proofs.Exactly.{short, checked-right}
 
@@ -120,12 +119,12 @@ table-ok size t n h = each-rows (RowOk size n) t 0 n (λ i b. (let z : i ≡ 0 +
 
 -- the Bones under each row of a table, counted for the first 1,024; under others there are none
 pub bones-counted : (size : ℕ) (t : List ℕ) (n : ℕ) → n ≤ 1024 → RowsOk size t n → (bones : List ℕ) → length bones ≡ 1024
-    → bones ≡ countsUnder 1024 (OfKind bone) (rowsAt t 0 (min n 1024)) → BonesCounted bones (rowsAt t 0 n)
+    → ((p : ℕ) → p < 1024 → getD bones p 0 ≡ bonesUnder (rowsAt t 0 (min n 1024)) p) → Counted bones (rowsAt t 0 n)
 bones-counted size t n few ok bones long h p =
     let past : 1024 ≤ p → (r : Row) → RowOk size n r → eqb (r .kind) bone ≡ true → r .parent ≡ p → ⊥
     = λ b r o k e. omega (arith, o .boneParent (eqb-true (r .kind) bone k)) in
     by-test (ltb p 1024)
-    (λ b. count-of 1024 (OfKind bone) _ h p (ltb-true p 1024 b) ∙ ap (λ m. bonesUnder (rowsAt t 0 m) p) (min-eq-left few))
+    (λ b. h p (ltb-true p 1024 b) ∙ ap (λ m. bonesUnder (rowsAt t 0 m) p) (min-eq-left few))
     (λ b.
     let q = ltb-false p 1024 b in
     List·getD-eq-default bones 0 (omega (arith, q, long))

@@ -1,21 +1,20 @@
 -- Laws of the rows under a parent, and their count in a loop over a table's rows.
 use Prim.Native.Nat.{ℕ, zero, suc, _+_, _≤_, _<_}
-use native.Mathlib.Nat.{zero-add, add-zero}
+use native.Mathlib.Nat.{add-zero}
 use native.Mathlib.Omega.{arith}
-use mathlib.Core.Path.{_≡_, refl, ap, sym, _∙_}
+use mathlib.Core.Path.{_≡_, refl, sym, _∙_}
 use mathlib.Core.Bool.{true, false, _&&_, true≢false}
 use mathlib.Core.List.{List, [], _∷_, _++_}
 use lib.Dec.{eqb, ltb}
 use lib.ListN.{length, getD, set}
-use lib.Seq.{getD-set-same, getD-set-other, ext-getD}
+use lib.Seq.{getD-set-same, getD-set-other}
 use borrow.Author.Tests.{eq-eqb, ne-eqb, eqb-true, eqb-false, ltb-true, ltb-false}
 use Rattle.base.specs.Lists.{Each}
-use Rattle.base.proofs.Lists.{length-numbers, getD-numbers}
 use Rattle.base.proofs.Tests.{by-test}
 use Rattle.table.specs.declared.Row.{Row}
 use Rattle.table.specs.declared.Which.{Which}
 use Rattle.table.specs.Table.{rowAt, rowsAt}
-use Rattle.table.specs.Counts.{isCounted, countUnder, countsUnder}
+use Rattle.table.specs.Counts.{isCounted, countUnder}
 use Rattle.table.proofs.Rests.{rest, rest-all, rest-more, rest-none}
 
 module _ (which : Which) where
@@ -47,25 +46,6 @@ module _ (which : Which) where
   counted-few t k (suc n) p =
       let ih = counted-few t (suc k) n p in
       by-test (isCounted which (rowAt t k) && eqb (rowAt t k .parent) p) (λ e. rw e (omega (arith, ih))) (λ e. rw e (omega (arith, ih)))
-
--- the counts are those of each parent
-module _ (parents : ℕ) (which : Which) (rows : List Row) where
-  at-parent : (p : ℕ) → p < parents → getD (countsUnder parents which rows) p 0 ≡ countUnder which rows p
-  unfolding countsUnder
-  at-parent p h = getD-numbers (countUnder which rows) 0 parents p h ∙ ap (countUnder which rows) (zero-add p)
-
-  pub count-of : {counts : List ℕ} → counts ≡ countsUnder parents which rows → (p : ℕ) → p < parents → getD counts p 0 ≡ countUnder which rows p
-  count-of e p h = ap (λ l. getD l p 0) e ∙ at-parent p h
-
-  length-counts : length (countsUnder parents which rows) ≡ parents
-  unfolding countsUnder
-  length-counts = length-numbers (countUnder which rows) 0 parents
-
-  pub all-counts : {counts : List ℕ} → length counts ≡ parents → ((p : ℕ) → p < parents → getD counts p 0 ≡ countUnder which rows p)
-      → counts ≡ countsUnder parents which rows
-  all-counts {counts} l h =
-      ext-getD 0 counts (countsUnder parents which rows) (l ∙ sym length-counts)
-      (λ p b. let few : p < parents = omega (arith, b, l) in h p few ∙ sym (at-parent p few))
 
 -- a row that is counted, and whose parent has a place
 pub both : (which : Which) (r : Row) → (isCounted which r && ltb (r .parent) 1024) ≡ true → (isCounted which r ≡ true) × (r .parent < 1024)

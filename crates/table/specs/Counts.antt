@@ -1,9 +1,8 @@
 -- How many rows are under a parent: the children of a node, or those of a kind among them.
 use Prim.Native.Nat.{ℕ, suc}
 use mathlib.Core.Bool.{Bool, true, cond, _&&_}
-use mathlib.Core.List.{List, [], _∷_, map}
+use mathlib.Core.List.{List, [], _∷_}
 use lib.Dec.{eqb}
-use Rattle.base.specs.Lists.{numbersFrom}
 use Rattle.table.specs.declared.Row.{Row}
 use Rattle.table.specs.declared.Which.{Which}
 use Rattle.table.specs.declared.Which.the-variants.{All, OfKind}
@@ -18,7 +17,3 @@ unfoldable pub countUnder : Which → List Row → (parent : ℕ) → ℕ
 countUnder which [] parent = 0
 countUnder which (r ∷ rs) parent =
     cond (isCounted which r && eqb (r .parent) parent) (suc (countUnder which rs parent)) (countUnder which rs parent)
-
--- the count of each parent from 0 on, of a given number of parents
-unfoldable pub countsUnder : (parents : ℕ) → Which → List Row → List ℕ
-countsUnder parents which rows = map (countUnder which rows) (numbersFrom 0 parents)

@@ -1,11 +1,11 @@
 // The table: rows of eight numbers in a lent slice. No other crate knows where a row's numbers lie.
 ghost use mathlib.Core.Path.{_≡_};
-ghost use Prim.Native.Nat.{_+_, _*_, _≤_, min};
-ghost use lib.ListN.{length};
+ghost use Prim.Native.Nat.{ℕ, _+_, _*_, _≤_, _<_, min};
+ghost use lib.ListN.{length, getD};
 ghost use lib.Seq.{sets};
 ghost use Rattle.base.specs.Limits.{mostRows, tableNumbers};
 ghost use Rattle.table.specs.Table.{blank, hasRow, rowFrom, rowAt, rowsAt, fields, withRow, hasRoom, zeroed, cleared, rowCount, isPlan};
-ghost use Rattle.table.specs.Counts.{isCounted, countsUnder};
+ghost use Rattle.table.specs.Counts.{isCounted, countUnder};
 
 // A node: its kind, the halves of its hash, its parent's row (0xFFFFFFFF for none), where its body starts and ends, its
 // property count and its child count.
@@ -164,7 +164,7 @@ fn is_counted(which: Which, row: Row) -> bool
 
 // Counts, of the first rows of a table, at most 1,024, those under each parent: place p has the count of row p.
 pub fn count_under(numbers: &[u32], rows: usize, which: Which) -> [u32; base::MOST_ROWS]
-    ensures { λ r. ⌜ r ≡ countsUnder mostRows which (rowsAt (now (numbers .entry)) 0 (min rows mostRows)) ⌝ }
+    ensures { λ r. ⌜ ((p : ℕ) → p < mostRows → getD r p 0 ≡ countUnder which (rowsAt (now (numbers .entry)) 0 (min rows mostRows)) p) ⌝ }
 {
     let n = if rows < base::MOST_ROWS {
         rows

@@ -27,8 +27,7 @@ use Rattle.format.specs.Layout.{Property, GoodBody}
 use Rattle.base.proofs.Lists.{each-map}
 use Rattle.valid.specs.Lines.{Spells}
 use Rattle.valid.specs.Obeys.{Has, Distinct, value, ofNamed, elementsOf, Obeys}
-use Rattle.base.specs.Lists.{numbersFrom}
-use Rattle.valid.specs.Nodes.{meshFaces}
+use Rattle.valid.specs.Nodes.{numbersFrom, meshFaces}
 use Rattle.valid.proofs.Ruled.{FitsRules}
 use Rattle.valid.proofs.Described.{Described, none, one, described}
 use Rattle.valid.proofs.Lines.{faces-line, faces-named, by-faces}

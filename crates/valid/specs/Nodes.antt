@@ -12,7 +12,7 @@ use Rattle.faces.specs.declared.Face.{Face}
 use Rattle.base.specs.Letters.{letters}
 use Rattle.rules.specs.Table.{Line, lines, linkTo}
 use Rattle.format.specs.Forest.{Forest, end, known, unknown}
-use Rattle.base.specs.Lists.{numbersFrom, Each, Some, Picks}
+use Rattle.base.specs.Lists.{Each, Some, Picks}
 use Rattle.format.specs.Layout.{Property, propertyBytes, WellFormed}
 use Rattle.valid.specs.Lines.{Lists, ByLine}
 use Rattle.valid.specs.Obeys.{value, ofNamed, elementsOf}
@@ -45,6 +45,11 @@ unknownBytes (known k h p body kids next) = unknownBytes kids + unknownBytes nex
 unknownBytes (unknown k h p c rest next) = 24 + length rest + unknownBytes next
 
 -- ---- faces
+
+-- n numbers from k on
+abbrev pub numbersFrom : (k n : ℕ) → List ℕ
+numbersFrom k zero = []
+numbersFrom k (suc n) = k ∷ numbersFrom (suc k) n
 
 -- value k of a node's f
 abbrev pub faceValue : Node → (k : ℕ) → ℕ

@@ -5,9 +5,7 @@ use native.Mathlib.Omega.{arith}
 use mathlib.Core.Path.{_≡_, ap, _∙_}
 use mathlib.Core.Logic.{⊎-elim}
 use borrow.Author.Needs.{needs}
-use Rattle.table.specs.declared.Which.the-variants.{All}
 use Rattle.table.specs.Table.{rowsAt}
-use Rattle.table.proofs.Counts.{count-of}
 use Rattle.plan.specs.Plan.{naming, planRefusal}
 use Rattle.plan.proofs.refusal.Statement.{statement}
 use Rattle.plan.proofs.refusal.Tie as tie
@@ -26,7 +24,7 @@ judge-rows-requires : tie.Need-judge-rows-requires
 judge-rows-requires c κs =
     let j = c .before .before in
     let few : j .if1 .n ≤ 1024 = omega (arith, many j) in
-    (few, search needs, λ p b. count-of 1024 All _ (c .before .count-under .ensures) p b ∙ ap (λ n. naming (rowsAt (j .before .before .before .args .plan .now) 0 n) p) (min-eq-left few))
+    (few, search needs, λ p b. c .before .count-under .ensures p b ∙ ap (λ n. naming (rowsAt (j .before .before .before .args .plan .now) 0 n) p) (min-eq-left few))
 
 returns : tie.Need-returns
 returns c =

@@ -11,7 +11,7 @@ use Rattle.base.proofs.Stores.{zeros}
 use Rattle.table.specs.declared.Row.{Row}
 use Rattle.table.specs.Table.{rowsAt}
 use Rattle.table.specs.Counts.{isCounted, countUnder}
-use Rattle.table.proofs.Counts.{all-counts, Counting, counted-few, counting-begun, both, counting-one, counting-other, counting-ended}
+use Rattle.table.proofs.Counts.{Counting, counted-few, counting-begun, both, counting-one, counting-other, counting-ended}
 use Rattle.table.proofs.count_under.Statement.{statement}
 use Rattle.table.proofs.count_under.Tie as tie
 
@@ -100,13 +100,10 @@ loop-again c =
     (c .if2 .came)
 
 returns : tie.Need-returns Inv-loop μ-loop
-returns c =
+returns c p b =
     let l = c .before .loop in
     let a = c .before .before .before .before .args in
-    all-counts 1024 (a .which) _ (l .inv .1)
-    (λ p b.
-    counting-ended _ _ _ (l .counts) _ (c .loop-test .left) (l .inv .2) p b
-    ∙ ap (λ k. countUnder (a .which) (rowsAt (a .numbers .now) 0 k) p) (many (c .before .before)))
+    counting-ended _ _ _ (l .counts) _ (c .loop-test .left) (l .inv .2) p b ∙ ap (λ k. countUnder (a .which) (rowsAt (a .numbers .now) 0 k) p) (many (c .before .before))
 
 pub count-under-spec : {M : Type 1} → statement M
 count-under-spec =
