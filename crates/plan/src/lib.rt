@@ -106,6 +106,7 @@ pub fn refusal(plan: &[u32], rows: usize, source: &[u8]) -> base::Refusal
     } else {
         base::MOST_ROWS
     };
-    let counts = table::count_under(plan, n, table::Which::All);
+    let mut counts = [0u32; base::MOST_ROWS];
+    table::count_under(plan, n, table::Which::All, &mut counts);
     judge_rows(plan, n, source, &counts)
 }

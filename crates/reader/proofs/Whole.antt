@@ -17,9 +17,10 @@ use Rattle.kinds.specs.Kinds.{bone}
 use Rattle.table.specs.declared.Row.{Row}
 use Rattle.table.specs.declared.Which.the-variants.{OfKind}
 use Rattle.table.specs.Table.{blank, noParent, rowAt, rowsAt, putRows, hasRoom, cleared}
+use Rattle.table.specs.Counts.{countsUnder}
 use Rattle.table.proofs.Clearing.{cleared-again, filled-putRows, rowAt-filled}
 use Rattle.table.proofs.Plans.{rows-filled}
-use Rattle.table.proofs.Counts.{counted-none}
+use Rattle.table.proofs.Counts.{counted-none, counts-length, counts-tell}
 use Rattle.format.specs.declared.OwnBytes.{OwnBytes}
 use Rattle.format.specs.Forest.{Forest, nodes, encode, count, fileHeader, fileOf}
 use Rattle.format.specs.Rows.{rows, rowsOf}
@@ -118,16 +119,19 @@ pub table-ok : (size : ℕ) (t : List ℕ) (n : ℕ) → RowsOk size t n → Eac
 table-ok size t n h = each-rows (RowOk size n) t 0 n (λ i b. (let z : i ≡ 0 + i = omega arith in subst (λ j. RowOk size n (rowAt t j)) z (h i b)))
 
 -- the Bones under each row of a table, counted for the first 1,024; under others there are none
-pub bones-counted : (size : ℕ) (t : List ℕ) (n : ℕ) → n ≤ 1024 → RowsOk size t n → (bones : List ℕ) → length bones ≡ 1024
-    → ((p : ℕ) → p < 1024 → getD bones p 0 ≡ bonesUnder (rowsAt t 0 (min n 1024)) p) → Counted bones (rowsAt t 0 n)
-bones-counted size t n few ok bones long h p =
+pub bones-counted : (size : ℕ) (t : List ℕ) (n : ℕ) → n ≤ 1024 → RowsOk size t n → (places : ℕ) → places ≡ 1024 → {bones : List ℕ}
+    → bones ≡ countsUnder (OfKind bone) (rowsAt t 0 (min n 1024)) places → Counted bones (rowsAt t 0 n)
+bones-counted size t n few ok places here {bones} e p =
     let past : 1024 ≤ p → (r : Row) → RowOk size n r → eqb (r .kind) bone ≡ true → r .parent ≡ p → ⊥
     = λ b r o k e. omega (arith, o .boneParent (eqb-true (r .kind) bone k)) in
+    let rows = rowsAt t 0 (min n 1024) in
     by-test (ltb p 1024)
-    (λ b. h p (ltb-true p 1024 b) ∙ ap (λ m. bonesUnder (rowsAt t 0 m) p) (min-eq-left few))
+    (λ b.
+    counts-tell (OfKind bone) rows places e p (omega (arith, ltb-true p 1024 b, here))
+    ∙ ap (λ m. bonesUnder (rowsAt t 0 m) p) (min-eq-left few))
     (λ b.
     let q = ltb-false p 1024 b in
-    List·getD-eq-default bones 0 (omega (arith, q, long))
+    List·getD-eq-default bones 0 (omega (arith, q, here, ap length e, counts-length (OfKind bone) rows 0 places))
     ∙ sym (counted-none (OfKind bone) (rowsAt t 0 n) p (each-map (past q) (rowsAt t 0 n) (table-ok size t n ok))))
 
 -- ---- the reading

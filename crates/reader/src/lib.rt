@@ -174,7 +174,8 @@ fn checked(file: &[u8], table: &mut [u32], nodes: u32, flags: u32) -> Reading
     ensures table { λ r. ⌜ now (table .exit) ≡ leftIn r (now (table .entry)) ⌝ }
 {
     let n = nodes as usize;
-    let bones = table::count_under(table, n, table::Which::OfKind(kinds::BONE));
+    let mut bones = [0u32; base::MOST_ROWS];
+    table::count_under(table, n, table::Which::OfKind(kinds::BONE), &mut bones);
     let rules = rules_of(file, table, n, &bones);
     if rules.number != 0 {
         return refuse_and_clear(rules.number, rules.place as u32, table);

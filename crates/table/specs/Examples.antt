@@ -7,7 +7,7 @@ use lib.ListN.{getD, replicate}
 use Rattle.table.specs.declared.Row.{Row}
 use Rattle.table.specs.declared.Which.the-variants.{All, OfKind}
 use Rattle.table.specs.Table.{noParent, hasRow, rowAt, withRow, putRows, hasRoom, zeroed, cleared, flat, filled}
-use Rattle.table.specs.Counts.{countUnder}
+use Rattle.table.specs.Counts.{countUnder, countsFrom, countsUnder}
 
 -- a row, and three numbers of a second
 abbrev eleven : List ℕ
@@ -85,3 +85,8 @@ family = under 7 noParent ∷ under 7 0 ∷ under 8 0 ∷ under 7 0 ∷ under 7 
 some-counted : (countUnder All family 0 ≡ 3) × (countUnder (OfKind 7) family 0 ≡ 2) × (countUnder (OfKind 8) family 1 ≡ 0) × (countUnder All family noParent ≡ 1)
 unfolding countUnder
 some-counted = (refl, refl, refl, refl)
+
+-- a place for each of three rows
+some-counts : countsUnder All family 3 ≡ 3 ∷ 1 ∷ 0 ∷ []
+unfolding countUnder countsFrom
+some-counts = refl

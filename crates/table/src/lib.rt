@@ -1,11 +1,11 @@
 // The table: rows of eight numbers in a lent slice. No other crate knows where a row's numbers lie.
 ghost use mathlib.Core.Path.{_≡_};
-ghost use Prim.Native.Nat.{ℕ, _+_, _*_, _≤_, _<_, min};
-ghost use lib.ListN.{length, getD};
+ghost use Prim.Native.Nat.{_+_, _*_, _≤_, min};
+ghost use lib.ListN.{length};
 ghost use lib.Seq.{sets};
-ghost use Rattle.base.specs.Limits.{mostRows, tableNumbers};
+ghost use Rattle.base.specs.Limits.{mostRows};
 ghost use Rattle.table.specs.Table.{blank, hasRow, rowFrom, rowAt, rowsAt, fields, withRow, hasRoom, zeroed, cleared, rowCount, isPlan};
-ghost use Rattle.table.specs.Counts.{isCounted, countUnder};
+ghost use Rattle.table.specs.Counts.{isCounted, countsUnder};
 
 // A node: its kind, the halves of its hash, its parent's row (0xFFFFFFFF for none), where its body starts and ends, its
 // property count and its child count.
@@ -113,12 +113,13 @@ pub fn has_room(table: &[u32]) -> bool
     base::TABLE_NUMBERS <= table.len()
 }
 
-fn zero(table: &mut [u32])
-    requires { ⌜ tableNumbers ≤ length (now table) ⌝ }
-    ensures { λ _. ⌜ now (table .exit) ≡ zeroed tableNumbers (now (table .entry)) ⌝ }
+// The first n numbers become 0.
+fn zero(table: &mut [u32], n: usize)
+    requires { ⌜ n ≤ length (now table) ⌝ }
+    ensures { λ _. ⌜ now (table .exit) ≡ zeroed n (now (table .entry)) ⌝ }
 {
     let mut i: usize = 0;
-    while i < base::TABLE_NUMBERS {
+    while i < n {
         table[i] = 0;
         i += 1;
     }
@@ -129,7 +130,7 @@ pub fn clear(table: &mut [u32])
     ensures { λ _. ⌜ now (table .exit) ≡ cleared (now (table .entry)) ⌝ }
 {
     if has_room(table) {
-        zero(table);
+        zero(table, base::TABLE_NUMBERS);
     }
 }
 
@@ -162,24 +163,26 @@ fn is_counted(which: Which, row: Row) -> bool
     }
 }
 
-// Counts, of the first rows of a table, at most 1,024, those under each parent: place p has the count of row p.
-pub fn count_under(numbers: &[u32], rows: usize, which: Which) -> [u32; base::MOST_ROWS]
-    ensures { λ r. ⌜ ((p : ℕ) → p < mostRows → getD r p 0 ≡ countUnder which (rowsAt (now (numbers .entry)) 0 (min rows mostRows)) p) ⌝ }
+// Counts, of the first rows of a table, at most 1,024, those under each parent: each place p of the counts then has the
+// count for row p, whatever it held.
+pub fn count_under(numbers: &[u32], rows: usize, which: Which, counts: &mut [u32])
+    ensures { λ _. ⌜ now (counts .exit)
+        ≡ countsUnder which (rowsAt (now (numbers .entry)) 0 (min rows mostRows)) (length (now (counts .entry))) ⌝ }
 {
     let n = if rows < base::MOST_ROWS {
         rows
     } else {
         base::MOST_ROWS
     };
-    let mut counts = [0u32; base::MOST_ROWS];
+    let places = counts.len();
+    zero(counts, places);
     let mut i: usize = 0;
     while i < n {
         let row = row_at(numbers, i);
         let parent = row.parent as usize;
-        if is_counted(which, row) & (parent < base::MOST_ROWS) {
+        if is_counted(which, row) & (parent < places) {
             counts[parent] = counts[parent] + 1;
         }
         i += 1;
     }
-    counts
 }

@@ -1,14 +1,20 @@
 -- `plan::refusal`: the rows naming each row are counted first.
-use Prim.Native.Nat.{_≤_, min}
+use Prim.Native.Nat.{ℕ, _≤_, min}
 use native.Mathlib.Nat.{min-eq-left}
 use native.Mathlib.Omega.{arith}
 use mathlib.Core.Path.{_≡_, ap, _∙_}
 use mathlib.Core.Logic.{⊎-elim}
+use lib.ListN.{length-replicate}
 use borrow.Author.Needs.{needs}
+use Rattle.table.specs.declared.Which.the-variants.{All}
 use Rattle.table.specs.Table.{rowsAt}
+use Rattle.table.proofs.Counts.{counts-tell}
 use Rattle.plan.specs.Plan.{naming, planRefusal}
 use Rattle.plan.proofs.refusal.Statement.{statement}
 use Rattle.plan.proofs.refusal.Tie as tie
+
+slice-aggregate-count-under : tie.Need-slice-aggregate-count-under
+slice-aggregate-count-under c = search needs
 
 count-under-requires : tie.Need-count-under-requires
 count-under-requires c κs = search needs
@@ -22,13 +28,20 @@ slice-aggregate-judge-rows c = search needs
 
 judge-rows-requires : tie.Need-judge-rows-requires
 judge-rows-requires c κs =
-    let j = c .before .before in
+    let k = c .before .before in
+    let j = k .before .before in
     let few : j .if1 .n ≤ 1024 = omega (arith, many j) in
-    (few, search needs, λ p b. c .before .count-under .ensures p b ∙ ap (λ n. naming (rowsAt (j .before .before .before .args .plan .now) 0 n) p) (min-eq-left few))
+    let rows = rowsAt (j .before .before .before .args .plan .now) 0 in (
+      few,
+      search needs,
+      λ p b.
+          counts-tell All (rows (min (j .if1 .n) 1024)) _ (k .count-under .ensures) p (omega (arith, b, length-replicate {A = ℕ} 1024 0))
+          ∙ ap (λ n. naming (rows n) p) (min-eq-left few),
+    )
 
 returns : tie.Need-returns
 returns c =
-    let j = c .before .before .before in
+    let j = c .before .before .before .before .before in
     let a = j .before .before .before .args in
     (c .judge-rows .ensures .0 ∙ ap (λ n. planRefusal (a .source .now) (rowsAt (a .plan .now) 0 n)) (many j), c .judge-rows .ensures .1)
 
@@ -36,6 +49,7 @@ pub refusal-spec : {M : Type 1} → statement M
 refusal-spec =
     tie.close
     (tie.spec
+    slice-aggregate-count-under
     count-under-requires
     slice-aggregate-judge-rows
     judge-rows-requires

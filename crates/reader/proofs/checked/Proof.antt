@@ -3,7 +3,7 @@ use Prim.Native.Nat.{ℕ}
 use native.Mathlib.Omega.{arith}
 use mathlib.Core.Path.{_≡_, refl, sym, ap, _∙_}
 use mathlib.Core.List.{List}
-use lib.ListN.{length}
+use lib.ListN.{length, length-replicate}
 use borrow.Author.Needs.{needs}
 use Rattle.table.proofs.Rests.{length-rowsAt}
 use Rattle.table.specs.declared.Row.{Row}
@@ -17,6 +17,9 @@ use Rattle.reader.proofs.Whole.{bones-counted, table-ok, links-place, r
 use Rattle.reader.proofs.checked.Statement.{statement}
 use Rattle.reader.proofs.checked.Tie as tie
 
+slice-aggregate-count-under : tie.Need-slice-aggregate-count-under
+slice-aggregate-count-under c = search needs
+
 count-under-requires : tie.Need-count-under-requires
 count-under-requires c κs = search needs
 
@@ -25,10 +28,11 @@ slice-aggregate-rules-of c = search needs
 
 rules-of-requires : tie.Need-rules-of-requires
 rules-of-requires c κs =
-    let s = c .before .before .before .before .before .before in
-    let k = c .before .before .count-under in
-    let long : length (k .result) ≡ 1024 = search needs in
-    (s .pre .0, s .pre .1, bones-counted (length (s .args .file .now)) (s .args .table .now) (s .args .nodes) (s .pre .0) (s .pre .1) (k .result) long (k .ensures))
+    let k = c .before .before .before in
+    let s = k .before .before .before .before .before in
+    let a = s .args in
+    let counted = bones-counted (length (a .file .now)) (a .table .now) (a .nodes) (s .pre .0) (s .pre .1) _ (length-replicate {A = ℕ} 1024 0) (k .count-under .ensures) in
+    (s .pre .0, s .pre .1, counted)
 
 cast-refuse-and-clear : tie.Need-cast-refuse-and-clear
 cast-refuse-and-clear c = search needs
@@ -42,7 +46,7 @@ same-length c = search needs
 -- at the rules' answer: the file, its rows, and that the rules are those of the rows
 module _ (c : tie.After-rules-of) where
   abbrev start : tie.Start
-  start = c .before .before .before .before .before .before .before
+  start = c .before .before .before .before .before .before .before .before .before
 
   abbrev file : List ℕ
   file = start .args .file .now
@@ -128,6 +132,7 @@ pub checked-spec : {M : Type 1} → statement M
 checked-spec =
     tie.close
     (tie.spec
+    slice-aggregate-count-under
     count-under-requires
     slice-aggregate-rules-of
     rules-of-requires

@@ -10,10 +10,10 @@ use Rattle.table.proofs.zero.Statement.{statement}
 use Rattle.table.proofs.zero.Tie as tie
 
 abbrev Inv-loop : tie.InvT-loop
-Inv-loop table₀ i₀ table i = (i ≤ 8192) × (length table ≡ length table₀) × (table ≡ zeroed i table₀)
+Inv-loop table₀ n i₀ table i = (i ≤ n) × (length table ≡ length table₀) × (table ≡ zeroed i table₀)
 
 abbrev μ-loop : tie.MeasureT-loop
-μ-loop table₀ i₀ table i = 8192 - i
+μ-loop table₀ n i₀ table i = n - i
 
 loop-holds : tie.Need-loop-holds Inv-loop μ-loop
 loop-holds c = (omega arith, refl, zeroed-none _)
@@ -40,7 +40,7 @@ same-length c = c .before .loop .inv .1
 
 returns : tie.Need-returns Inv-loop μ-loop
 returns c =
-    let e : c .before .loop .i ≡ 8192 = omega arith in
+    let e : c .before .loop .i ≡ c .before .before .args .n = omega arith in
     rw e at (c .before .loop .inv .2)
 
 pub zero-spec : {M : Type 1} → statement M
