@@ -20,5 +20,5 @@ Climbs t below from [] = from ≡ noParent
 Climbs t below from (q ∷ qs) = (from ≡ q) × (q < below) × Climbs t q (rowAt t q .parent) qs
 
 -- at place p, how many rows name row p
-abbrev pub Counted : (counts : List ℕ) (rows : List Row) → Type 0
-Counted counts rows = (p : ℕ) → p < mostRows → getD counts p 0 ≡ naming rows p
+abbrev pub NamingCounted : (counts : List ℕ) (rows : List Row) → Type 0
+NamingCounted counts rows = (p : ℕ) → p < mostRows → getD counts p 0 ≡ naming rows p

@@ -6,7 +6,7 @@ ghost use Rattle.base.specs.Limits.{mostRows};
 ghost use Rattle.kinds.specs.Kinds.{isKnown};
 ghost use Rattle.table.specs.Table.{noParent, rowsAt};
 ghost use Rattle.plan.specs.Plan.{rightParent, isOn, rowRefusal, planRefusal};
-ghost use Rattle.plan.specs.Private.{pathAt, Climbs, Counted};
+ghost use Rattle.plan.specs.Private.{pathAt, Climbs, NamingCounted};
 
 // Whether a row is on the path of the row before row `index`; the climb starts at `from`, the first of that path. Over a
 // whole plan each row is passed at most once: a row that was passed is on no later path.
@@ -70,7 +70,7 @@ fn row_refusal(
 
 // The rows in turn.
 fn judge_rows(plan: &[u32], rows: usize, source: &[u8], counts: &[u32]) -> base::Refusal
-    requires { ⌜ (rows ≤ mostRows) × (length (now counts) ≡ mostRows) × Counted (now counts) (rowsAt (now plan) 0 rows) ⌝ }
+    requires { ⌜ (rows ≤ mostRows) × (length (now counts) ≡ mostRows) × NamingCounted (now counts) (rowsAt (now plan) 0 rows) ⌝ }
     ensures { λ r. ⌜ (r ≡ planRefusal (now (source .entry)) (rowsAt (now (plan .entry)) 0 rows)) × (r .place < mostRows) ⌝ }
 {
     // The first row on the path of the previous row.

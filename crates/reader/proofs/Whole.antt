@@ -38,7 +38,7 @@ use Rattle.walk.proofs.Sound.{sound}
 use Rattle.reader.specs.declared.Reading.{Reading}
 use Rattle.reader.specs.declared.Reading.the-variants.{Accepted, Refused}
 use Rattle.reader.specs.Reading.{bonesUnder, ruled, ownKnown, ownUnknown, checked, verdict, readingOf, tableLeft, tableAfter}
-use Rattle.reader.specs.Private.{RowOk, RowsOk, Counted, leftIn}
+use Rattle.reader.specs.Private.{RowOk, RowsOk, BonesCounted, leftIn}
 use Rattle.reader.proofs.Bounds.{links-lie, resolved-lies}
 use Rattle.reader.proofs.Exactly.{short, checked-right}
 
@@ -120,7 +120,7 @@ table-ok size t n h = each-rows (RowOk size n) t 0 n (λ i b. (let z : i ≡ 0 +
 
 -- the Bones under each row of a table, counted for the first 1,024; under others there are none
 pub bones-counted : (size : ℕ) (t : List ℕ) (n : ℕ) → n ≤ 1024 → RowsOk size t n → (places : ℕ) → places ≡ 1024 → {bones : List ℕ}
-    → bones ≡ countsUnder (OfKind bone) (rowsAt t 0 (min n 1024)) places → Counted bones (rowsAt t 0 n)
+    → bones ≡ countsUnder (OfKind bone) (rowsAt t 0 (min n 1024)) places → BonesCounted bones (rowsAt t 0 n)
 bones-counted size t n few ok places here {bones} e p =
     let past : 1024 ≤ p → (r : Row) → RowOk size n r → eqb (r .kind) bone ≡ true → r .parent ≡ p → ⊥
     = λ b r o k e. omega (arith, o .boneParent (eqb-true (r .kind) bone k)) in

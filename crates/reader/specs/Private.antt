@@ -21,8 +21,8 @@ abbrev pub RowsOk : (size : ℕ) (t : List ℕ) (n : ℕ) → Type 0
 RowsOk size t n = (i : ℕ) → i < n → RowOk size n (rowAt t i)
 
 -- numbers that tell, by its place, the Bones under each row
-abbrev pub Counted : (bones : List ℕ) (rows : List Row) → Type 0
-Counted bones rows = (p : ℕ) → getD bones p 0 ≡ bonesUnder rows p
+abbrev pub BonesCounted : (bones : List ℕ) (rows : List Row) → Type 0
+BonesCounted bones rows = (p : ℕ) → getD bones p 0 ≡ bonesUnder rows p
 
 -- rows are left where they are, and cleared on a refusal
 abbrev pub leftIn : Reading → List ℕ → List ℕ

@@ -10,7 +10,7 @@ ghost use Rattle.links.specs.Links.{linksOf, linked};
 ghost use Rattle.walk.specs.Walk.{flagsOf};
 ghost use Rattle.reader.specs.declared.Reading.the-variants.{Refused};
 ghost use Rattle.reader.specs.Reading.{judgedWith, ruled, ownKnown, ownUnknown, checked, readingOf, tableAfter, numbersOf, Small};
-ghost use Rattle.reader.specs.Private.{RowsOk, Counted, leftIn};
+ghost use Rattle.reader.specs.Private.{RowsOk, BonesCounted, leftIn};
 
 // What is answered of an accepted file: its nodes and flags; the own bytes of its known and of its unknown nodes; its
 // faces, and how many of them are degenerate; its links.
@@ -71,7 +71,7 @@ struct Ruled {
 
 // The rules, row by row.
 fn rules_of(file: &[u8], table: &[u32], nodes: usize, bones: &[u32]) -> Ruled
-    requires { ⌜ (nodes ≤ mostRows) × RowsOk (length (now file)) (now table) nodes × Counted (now bones) (rowsAt (now table) 0 nodes) ⌝ }
+    requires { ⌜ (nodes ≤ mostRows) × RowsOk (length (now file)) (now table) nodes × BonesCounted (now bones) (rowsAt (now table) 0 nodes) ⌝ }
     ensures result { λ r. ⌜ r ≡ ruled (now (file .entry)) (rowsAt (now (table .entry)) 0 nodes) (rowsAt (now (table .entry)) 0 nodes) ⌝ }
     ensures place { λ r. ⌜ r .place ≤ length (now (file .entry)) ⌝ }
 {
