@@ -1,3 +1,4 @@
+pub mod Examples
 pub mod Letters
 pub mod Limits
 pub mod Lists

@@ -1,4 +1,4 @@
--- Document 01's limits, each spelt here alone.
+-- Document 01's limits of files, tables, plans and nodes, each spelt here alone.
 use Prim.Native.Nat.{ℕ}
 
 -- 2: "file over 16,777,216 bytes"; 25: "length over 16,777,216"

@@ -1,4 +1,4 @@
-// What every part speaks of: a refusal, and document 01's limits.
+// What every part uses: a refusal, and document 01's limits.
 
 // A refusal: its number, 0 for none, and its place.
 pub struct Refusal {

@@ -25,7 +25,7 @@ emittedRows t rows = rowsAt t 0 (min rows mostRows)
 unfoldable pub sizesUnder : (s : List ℕ) (parent k : ℕ) → List Row → ℕ
 sizesUnder s parent k [] = 0
 sizesUnder s parent k (r ∷ rs) =
-    cond (eqb (r .parent) parent) (24 + length (bodyOf s r) + sizesUnder s k (suc k) rs) 0 + sizesUnder s parent (suc k) rs
+    (cond (eqb (r .parent) parent) (24 + length (bodyOf s r) + sizesUnder s k (suc k) rs) 0) + sizesUnder s parent (suc k) rs
 
 -- "Size counts the node's own 24 bytes, its properties and all children" (of an unknown row, its whole body): the size of row k,
 -- given the rows after it. Its children are those of them that are under it.

@@ -27,5 +27,5 @@ MeasuredBy true m s t n zs = mostBytes < 16 + length (nodesBytes s 0 (rowsAt t 0
 MeasuredBy false m s t n zs =
     (m .length ≡ 16 + length (nodesBytes s 0 (rowsAt t 0 n))) × (m .length ≤ mostBytes) × (m .roots ≡ roots (rowsAt t 0 n)) × Sized zs s t n
 
-abbrev pub Measures : Measured → (s t : List ℕ) (n : ℕ) (sizes : List ℕ) → Type 0
-Measures m s t n zs = MeasuredBy (m .over) m s t n zs
+abbrev pub MeasuresRows : Measured → (s t : List ℕ) (n : ℕ) (sizes : List ℕ) → Type 0
+MeasuresRows m s t n zs = MeasuredBy (m .over) m s t n zs

@@ -9,7 +9,7 @@ ghost use Rattle.table.specs.Table.{rowsAt};
 ghost use Rattle.format.specs.Forest.{header, fileHeader};
 ghost use Rattle.format.specs.Rows.{hashOf, bodyOf};
 ghost use Rattle.emit.specs.Emission.{emittedRows, nodesBytes, refusedWriting, emission, outputOf};
-ghost use Rattle.emit.specs.Private.{nodeBytes, Sized, Measures};
+ghost use Rattle.emit.specs.Private.{nodeBytes, Sized, MeasuresRows};
 
 // The largest file, as a length is summed up.
 const MOST_BYTES: u64 = base::MOST_BYTES as u64;
@@ -22,7 +22,7 @@ pub struct Written {
 }
 
 // A refusal: length 0.
-pub fn refused(number: u32, place: u32) -> Written
+pub fn refused_writing(number: u32, place: u32) -> Written
     ensures { λ r. ⌜ r ≡ refusedWriting number place ⌝ }
 {
     Written {
@@ -52,7 +52,7 @@ fn own(source: &[u8], row: table::Row) -> u64
 // size exceeds the length.
 fn measure(plan: &[u32], rows: usize, source: &[u8], sizes: &mut [u32]) -> Measured
     requires { ⌜ (rows ≤ mostRows) × (length (now sizes) ≡ mostRows) × ((p : ℕ) → getD (now sizes) p 0 ≡ 0) ⌝ }
-    ensures { λ r. ⌜ Measures r (now (source .entry)) (now (plan .entry)) rows (now (sizes .exit)) ⌝ }
+    ensures { λ r. ⌜ MeasuresRows r (now (source .entry)) (now (plan .entry)) rows (now (sizes .exit)) ⌝ }
 {
     let mut length: u64 = 16;
     let mut roots: u32 = 0;
@@ -151,11 +151,11 @@ pub fn emit(plan: &[u32], rows: usize, source: &[u8], flags: u32, out: &mut [u8]
     let mut sizes = [0u32; base::MOST_ROWS];
     let m = measure(plan, n, source, &mut sizes);
     if m.over {
-        return refused(25, 0);
+        return refused_writing(25, 0);
     }
     let least = m.length as usize;
     if out.len() < least {
-        return refused(26, 0);
+        return refused_writing(26, 0);
     }
     put_file_header(out, m.roots, flags);
     put_nodes(out, plan, n, source, &sizes);

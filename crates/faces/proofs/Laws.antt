@@ -11,8 +11,9 @@ use borrow.Author.Tests.{lt-ltb, le-ltb}
 use Rattle.le.specs.Le.{numberAt}
 use Rattle.faces.specs.declared.Face.{Face}
 use Rattle.faces.specs.declared.Values.{Values}
-use Rattle.faces.specs.declared.Values.the-variants.{Below, Past}
-use Rattle.faces.specs.Faces.{faceAt, facesIn, below, isDegenerate, degenerate, countedBy, scanOf}
+use Rattle.faces.specs.declared.Values.the-variants.{Below, NotBelow}
+use Rattle.faces.specs.Private.{faceAt}
+use Rattle.faces.specs.Faces.{facesIn, below, isDegenerate, degenerate, countedBy, scanOf}
 
 -- the numbers read of a width of at most four are a face
 pub face-read : (w : ℕ) (bs : List ℕ) (at : ℕ) {x y z : ℕ} → w ≤ 4 → x ≡ numberAt (min w 4) bs at → y ≡ numberAt (min w 4) bs (at + w)
@@ -62,17 +63,17 @@ length-facesIn w (suc n) bs = ap suc (length-facesIn w n (drop (3 * w) bs))
 
 -- ---- the values of a face, one after the other
 module _ (v k : ℕ) (f : Face) (fs : List Face) where
-  pub past-first : v ≤ f .a → below v k (f ∷ fs) ≡ Past k
+  pub past-first : v ≤ f .a → below v k (f ∷ fs) ≡ NotBelow k
   unfolding below
   past-first h = rw (le-ltb _ _ h)
 
   module _ (a : f .a < v) where
-    pub past-second : v ≤ f .b → below v k (f ∷ fs) ≡ Past (k + 1)
+    pub past-second : v ≤ f .b → below v k (f ∷ fs) ≡ NotBelow (k + 1)
     unfolding below
     past-second h = rw (lt-ltb _ _ a, le-ltb _ _ h)
 
     module _ (b : f .b < v) where
-      pub past-third : v ≤ f .c → below v k (f ∷ fs) ≡ Past (k + 2)
+      pub past-third : v ≤ f .c → below v k (f ∷ fs) ≡ NotBelow (k + 2)
       unfolding below
       past-third h = rw (lt-ltb _ _ a, lt-ltb _ _ b, le-ltb _ _ h)
 
@@ -100,7 +101,7 @@ count-none d e = rw e (omega arith)
 
 -- ---- what the faces say: from the values that are all below, or from the first that is not
 module _ (v : ℕ) (fs : List Face) where
-  pub scan-past : {k : ℕ} → below v 0 fs ≡ Past k → countedBy (Past k) [] ≡ scanOf v fs
+  pub scan-past : {k : ℕ} → below v 0 fs ≡ NotBelow k → countedBy (NotBelow k) [] ≡ scanOf v fs
   unfolding scanOf
   scan-past e = ap {A = Values} (λ r. countedBy r fs) (sym e)
 

@@ -3,7 +3,7 @@ use Prim.Native.Nat.{ℕ}
 use mathlib.Core.Path.{_≡_, refl}
 use mathlib.Core.List.{List, [], _∷_}
 use Rattle.le.specs.Le.{val, numberAt}
-use Rattle.faces.specs.declared.Values.the-variants.{Below, Past}
+use Rattle.faces.specs.declared.Values.the-variants.{Below, NotBelow}
 use Rattle.faces.specs.declared.Scanned.{Scanned}
 use Rattle.faces.specs.Faces.{widthOf, facesIn, below, degenerate, scanOf}
 
@@ -16,7 +16,7 @@ worked :
     (scanned 3 0x62 1 (0 ∷ 1 ∷ 2 ∷ []) ∷ scanned 3 0x62 1 (0 ∷ 1 ∷ 1 ∷ []) ∷ scanned 3 0x62 1 (0 ∷ 1 ∷ 3 ∷ []) ∷ scanned 0 0x69 0 [] ∷ []) ≡
     record { values = Below; faces = record { 0 = 1 }; degenerate = 0 } ∷
     record { values = Below; faces = record { 0 = 1 }; degenerate = 1 } ∷
-    record { values = Past 2; faces = record { 0 = 0 }; degenerate = 0 } ∷
+    record { values = NotBelow 2; faces = record { 0 = 0 }; degenerate = 0 } ∷
     record { values = Below; faces = record { 0 = 0 }; degenerate = 0 } ∷ []
 unfolding scanned
 worked = refl

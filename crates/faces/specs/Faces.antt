@@ -9,16 +9,12 @@ use Rattle.le.specs.Le.{numberAt}
 use Rattle.props.specs.Types.{byte, short}
 use Rattle.faces.specs.declared.Face.{Face}
 use Rattle.faces.specs.declared.Values.{Values}
-use Rattle.faces.specs.declared.Values.the-variants.{Below, Past}
+use Rattle.faces.specs.declared.Values.the-variants.{Below, NotBelow}
 use Rattle.faces.specs.declared.Scanned.{Scanned}
 
 -- the width of a value, the size of b, h, i; any other type is read as i
 unfoldable pub widthOf : ℕ → ℕ
 widthOf code = cond (eqb code byte) 1 (cond (eqb code short) 2 4)
-
--- the face at a place of some bytes, of values of a width
-abbrev pub faceAt : ℕ → List ℕ → ℕ → Face
-faceAt w bs at = record { a = numberAt w bs at; b = numberAt w bs (at + w); c = numberAt w bs (at + 2 * w) }
 
 -- `count` faces from the start of some bytes on, of values of a width
 unfoldable pub facesIn : (width count : ℕ) → List ℕ → List Face
@@ -31,7 +27,7 @@ below v k [] = Below
 below v k (f ∷ fs) =
     cond (ltb (f .a) v)
     (cond (ltb (f .b) v)
-    (cond (ltb (f .c) v) (below v (k + 3) fs) (Past (k + 2))) (Past (k + 1))) (Past k)
+    (cond (ltb (f .c) v) (below v (k + 3) fs) (NotBelow (k + 2))) (NotBelow (k + 1))) (NotBelow k)
 
 -- "a face with two equal indices"
 abbrev pub isDegenerate : Face → Bool
@@ -44,7 +40,7 @@ degenerate (f ∷ fs) = cond (isDegenerate f) (suc (degenerate fs)) (degenerate 
 -- how many faces there are, degenerate ones too, and how many of them are degenerate; none where a value is not below V
 abbrev pub countedBy : Values → List Face → Scanned
 countedBy Below fs = record { values = Below; faces = record { 0 = length fs }; degenerate = degenerate fs }
-countedBy (Past k) fs = record { values = Past k; faces = record { 0 = 0 }; degenerate = 0 }
+countedBy (NotBelow k) fs = record { values = NotBelow k; faces = record { 0 = 0 }; degenerate = 0 }
 
 unfoldable pub scanOf : (vertices : ℕ) → List Face → Scanned
 scanOf v fs = countedBy (below v 0 fs) fs
@@ -61,7 +57,7 @@ abbrev pub scanNumbersBy : Values → Scanned → ScanNumbers
 -- "each value below V": no refusal, and all faces are counted
 scanNumbersBy Below s = record { number = 0; element = 0; faces = s .faces .0; degenerate = s .degenerate }
 -- "any other property rule above broken": 15, by the first value that is not below V; "all other numbers of it are 0"
-scanNumbersBy (Past k) s = record { number = 15; element = k; faces = 0; degenerate = 0 }
+scanNumbersBy (NotBelow k) s = record { number = 15; element = k; faces = 0; degenerate = 0 }
 
 abbrev pub scanNumbers : Scanned → ScanNumbers
 scanNumbers s = scanNumbersBy (s .values) s

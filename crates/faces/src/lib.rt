@@ -1,8 +1,9 @@
 // The faces of a mesh: whether each of their values is a vertex, how many faces there are, and how many are degenerate.
 ghost use mathlib.Core.Path.{_≡_};
 ghost use Prim.Native.Nat.{_≤_, _*_};
-ghost use Rattle.faces.specs.Faces.{widthOf, faceAt, facesIn, isDegenerate, countedBy, scanOf, scanNumbers};
-ghost use Rattle.faces.specs.declared.Values.the-variants.{Past};
+ghost use Rattle.faces.specs.Private.{faceAt};
+ghost use Rattle.faces.specs.Faces.{widthOf, facesIn, isDegenerate, countedBy, scanOf, scanNumbers};
+ghost use Rattle.faces.specs.declared.Values.the-variants.{NotBelow};
 ghost use mathlib.Core.List.{[]};
 
 // A number of faces. It has a type of its own, so that own bytes are never added to it.
@@ -18,7 +19,7 @@ pub struct Face {
 // Each value is below the limit; or the first that is not.
 pub enum Values {
     Below,
-    Past(u64),
+    NotBelow(u64),
 }
 
 // What a pass over faces gives: with a value that is past the limit, no faces.
@@ -80,10 +81,10 @@ fn is_degenerate(f: Face) -> bool
 }
 
 fn refused_value(k: u64) -> Scanned
-    ensures { λ r. ⌜ r ≡ countedBy (Past k) [] ⌝ }
+    ensures { λ r. ⌜ r ≡ countedBy (NotBelow k) [] ⌝ }
 {
     Scanned {
-        values: Values::Past(k),
+        values: Values::NotBelow(k),
         faces: Faces(0),
         degenerate: 0,
     }

@@ -41,7 +41,7 @@ rows (unknown k h p c rest next) parent row at =
 abbrev pub rowsOf : Forest → List Row
 rowsOf f = rows f noParent 0 16
 
--- document 01's "body": the part of the file's bytes that a row tells of
+-- document 01's "body": the part of the file's bytes from the row's body start to its body end
 abbrev pub bodyOf : (s : List ℕ) → Row → List ℕ
 bodyOf s r = take (r .end - r .start) (drop (r .start) s)
 

@@ -14,7 +14,7 @@ use Rattle.base.proofs.Tests.{by-test}
 use Rattle.props.specs.Step.{codeAt, lengthAt}
 use Rattle.faces.specs.declared.Face.{Face}
 use Rattle.faces.specs.declared.Values.{Values}
-use Rattle.faces.specs.declared.Values.the-variants.{Below, Past}
+use Rattle.faces.specs.declared.Values.the-variants.{Below, NotBelow}
 use Rattle.faces.specs.declared.Scanned.{Scanned}
 use Rattle.faces.specs.Faces.{widthOf, facesIn, below, isDegenerate, degenerate, countedBy, scanOf}
 use Rattle.faces.proofs.Laws.{length-facesIn}
@@ -46,15 +46,15 @@ parent p bones h =
 -- what is kept of a scan
 abbrev pub keptOf : Values → Scanned → Kept
 keptOf Below r = record { fault = Right; faces = r .faces .0; degenerate = r .degenerate }
-keptOf (Past k) r = record { fault = Element k; faces = 0; degenerate = 0 }
+keptOf (NotBelow k) r = record { fault = Element k; faces = 0; degenerate = 0 }
 
 counted-values : (v : Values) (fs : List Face) → countedBy v fs .values ≡ v
 counted-values Below fs = refl
-counted-values (Past k) fs = refl
+counted-values (NotBelow k) fs = refl
 
 counted-kept : (v : Values) (fs : List Face) → keptOf v (countedBy v fs) ≡ keptBy (byValues v) fs
 counted-kept Below fs = refl
-counted-kept (Past k) fs = refl
+counted-kept (NotBelow k) fs = refl
 
 scan-kept : (limit : ℕ) (fs : List Face) {r : Scanned} → r ≡ scanOf limit fs → keptOf (r .values) r ≡ keptBy (byValues (below limit 0 fs)) fs
 unfolding scanOf

@@ -5,7 +5,7 @@ use mathlib.Core.Path.{_≡_, refl}
 use mathlib.Core.List.{List, [], _∷_, _++_, map}
 use lib.ListN.{length, replicate}
 use Rattle.le.specs.Le.{val, numberAt, le}
-use Rattle.names.specs.Names.{bytesOk, same, readDigits, number, numbered}
+use Rattle.names.specs.Names.{bytesOk, same, readDigits, number, numberAfter}
 use Rattle.kinds.specs.Kinds.{root, mesh, blendShape, bone, curve}
 use Rattle.props.specs.Step.{toZero, nameAt, stepAt}
 use Rattle.body.specs.Body.{pass, properties, firstNamed}
@@ -26,7 +26,7 @@ numbers j = j .number ∷ j .at ∷ j .faces .0 ∷ j .degenerate ∷ j .links �
 
 -- a node's number and offset, faces, degenerate ones and links: of its kind, its property count, the Bones beside it and its body
 unfoldable judge : (kind count bones : ℕ) → List ℕ → List ℕ
-unfolding val numberAt le bytesOk same readDigits number numbered toZero nameAt stepAt pass properties firstNamed widthOf facesIn below degenerate letters lines lists ruleIn ofKind linesOf isText isOneOf lengthOf valueOf typesOf besideOf typed misses lacks faultOf valued nodeFaces nodeLinks verdictAt judgedAt judged
+unfolding val numberAt le bytesOk same readDigits number numberAfter toZero nameAt stepAt pass properties firstNamed widthOf facesIn below degenerate letters lines lists ruleIn ofKind linesOf isText isOneOf lengthOf valueOf typesOf besideOf typed misses lacks faultOf valued nodeFaces nodeLinks verdictAt judgedAt judged
 judge kind count bones body = numbers (judged kind count body bones)
 
 unfoldable property : (code : ℕ) (name : String) (elements : ℕ) → List ℕ → List ℕ

@@ -42,11 +42,11 @@ unfoldable pub valueOf : (s starts name : List ℕ) → ℕ
 valueOf s starts name = cond (has s starts name) (valueAt s (placeOf s starts name)) 0
 
 -- "kv is v4 for rq, N for vb, f for any other kp, listed or not": the types that kp wants, from its string
-abbrev pub keyTypes : (string : List ℕ) → Types
-keyTypes string = cond (isText string (letters "rq")) (only v4) (cond (isText string (letters "vb")) N (only float))
+abbrev pub wantedTypes : (string : List ℕ) → Types
+wantedTypes string = cond (isText string (letters "rq")) (only v4) (cond (isText string (letters "vb")) N (only float))
 
 unfoldable pub typesOf : (s starts : List ℕ) → Types
-typesOf s starts = cond (has s starts (letters "kp")) (keyTypes (restAt s (placeOf s starts (letters "kp")))) (only float)
+typesOf s starts = cond (has s starts (letters "kp")) (wantedTypes (restAt s (placeOf s starts (letters "kp")))) (only float)
 
 -- ---- what a property is held against, from those beside it and from the Bones beside its node
 

@@ -11,7 +11,7 @@ use Rattle.le.specs.Le.{numberAt}
 use Rattle.props.specs.Step.{codeAt, lengthAt}
 use Rattle.faces.specs.declared.Face.{Face}
 use Rattle.faces.specs.declared.Values.{Values}
-use Rattle.faces.specs.declared.Values.the-variants.{Below, Past}
+use Rattle.faces.specs.declared.Values.the-variants.{Below, NotBelow}
 use Rattle.faces.specs.Faces.{widthOf, facesIn, below}
 use Rattle.rules.specs.Table.{Held, nothing, flag, oneOf, vertices, weights, faces, indices, keys, boneNumber, linkTo, Line}
 use Rattle.rules.specs.Rules.{takes, isOneOf, ifLink}
@@ -47,7 +47,7 @@ parentOk (negsuc (suc n)) bones = false
 -- and of elements the first bad one is reported; both lie at the property, so no answer shows which it is.
 abbrev pub byValues : Values → Fault
 byValues Below = Right
-byValues (Past k) = Element k
+byValues (NotBelow k) = Element k
 
 -- the faces of the property at a place
 abbrev pub facesAt : (s : List ℕ) (at : ℕ) → List Face

@@ -32,7 +32,7 @@ pub struct Judged {
     pub links: u32,
 }
 
-fn refused(number: u32, at: usize) -> Judged
+fn refused_node(number: u32, at: usize) -> Judged
     ensures { λ r. ⌜ r ≡ refusedNode number at ⌝ }
 {
     Judged {
@@ -59,10 +59,10 @@ fn judge_at(
     let mut numbers = [0usize; PLACES];
     let v = typed::typed(lines, body, starts, &mut numbers);
     if v.number != 0 {
-        return refused(v.number, v.place);
+        return refused_node(v.number, v.place);
     }
     if missing::lacks(kind, lines, body, starts) {
-        return refused(14, 0);
+        return refused_node(14, 0);
     }
     let n = starts.len();
     valued::valued(kind, lines, body, starts, &numbers[..n], bones)

@@ -7,7 +7,7 @@ ghost use Rattle.judge.specs.Missing.{isMissing, misses, unpartnered, la
 fn is_missing(e: rules::Entry, body: &[u8], starts: &[usize]) -> bool
     ensures { λ r. ⌜ r ≡ isMissing (lineOf e) (now (body .entry)) (now (starts .entry)) ⌝ }
 {
-    if e.required != rules::held::REQUIRED {
+    if e.required != rules::columns::REQUIRED {
         return false;
     }
     let letters = rules::name_of(e);

@@ -73,7 +73,7 @@ fn types_of(body: &[u8], starts: &[usize]) -> u32
         return V4;
     }
     if rules::is_text(string, b"vb") {
-        return rules::held::N;
+        return rules::columns::N;
     }
     FLOAT
 }
@@ -85,7 +85,7 @@ fn measures_of(kind: u32, body: &[u8], starts: &[usize], bones: u32) -> Measures
     let mut weights: u64 = 0;
     let mut indices: u32 = 0;
     let mut keys: u32 = 0;
-    let mut types: u32 = rules::held::ANY_TYPE;
+    let mut types: u32 = rules::columns::ANY_TYPE;
     if kind == kinds::MESH {
         vertices = read_named(body, starts, b"vp").length;
         weights = read_named(body, starts, b"mi").value as u64 * vertices as u64;
@@ -145,15 +145,15 @@ fn fault_of(e: rules::Entry, body: &[u8], at: usize, m: Measures) -> Fault
     let held = e.held;
     let elements = props::length_at(body, at);
     match held {
-        rules::held::FLAG => sole(value_at(body, at) <= 1),
-        rules::held::ONE_OF => whole(rules::one_of(e.set, props::rest_at(body, at))),
-        rules::held::VERTICES => whole(elements == m.vertices),
-        rules::held::WEIGHTS => whole(elements as u64 == m.weights),
-        rules::held::INDICES => whole(elements == m.indices),
-        rules::held::KEYS => whole(
+        rules::columns::FLAG => sole(value_at(body, at) <= 1),
+        rules::columns::ONE_OF => whole(rules::one_of(e.set, props::rest_at(body, at))),
+        rules::columns::VERTICES => whole(elements == m.vertices),
+        rules::columns::WEIGHTS => whole(elements as u64 == m.weights),
+        rules::columns::INDICES => whole(elements == m.indices),
+        rules::columns::KEYS => whole(
             (elements == m.keys) & rules::takes(m.types, props::code_at(body, at)),
         ),
-        rules::held::BONE_NUMBER => sole(is_bone(body, at, m.bones)),
+        rules::columns::BONE_NUMBER => sole(is_bone(body, at, m.bones)),
         _ => Fault::Right,
     }
 }
@@ -197,14 +197,14 @@ fn faces_at(body: &[u8], at: usize, vertices: u32) -> Kept
             faces: faces.0,
             degenerate,
         },
-        faces::Values::Past(k) => broken(Fault::Element(k)),
+        faces::Values::NotBelow(k) => broken(Fault::Element(k)),
     }
 }
 
 fn kept_at(e: rules::Entry, body: &[u8], at: usize, m: Measures) -> Kept
     ensures { λ r. ⌜ (r ≡ keptAt (lineOf e .held) (now (body .entry)) at (besideFrom m)) × (r .faces < 4294967296) × (r .degenerate < 4294967296) ⌝ }
 {
-    if e.held == rules::held::FACES {
+    if e.held == rules::columns::FACES {
         return faces_at(body, at, m.vertices);
     }
     broken(fault_of(e, body, at, m))
@@ -214,7 +214,7 @@ fn kept_at(e: rules::Entry, body: &[u8], at: usize, m: Measures) -> Kept
 fn one_link(e: rules::Entry) -> u32
     ensures { λ r. ⌜ r ≡ linkCount (lineOf e .held) ⌝ }
 {
-    if e.held == rules::held::LINK {
+    if e.held == rules::columns::LINK {
         return 1;
     }
     0
@@ -253,10 +253,10 @@ pub(crate) fn valued(
                 degenerate += kept.degenerate;
             }
             Fault::Whole => {
-                return crate::refused(15, 24 + at);
+                return crate::refused_node(15, 24 + at);
             }
             Fault::Element(_) => {
-                return crate::refused(15, 24 + at);
+                return crate::refused_node(15, 24 + at);
             }
         }
         links += one_link(e);

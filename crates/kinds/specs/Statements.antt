@@ -1,5 +1,5 @@
 -- Which kinds are known and where each may stand, said anew in document 01's words and order, as propositions over plain lists.
--- None of it looks into the table of lines that the program reads; that the two agree is proved.
+-- None of it looks into `parentsTable`, by which the program goes; that the two agree is proved.
 use Prim.Native.Nat.{ℕ}
 use mathlib.Core.Path.{_≡_}
 use mathlib.Core.Logic.{_↔_, _⊎_}

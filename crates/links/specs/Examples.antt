@@ -3,7 +3,7 @@ use Prim.Native.Nat.{ℕ}
 use mathlib.Core.Path.{_≡_, refl}
 use mathlib.Core.List.{List, [], _∷_}
 use Rattle.le.specs.Le.{val, numberAt, le}
-use Rattle.names.specs.Names.{bytesOk, same, readDigits, number, numbered}
+use Rattle.names.specs.Names.{bytesOk, same, readDigits, number, numberAfter}
 use Rattle.kinds.specs.Kinds.{mesh, material, bone, parentsIn, parentsOf, isKnown, parentsTable}
 use Rattle.table.specs.declared.Row.{Row}
 use Rattle.props.specs.Step.{toZero, nameAt, stepAt}
@@ -15,7 +15,7 @@ use Rattle.links.specs.declared.Linked.{Linked}
 use Rattle.links.specs.Links.{refusedLinks, reached, linksAt, linksFrom, resolved, linked}
 
 unfoldable resolve : List ℕ → List Row → Linked
-unfolding val numberAt le bytesOk same readDigits number numbered parentsTable parentsIn parentsOf isKnown toZero nameAt stepAt pass properties letters lines lists ruleIn ofKind linesOf reached linksAt linksFrom resolved linked
+unfolding val numberAt le bytesOk same readDigits number numberAfter parentsTable parentsIn parentsOf isKnown toZero nameAt stepAt pass properties letters lines lists ruleIn ofKind linesOf reached linksAt linksFrom resolved linked
 resolve s rows = linked s rows
 
 abbrev row : (kind low high end properties : ℕ) → Row

@@ -13,7 +13,7 @@ use borrow.Author.Tests.{eq-eqb, ne-eqb, eqb-true, leb-true, le-leb, lt-leb}
 use Rattle.le.proofs.Laws.{rest-drop}
 use Rattle.names.specs.declared.Numeral.{Numeral}
 use Rattle.names.specs.declared.Numeral.the-variants.{Is, Not}
-use Rattle.names.specs.Names.{byteOk, bytesOk, same, isDigit, readDigits, number, numbered}
+use Rattle.names.specs.Names.{byteOk, bytesOk, same, isDigit, readDigits, number, numberAfter}
 
 module _ (l : List ℕ) (i : ℕ) (h : i < length l) where
   pub bytes-passed : byteOk (getD l i 0) ≡ true → bytesOk (drop i l) ≡ bytesOk (drop (i + 1) l)
@@ -111,16 +111,16 @@ number-read-digits [] h k m = absurd (h refl)
 number-read-digits (b ∷ l) h k m = rw (le-leb (length l) 2 (omega arith), ← leb·suc-suc 1 (length l), m)
 
 module _ (name prefix : List ℕ) where
-  pub numbered-short : length name < length prefix → numbered name prefix ≡ Not
-  unfolding numbered
+  pub numbered-short : length name < length prefix → numberAfter name prefix ≡ Not
+  unfolding numberAfter
   numbered-short h = rw (take-all (length prefix) name (omega arith), same-length name prefix (λ e. omega arith))
 
-  pub numbered-other : same (take (length prefix) name) prefix ≡ false → numbered name prefix ≡ Not
-  unfolding numbered
+  pub numbered-other : same (take (length prefix) name) prefix ≡ false → numberAfter name prefix ≡ Not
+  unfolding numberAfter
   numbered-other e = rw e
 
-  pub numbered-by : same (take (length prefix) name) prefix ≡ true → numbered name prefix ≡ number (take (length name - length prefix) (drop (length prefix) name))
-  unfolding numbered
+  pub numbered-by : same (take (length prefix) name) prefix ≡ true → numberAfter name prefix ≡ number (take (length name - length prefix) (drop (length prefix) name))
+  unfolding numberAfter
   numbered-by e = rw (e, rest-drop name (length prefix))
 
 chosen : (t : Bool) {d : Numeral} {n : ℕ} → cond t d Not ≡ Is n → (t ≡ true) × (d ≡ Is n)
@@ -142,8 +142,8 @@ number-bound (b ∷ l) n e =
     worth-three (suc (length l)) n (omega (arith, leb-true (length l) 2 (and-eq-true-iff (leb (length l) 2) _ .0 (r .0) .0))) (omega (arith, decimal-bound (b ∷ l) 1 0 n (omega arith) (r .1)))
 
 -- a name with a number is the prefix and then a number below 1000
-pub numbered-sound : (name prefix : List ℕ) (n : ℕ) → numbered name prefix ≡ Is n → (name ≡ prefix ++ drop (length prefix) name) × (n < 1000)
-unfolding numbered
+pub numbered-sound : (name prefix : List ℕ) (n : ℕ) → numberAfter name prefix ≡ Is n → (name ≡ prefix ++ drop (length prefix) name) × (n < 1000)
+unfolding numberAfter
 numbered-sound name prefix n e =
     let r = chosen _ e in
     (sym (take-append-drop (length prefix) name) ∙ rw (same-eq _ _ (r .0)), number-bound (drop (length prefix) name) n (r .1))

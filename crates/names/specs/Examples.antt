@@ -5,17 +5,17 @@ use mathlib.Core.Bool.{true, false}
 use mathlib.Core.List.{List, [], _∷_}
 use Rattle.names.specs.declared.Numeral.{Numeral}
 use Rattle.names.specs.declared.Numeral.the-variants.{Is, Not}
-use Rattle.names.specs.Names.{sizeOk, bytesOk, same, readDigits, number, numbered}
+use Rattle.names.specs.Names.{sizeOk, bytesOk, same, readDigits, number, numberAfter}
 
 -- what bytes are as a name `c%d`
 unfoldable c%d : List ℕ → Numeral
-unfolding same readDigits number numbered
-c%d name = numbered name (99 ∷ [])
+unfolding same readDigits number numberAfter
+c%d name = numberAfter name (99 ∷ [])
 
 -- what bytes are as a name `extra%d`
 unfoldable prefixed : List ℕ → Numeral
-unfolding same readDigits number numbered
-prefixed name = numbered name (101 ∷ 120 ∷ 116 ∷ 114 ∷ 97 ∷ [])
+unfolding same readDigits number numberAfter
+prefixed name = numberAfter name (101 ∷ 120 ∷ 116 ∷ 114 ∷ 97 ∷ [])
 
 -- c0, c10, c999
 numbers : (c%d (99 ∷ 48 ∷ []) ≡ Is 0) × (c%d (99 ∷ 49 ∷ 48 ∷ []) ≡ Is 10) × (c%d (99 ∷ 57 ∷ 57 ∷ 57 ∷ []) ≡ Is 999)

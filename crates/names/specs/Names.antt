@@ -42,8 +42,8 @@ number [] = Not
 number (b ∷ bs) = cond (leb (length bs) 2 && not (eqb b 48 && leb 1 (length bs))) (readDigits 0 (b ∷ bs)) Not
 
 -- a prefix, and then `%d`
-unfoldable pub numbered : List ℕ → List ℕ → Numeral
-numbered name prefix = cond (same (take (length prefix) name) prefix) (number (drop (length prefix) name)) Not
+unfoldable pub numberAfter : List ℕ → List ℕ → Numeral
+numberAfter name prefix = cond (same (take (length prefix) name) prefix) (number (drop (length prefix) name)) Not
 
 -- ---- document 01's values of an answer: whether a name has a number by `%d`, and which
 pub record NumeralNumbers : Type 0 where

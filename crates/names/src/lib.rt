@@ -1,7 +1,7 @@
 // Names of properties: which bytes may be one, whether two are the same, and the number in a name such as `c12`.
 ghost use mathlib.Core.Path.{_≡_};
 ghost use Prim.Native.Nat.{_≤_};
-ghost use Rattle.names.specs.Names.{sizeOk, byteOk, bytesOk, same, readDigits, number, numbered, numeralNumbers};
+ghost use Rattle.names.specs.Names.{sizeOk, byteOk, bytesOk, same, readDigits, number, numberAfter, numeralNumbers};
 ghost use lib.ListN.{length};
 
 // Whether a name may have this size: 1 to 32 bytes.
@@ -100,9 +100,9 @@ fn read_digits(digits: &[u8]) -> Numeral
 }
 
 // The number of a name that is the prefix and then `%d`.
-pub fn numbered(name: &[u8], prefix: &[u8]) -> Numeral
-    ensures result { λ r. ⌜ r ≡ numbered (now (name .entry)) (now (prefix .entry)) ⌝ }
-    ensures numbers { λ r. ⌜ numeralNumbers r ≡ numeralNumbers (numbered (now (name .entry)) (now (prefix .entry))) ⌝ }
+pub fn number_after(name: &[u8], prefix: &[u8]) -> Numeral
+    ensures result { λ r. ⌜ r ≡ numberAfter (now (name .entry)) (now (prefix .entry)) ⌝ }
+    ensures numbers { λ r. ⌜ numeralNumbers r ≡ numeralNumbers (numberAfter (now (name .entry)) (now (prefix .entry))) ⌝ }
 {
     let n = prefix.len();
     if name.len() < n {

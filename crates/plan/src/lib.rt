@@ -97,7 +97,7 @@ fn judge_rows(plan: &[u32], rows: usize, source: &[u8], counts: &[u32]) -> base:
 }
 
 // The first refusal of the first rows of a table, at most 1,024, as a plan over the source: its place is the row.
-pub fn refusal(plan: &[u32], rows: usize, source: &[u8]) -> base::Refusal
+pub fn plan_refusal(plan: &[u32], rows: usize, source: &[u8]) -> base::Refusal
     ensures result { λ r. ⌜ r ≡ planRefusal (now (source .entry)) (rowsAt (now (plan .entry)) 0 (min rows mostRows)) ⌝ }
     ensures bound { λ r. ⌜ r .place < mostRows ⌝ }
 {

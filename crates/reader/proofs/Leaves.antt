@@ -19,7 +19,7 @@ use Rattle.walk.proofs.Depth.{neverTooDeep}
 use Rattle.reader.specs.declared.Reading.{Reading}
 use Rattle.reader.specs.declared.Reading.the-variants.{Accepted, Refused}
 use Rattle.reader.specs.Reading.{checked, verdict, readingOf, tableAfter}
-use Rattle.reader.specs.Leaves.{numberIn, TableLeft, LeavesTable, NoRefusal8}
+use Rattle.reader.specs.Leaves.{numberIn, TableAtExit, LeavesTable, NoRefusal8}
 use Rattle.reader.proofs.Exactly.{in-room, has-room}
 use Rattle.reader.proofs.Accepted.{nodes-are, table-left, few}
 use Rattle.reader.proofs.Numbers.{numberOf, by-stage, checked-told}
@@ -87,7 +87,7 @@ module _ (s t : List ℕ) where
         by (Accepted a) e h = subst P (sym (table-left s e t h)) (fill h (limited s .rows) (few s e bytes))
         by (Refused n place) e h = subst P (sym (left-cleared h e)) (clear h)
 
-    leaves : TableLeft s t
+    leaves : TableAtExit s t
     leaves = record {
       untouched = λ h. let short = short-table s t (no-room h) in (sym (short .0), sym (short .1));
       refused = λ h n place e i b. ap (λ u. numberIn u i) (left-cleared (fits-hasRoom t h) (sym (in-room s t (fits-hasRoom t h)) ∙ e)) ∙ zeroed-in 8192 t i b;

@@ -6,7 +6,7 @@ use mathlib.Core.Path.{_≡_, refl}
 use mathlib.Core.List.{List, [], _∷_, _++_, map}
 use lib.ListN.{length, getD, replicate}
 use Rattle.le.specs.Le.{val, numberAt, le}
-use Rattle.names.specs.Names.{bytesOk, same, readDigits, number, numbered}
+use Rattle.names.specs.Names.{bytesOk, same, readDigits, number, numberAfter}
 use Rattle.kinds.specs.Kinds.{root, model, animation, instance, metadata, parentsIn, parentsOf, isKnown, standsAtTop, standsUnder, mayStand, parentsTable}
 use Rattle.table.specs.Table.{noParent, hasRoom, zeroed, cleared, flat, filled}
 use Rattle.table.specs.Counts.{countUnder}
@@ -34,7 +34,7 @@ lent = replicate 8193 7
 
 -- all numbers of a reading with it; and some numbers of the table after that
 unfoldable read : List ℕ → Numbers
-unfolding val numberAt bytesOk same readDigits number numbered parentsTable parentsIn parentsOf isKnown standsAtTop standsUnder mayStand toZero nameAt stepAt pass properties firstNamed widthOf facesIn below degenerate letters lines lists ruleIn ofKind linesOf isText isOneOf le lengthOf valueOf typesOf besideOf typed misses lacks faultOf valued nodeFaces nodeLinks verdictAt judgedAt judged reached linksAt linksFrom resolved linked headerAt nodeRefusal andThen children node childrenAt walkOf limited countUnder judgedWith ruled ownKnown ownUnknown checked verdict hasRoom readingOf
+unfolding val numberAt bytesOk same readDigits number numberAfter parentsTable parentsIn parentsOf isKnown standsAtTop standsUnder mayStand toZero nameAt stepAt pass properties firstNamed widthOf facesIn below degenerate letters lines lists ruleIn ofKind linesOf isText isOneOf le lengthOf valueOf typesOf besideOf typed misses lacks faultOf valued nodeFaces nodeLinks verdictAt judgedAt judged reached linksAt linksFrom resolved linked headerAt nodeRefusal andThen children node childrenAt walkOf limited countUnder judgedWith ruled ownKnown ownUnknown checked verdict hasRoom readingOf
 read s = numbersOf (readingOf s lent)
 
 unfoldable after : List ℕ → (places : List ℕ) → List ℕ

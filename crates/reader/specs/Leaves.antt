@@ -15,7 +15,7 @@ use Rattle.reader.specs.Reading.{readingOf, tableAfter}
 abbrev pub numberIn : List ℕ → (i : ℕ) → ℕ
 numberIn t i = getD t i 1
 
-pub record TableLeft (s t : List ℕ) : Type 0 where
+pub record TableAtExit (s t : List ℕ) : Type 0 where
   -- "table shorter than 8,192 numbers"
   pub untouched : length t < tableNumbers → (readingOf s t ≡ Refused 1 0) × (tableAfter s t ≡ t)
   pub refused : tableNumbers ≤ length t → (n place : ℕ) → readingOf s t ≡ Refused n place
@@ -27,7 +27,7 @@ pub record TableLeft (s t : List ℕ) : Type 0 where
 
 -- of any file and any table
 abbrev pub LeavesTable : Type 0
-LeavesTable = (s t : List ℕ) → AreBytes s → TableLeft s t
+LeavesTable = (s t : List ℕ) → AreBytes s → TableAtExit s t
 
 -- Refusal 8 is never given (`NeverTooDeep` of the crate walk), with any bytes and any table
 abbrev pub NoRefusal8 : Type 0

@@ -12,7 +12,7 @@ use Rattle.table.specs.Table.{hasRoom, cleared, filled}
 use Rattle.table.specs.Counts.{countUnder}
 use Rattle.format.specs.Rows.{bodyOf, ownBytes}
 use Rattle.judge.specs.declared.Judged.{Judged}
-use Rattle.judge.specs.Judge.{refusedNode, judged}
+use Rattle.judge.specs.Judge.{acceptedNode, judged}
 use Rattle.links.specs.declared.Linked.{Linked}
 use Rattle.links.specs.Links.{linked}
 use Rattle.walk.specs.Walk.{limited, flagsOf}
@@ -29,7 +29,7 @@ bonesUnder rows parent = countUnder (OfKind bone) rows parent
 
 -- an unknown node has no rules
 abbrev pub unjudged : Judged
-unjudged = refusedNode 0 0
+unjudged = acceptedNode 0 0 0
 
 -- a row judged by its node's body and the number of Bones beside it; and among all rows of a file
 unfoldable pub judgedWith : (s : List ℕ) → Row → (bones : ℕ) → Judged
@@ -58,7 +58,7 @@ unfoldable pub ruled : (s : List ℕ) (all rows : List Row) → Ruled
 ruled s all [] = uncounted 0 0
 ruled s all (r ∷ rs) =
     let j = judgedRow s all r in
-    refusedOr (j .number) (uncounted (j .number) (r .start + j .at - 24)) (counted j (ruled s all rs))
+    refusedOr (j .number) (uncounted (j .number) ((r .start + j .at) - 24)) (counted j (ruled s all rs))
 
 -- ---- own bytes of known and of unknown nodes
 unfoldable pub ownKnown : List Row → ℕ

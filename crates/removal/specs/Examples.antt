@@ -5,7 +5,7 @@ use mathlib.Core.Bool.{true, false}
 use mathlib.Core.List.{List, [], _∷_, _++_, map}
 use lib.ListN.{length, take, drop, replicate}
 use Rattle.le.specs.Le.{val, numberAt, le}
-use Rattle.names.specs.Names.{bytesOk, same, readDigits, number, numbered}
+use Rattle.names.specs.Names.{bytesOk, same, readDigits, number, numberAfter}
 use Rattle.kinds.specs.Kinds.{root, model, mesh, material, parentsIn, parentsOf, isKnown, standsAtTop, standsUnder, mayStand, parentsTable}
 use Rattle.table.specs.declared.Row.{Row}
 use Rattle.table.specs.Table.{noParent, fields, hasRoom, zeroed, cleared, flat, filled}
@@ -41,7 +41,7 @@ pub record Ended : Type 0 where
   pub file : List ℕ
 
 unfoldable byRun : List ℕ → List Trimming → Ended
-unfolding val numberAt bytesOk same readDigits number numbered parentsTable parentsIn parentsOf isKnown standsAtTop standsUnder mayStand hasRoom toZero nameAt stepAt pass properties firstNamed widthOf facesIn below degenerate letters lines lists ruleIn ofKind linesOf isText isOneOf le lengthOf valueOf typesOf besideOf typed misses lacks faultOf valued nodeFaces nodeLinks verdictAt judgedAt judged header fileHeader reached linksAt linksFrom resolved linked headerAt nodeRefusal andThen children node childrenAt walkOf limited countUnder judgedWith ruled ownKnown ownUnknown checked verdict readingOf sizesUnder nodesBytes roots fileBytes emitLeft withoutFrom newFile trimmedOf trimmedOutput answersOf fileAfter
+unfolding val numberAt bytesOk same readDigits number numberAfter parentsTable parentsIn parentsOf isKnown standsAtTop standsUnder mayStand hasRoom toZero nameAt stepAt pass properties firstNamed widthOf facesIn below degenerate letters lines lists ruleIn ofKind linesOf isText isOneOf le lengthOf valueOf typesOf besideOf typed misses lacks faultOf valued nodeFaces nodeLinks verdictAt judgedAt judged header fileHeader reached linksAt linksFrom resolved linked headerAt nodeRefusal andThen children node childrenAt walkOf limited countUnder judgedWith ruled ownKnown ownUnknown checked verdict readingOf sizesUnder nodesBytes roots fileBytes emitLeft withoutFrom newFile trimmedOf trimmedOutput answersOf fileAfter
 byRun s list = record { answers = answersOf s list; file = fileAfter s list }
 
 unfoldable byTally : List ℕ → List Row → List Trimming → Ended
@@ -57,7 +57,7 @@ pub record Lent : Type 0 where
   pub output : List ℕ
 
 unfoldable lentAfter : (s : List ℕ) (k : ℕ) (t out : List ℕ) → Lent
-unfolding flat filled zeroed cleared readTable trimmedTable val numberAt bytesOk same readDigits number numbered parentsTable parentsIn parentsOf isKnown standsAtTop standsUnder mayStand hasRoom toZero nameAt stepAt pass properties firstNamed widthOf facesIn below degenerate letters lines lists ruleIn ofKind linesOf isText isOneOf le lengthOf valueOf typesOf besideOf typed misses lacks faultOf valued nodeFaces nodeLinks verdictAt judgedAt judged header fileHeader reached linksAt linksFrom resolved linked headerAt nodeRefusal andThen children node childrenAt walkOf limited countUnder judgedWith ruled ownKnown ownUnknown checked verdict readingOf sizesUnder nodesBytes roots fileBytes emitLeft withoutFrom newFile trimmedOf trimmedOutput
+unfolding flat filled zeroed cleared readTable trimmedTable val numberAt bytesOk same readDigits number numberAfter parentsTable parentsIn parentsOf isKnown standsAtTop standsUnder mayStand hasRoom toZero nameAt stepAt pass properties firstNamed widthOf facesIn below degenerate letters lines lists ruleIn ofKind linesOf isText isOneOf le lengthOf valueOf typesOf besideOf typed misses lacks faultOf valued nodeFaces nodeLinks verdictAt judgedAt judged header fileHeader reached linksAt linksFrom resolved linked headerAt nodeRefusal andThen children node childrenAt walkOf limited countUnder judgedWith ruled ownKnown ownUnknown checked verdict readingOf sizesUnder nodesBytes roots fileBytes emitLeft withoutFrom newFile trimmedOf trimmedOutput
 lentAfter s k t out = record { table = trimmedTable s k t (length out); output = trimmedOutput s k t out }
 
 -- the same, with a table of 8,193 numbers
@@ -199,7 +199,7 @@ link-moves : (byRun noted (trim 1 ∷ []) ≡ record { answers = writingDone 168
     × (linksOf noted notedRows ≡ link 3 133 4 ∷ [])
     × (movedLink notedRows (false ∷ true ∷ false ∷ false ∷ false ∷ []) (link 3 133 4) ≡ link 2 107 3)
     × (linksOf (linkedBy 152 1 []) (rowsLeft notedRows (false ∷ true ∷ false ∷ false ∷ false ∷ [])) ≡ link 2 107 3 ∷ [])
-unfolding val numberAt bytesOk same readDigits number numbered parentsTable parentsIn parentsOf isKnown toZero nameAt stepAt pass properties lists ruleIn ofKind linesOf letters lines reached linksAt linksFrom le header sumOverMarked unmarked renumberedFrom laidOut rowsLeft byRun cast head linkedBy noted notedRows
+unfolding val numberAt bytesOk same readDigits number numberAfter parentsTable parentsIn parentsOf isKnown toZero nameAt stepAt pass properties lists ruleIn ofKind linesOf letters lines reached linksAt linksFrom le header sumOverMarked unmarked renumberedFrom laidOut rowsLeft byRun cast head linkedBy noted notedRows
 link-moves = (refl, refl, refl, refl)
 
 -- ---- with refusals between: 1 before 30; 30; 31; 32 by one byte; then A with just enough room; the same four again, as rows

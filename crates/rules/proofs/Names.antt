@@ -12,8 +12,7 @@ use borrow.Author.Tests.{eq-eqb, ne-eqb, ltb-true, ltb-false}
 use Rattle.le.specs.Le.{val, le, numberAt}
 use Rattle.le.proofs.Laws.{le-remainder, le-split, length-le, val-le}
 use Rattle.base.proofs.Tests.{by-test}
-use Rattle.names.specs.Names.{same}
-use Rattle.names.specs.Names.{numbered as numberIn}
+use Rattle.names.specs.Names.{same, numberAfter}
 use Rattle.names.proofs.Laws.{same-eq}
 use Rattle.rules.specs.declared.Entry.{Entry}
 use Rattle.rules.specs.declared.Letters.{Letters}
@@ -76,7 +75,7 @@ module _ (e : Entry) where
 
 -- ---- a line has a name
 module _ (name : List ℕ) (e : Entry) where
-  pub lists-numbered : e .numbered ≡ 1 → lists (lineOf e) name ≡ isNumber (numberIn name (lineOf e .name))
+  pub lists-numbered : e .numbered ≡ 1 → lists (lineOf e) name ≡ isNumber (numberAfter name (lineOf e .name))
   unfolding lists
   lists-numbered n = rw (eq-eqb (e .numbered) 1 n)
 

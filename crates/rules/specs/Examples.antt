@@ -5,8 +5,7 @@ use mathlib.Core.Path.{_≡_, refl}
 use mathlib.Core.Bool.{Bool, true, false}
 use mathlib.Core.List.{List, [], _∷_, _++_, map}
 use lib.ListN.{length}
-use Rattle.names.specs.Names.{same, readDigits, number}
-use Rattle.names.specs.Names.{numbered as numberIn}
+use Rattle.names.specs.Names.{same, readDigits, number, numberAfter}
 use Rattle.kinds.specs.Kinds.{root, model, mesh, curve, material, file}
 use Rattle.base.specs.Letters.{letters}
 use Rattle.props.specs.Types.{v3, int, string, long}
@@ -23,7 +22,7 @@ unfolding lines
 linking = refl
 
 unfoldable found : ℕ → String → Line
-unfolding letters lines lists same numberIn readDigits number ruleIn ofKind linesOf
+unfolding letters lines lists same numberAfter readDigits number ruleIn ofKind linesOf
 found kind name = ruleOf kind (letters name)
 
 abbrev colours : Line

@@ -71,9 +71,9 @@ abbrev pub linesFrom : List (List ℕ) → List Line
 linesFrom rows = map lineFrom rows
 
 -- ---- to numbers
-abbrev pub bit : Bool → ℕ
-bit true = 1
-bit false = 0
+abbrev pub bitOf : Bool → ℕ
+bitOf true = 1
+bitOf false = 0
 
 abbrev pub typesNumber : Types → ℕ
 typesNumber N = 1
@@ -101,8 +101,8 @@ heldColumns (linkTo kind) = 9 ∷ 0 ∷ kind ∷ []
 
 abbrev pub columnsOf : Line → List ℕ
 columnsOf l =
-    l .kind ∷ length (l .name) ∷ numberAt 4 (l .name) 0 ∷ numberAt 4 (l .name) 4 ∷ numberAt 4 (l .name) 8 ∷ bit (l .numbered) ∷
-    typesNumber (l .types) ∷ bit (l .array) ∷ bit (l .required) ∷ heldColumns (l .held)
+    l .kind ∷ length (l .name) ∷ numberAt 4 (l .name) 0 ∷ numberAt 4 (l .name) 4 ∷ numberAt 4 (l .name) 8 ∷ bitOf (l .numbered) ∷
+    typesNumber (l .types) ∷ bitOf (l .array) ∷ bitOf (l .required) ∷ heldColumns (l .held)
 
 -- ---- and back: what is packed of the table is the table
 pub PackedTable : linesFrom (map columnsOf (free ∷ lines)) ≡ free ∷ lines

@@ -4,8 +4,7 @@ use mathlib.Core.Bool.{Bool, true, false, cond, not, _&&_, _||_}
 use mathlib.Core.List.{List, [], _∷_}
 use lib.Dec.{eqb, leb}
 use lib.ListN.{length, take, getD}
-use Rattle.names.specs.Names.{same}
-use Rattle.names.specs.Names.{numbered as numberIn}
+use Rattle.names.specs.Names.{same, numberAfter}
 use Rattle.names.specs.declared.Numeral.{Numeral}
 use Rattle.names.specs.declared.Numeral.the-variants.{Is, Not}
 use Rattle.props.specs.Types.{byte, short, int, float, v4}
@@ -33,7 +32,7 @@ isNumber Not = false
 
 -- the line has the name: as it stands, or "`%d`" after it
 unfoldable pub lists : Line → (name : List ℕ) → Bool
-lists l name = cond (l .numbered) (isNumber (numberIn name (l .name))) (same name (l .name))
+lists l name = cond (l .numbered) (isNumber (numberAfter name (l .name))) (same name (l .name))
 
 -- ---- the first of some lines that has a name; `free` where none has
 unfoldable pub ruleIn : List Line → (name : List ℕ) → Line

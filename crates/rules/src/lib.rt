@@ -5,14 +5,13 @@ ghost use mathlib.Core.List.{map};
 ghost use lib.ListN.{length, getD};
 ghost use lib.Seq.{sets};
 ghost use Rattle.le.specs.Le.{numberAt};
-ghost use Rattle.names.specs.Names.{same};
-ghost use Rattle.names.specs.Names.{numbered as numberIn};
+ghost use Rattle.names.specs.Names.{same, numberAfter};
 ghost use Rattle.rules.specs.Table.{free};
 ghost use Rattle.rules.specs.Packing.{lettersOf, stringsOf, typesFrom, lineOf, entryFrom, linesFrom, columnsOf};
 ghost use Rattle.rules.specs.Rules.{takes, misfits, isNumber, lists, findIn, linesOf, fitting, isText, isOneOf};
 ghost use Rattle.rules.specs.Private.{spanOf, textFrom, stringOf};
 
-pub mod held;
+pub mod columns;
 mod lines;
 
 // A line as the table has it: the numbers of its columns.
@@ -89,9 +88,9 @@ pub fn takes(types: u32, code: u16) -> bool
 {
     let n = (code == props::BYTE) | (code == props::SHORT) | (code == props::INT);
     match types {
-        held::N => n,
-        held::KEY_TYPE => n | (code == props::FLOAT) | (code == props::V4),
-        held::ANY_TYPE => true,
+        columns::N => n,
+        columns::KEY_TYPE => n | (code == props::FLOAT) | (code == props::V4),
+        columns::ANY_TYPE => true,
         _ => types == code as u32,
     }
 }
@@ -100,7 +99,7 @@ pub fn takes(types: u32, code: u16) -> bool
 pub fn misfits(e: Entry, code: u16, elements: u32) -> bool
     ensures { λ r. ⌜ r ≡ misfits (lineOf e) code elements ⌝ }
 {
-    !takes(e.types, code) | ((e.array == held::SINGLE) & (elements != 1))
+    !takes(e.types, code) | ((e.array == columns::SINGLE) & (elements != 1))
 }
 
 // Whether a name is the line's as it stands.
@@ -115,12 +114,12 @@ fn is_plain(e: Entry, name: &[u8]) -> bool
 
 // Whether a name is the line's with a number after it.
 fn is_numbered(e: Entry, name: &[u8]) -> bool
-    ensures { λ r. ⌜ r ≡ isNumber (numberIn (now (name .entry)) (lineOf e .name)) ⌝ }
+    ensures { λ r. ⌜ r ≡ isNumber (numberAfter (now (name .entry)) (lineOf e .name)) ⌝ }
 {
     let letters = name_of(e);
     let size = letters.size;
     let bytes = letters.bytes;
-    match names::numbered(name, &bytes[..size]) {
+    match names::number_after(name, &bytes[..size]) {
         names::Numeral::Is(_) => true,
         names::Numeral::Not => false,
     }
@@ -146,7 +145,7 @@ fn has_name(e: Entry, name: &[u8], four: u32) -> bool
     requires { ⌜ four ≡ numberAt 4 (now name) 0 ⌝ }
     ensures { λ r. ⌜ r ≡ lists (lineOf e) (now (name .entry)) ⌝ }
 {
-    if e.numbered == held::NUMBERED {
+    if e.numbered == columns::NUMBERED {
         return is_numbered(e, name);
     }
     if four_of(e) != four {

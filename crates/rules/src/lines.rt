@@ -1,8 +1,8 @@
 // The constant tables: the rules of properties, where the lines of each kind stand among them, and the sets of strings.
 
-use crate::held;
+use crate::columns;
 
-// Short names for a row of the table to stand on one line: the kinds, by their letters;
+// Short names, so that a row of the table stands on one line. The kinds, by their letters:
 const MODL: u32 = kinds::MODEL;
 
 const MESH: u32 = kinds::MESH;
@@ -31,7 +31,7 @@ const INST: u32 = kinds::INSTANCE;
 
 const META: u32 = kinds::METADATA;
 
-// types, by theirs, N for b h i, K for b h i f v4;
+// The types, by theirs, and N for b h i, K for b h i f v4:
 const B: u32 = props::BYTE as u32;
 
 const I: u32 = props::INT as u32;
@@ -48,28 +48,28 @@ const V3: u32 = props::V3 as u32;
 
 const V4: u32 = props::V4 as u32;
 
-const N: u32 = held::N;
+const N: u32 = columns::N;
 
-const K: u32 = held::KEY_TYPE;
+const K: u32 = columns::KEY_TYPE;
 
-// what a line holds its property to.
-const BIT: u32 = held::FLAG;
+// What a line holds its property to:
+const BIT: u32 = columns::FLAG;
 
-const SET: u32 = held::ONE_OF;
+const SET: u32 = columns::ONE_OF;
 
-const VP: u32 = held::VERTICES;
+const VP: u32 = columns::VERTICES;
 
-const MI: u32 = held::WEIGHTS;
+const MI: u32 = columns::WEIGHTS;
 
-const TRI: u32 = held::FACES;
+const TRI: u32 = columns::FACES;
 
-const VI: u32 = held::INDICES;
+const VI: u32 = columns::INDICES;
 
-const KB: u32 = held::KEYS;
+const KB: u32 = columns::KEYS;
 
-const NO: u32 = held::BONE_NUMBER;
+const NO: u32 = columns::BONE_NUMBER;
 
-const T: u32 = held::LINK;
+const T: u32 = columns::LINK;
 
 // A line says of one name on one kind: its size and its letters, four to a number; whether a number follows it (`%d`);
 // its types; whether it is an array; whether it is required; what it is held to; which strings it takes; which kind it
@@ -159,7 +159,7 @@ pub const LINES: [[u32; 12]; 81] = [
 ];
 
 // The line of the names that are not listed: any type and any length.
-pub const FREE: [u32; 12] = [0, 0, 0, 0, 0, 0, held::ANY_TYPE, 1, 0, 0, 0, 0];
+pub const FREE: [u32; 12] = [0, 0, 0, 0, 0, 0, columns::ANY_TYPE, 1, 0, 0, 0, 0];
 
 // The lines of a kind stand together: the kind, the place of its first line, and the place after its last.
 pub const SPANS: [[u32; 3]; 14] = [

@@ -129,7 +129,7 @@ fn refuse(number: u32, table: &mut [u32]) -> emit::Written
     ensures { λ r. ⌜ (r ≡ refusedWriting number 0) × (now (table .exit) ≡ cleared (now (table .entry))) ⌝ }
 {
     table::clear(table);
-    emit::refused(number, 0)
+    emit::refused_writing(number, 0)
 }
 
 // Writes the file of a table's first rows while they tell where their bodies lie in the source, and only then places the
@@ -218,6 +218,6 @@ pub fn trim(file: &[u8], row: usize, table: &mut [u32], out: &mut [u8]) -> emit:
     let reading = reader::read(file, table);
     match reading {
         reader::Reading::Accepted(a) => remove(file, row, table, a.nodes, a.flags, out),
-        reader::Reading::Refused { number, place } => emit::refused(number, place),
+        reader::Reading::Refused { number, place } => emit::refused_writing(number, place),
     }
 }

@@ -10,7 +10,7 @@ use Rattle.base.specs.Letters.{letters}
 use Rattle.props.specs.Types.{float}
 use Rattle.rules.specs.Table.{only}
 use Rattle.rules.specs.Rules.{ruleOf}
-use Rattle.judge.specs.Properties.{Beside, restAt, valueAt, lengthOf, valueOf, keyTypes, typesOf, besideOf}
+use Rattle.judge.specs.Properties.{Beside, restAt, valueAt, lengthOf, valueOf, wantedTypes, typesOf, besideOf}
 use Rattle.format.specs.Layout.{Property}
 use Rattle.valid.specs.Obeys.{FitsLine, value, elementsOf, firstValueOf, vertexCount}
 use Rattle.valid.proofs.Ruled.{FitsRules, wanted}
@@ -51,7 +51,7 @@ module _ (kind : ℕ) (s : List ℕ) {starts : List ℕ} {ps : List Property} (d
   types-of : kind ≡ curve → typesOf s starts ≡ wanted ps
   unfolding typesOf
   types-of k =
-      read-named s (letters "kp") (λ at. keyTypes (restAt s at)) (λ p. keyTypes (p .content)) (only float) d
+      read-named s (letters "kp") (λ at. wantedTypes (restAt s at)) (λ p. wantedTypes (p .content)) (only float) d
       (each-map (λ p f at a e.
       rw (a .rest) (key-alone (string-ends a (takes-only (fits-named kind p k e f .0) key-text)) (a .more))) ps fits)
 

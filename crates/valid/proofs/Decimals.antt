@@ -9,9 +9,8 @@ use lib.ListN.{length, take, drop, take-append-drop}
 use lib.Seq.{take-append-seam, drop-append-seam}
 use borrow.Author.Tests.{eqb-false, ne-eqb, leb-true, le-leb, lt-ltb, le-ltb, ltb-true, ltb-false}
 use Rattle.base.proofs.Tests.{by-test}
-use Rattle.names.specs.Names.{same, isDigit, number}
+use Rattle.names.specs.Names.{same, isDigit, number, numberAfter}
 use Rattle.names.specs.Names.{readDigits as numeral}
-use Rattle.names.specs.Names.{numbered as numberIn}
 use Rattle.names.proofs.Laws.{same-eq, same-refl, number-long}
 use Rattle.text.specs.Text.{glyph, digits, digitCount, decimal}
 use Rattle.rules.specs.Rules.{isNumber}
@@ -128,8 +127,8 @@ from-spelt l s =
     )))
 
 -- ---- a prefix and such digits
-pub says-numbered : (name prefix : List ℕ) → Says (isNumber (numberIn name prefix)) (Numbered prefix name)
-unfolding numberIn
+pub says-numbered : (name prefix : List ℕ) → Says (isNumber (numberAfter name prefix)) (Numbered prefix name)
+unfolding numberAfter
 says-numbered name prefix = (
   λ e. by-test (same (take (length prefix) name) prefix)
       (λ t.

@@ -11,7 +11,7 @@ use Rattle.le.specs.Le.{numberAt}
 use Rattle.kinds.specs.Kinds.{curve}
 use Rattle.props.specs.Step.{lengthAt, codeAt}
 use Rattle.faces.specs.declared.Values.{Values}
-use Rattle.faces.specs.declared.Values.the-variants.{Below, Past}
+use Rattle.faces.specs.declared.Values.the-variants.{Below, NotBelow}
 use Rattle.faces.specs.Faces.{widthOf, facesIn, below}
 use Rattle.rules.specs.Table.{Held, nothing, flag, oneOf, vertices, weights, faces, indices, keys, boneNumber, linkTo, Line}
 use Rattle.base.specs.Letters.{letters}
@@ -47,7 +47,7 @@ sole-right false = (λ e. cc, λ e. cc)
 
 values-right : (v : Values) → (byValues v ≡ Right) ↔ (v ≡ Below)
 values-right Below = (λ e. refl, λ e. refl)
-values-right (Past k) = (λ e. cc, λ e. cc)
+values-right (NotBelow k) = (λ e. cc, λ e. cc)
 
 length-right : (t : Bool) (f : Fault) → (cond t f Whole ≡ Right) ↔ (t ≡ true) × (f ≡ Right)
 length-right true f = (λ e. (refl, e), λ h. h .1)

@@ -6,8 +6,7 @@ use mathlib.Core.Bool.{Bool, true, false, not, _&&_, and-eq-true-iff, false≢tr
 use mathlib.Core.List.{List, []}
 use lib.Dec.{eqb}
 use borrow.Author.Tests.{eqb-true, not-true}
-use Rattle.names.specs.Names.{same, readDigits, number, bytesOk}
-use Rattle.names.specs.Names.{numbered as numberIn}
+use Rattle.names.specs.Names.{same, readDigits, number, bytesOk, numberAfter}
 use Rattle.names.proofs.Laws.{same-eq}
 use Rattle.kinds.specs.Kinds.{mesh, blendShape, curve}
 use Rattle.faces.specs.declared.Face.{Face}
@@ -111,11 +110,11 @@ module _ (kind : ℕ) (name : List ℕ) where
 
 -- ---- two lines that others are held against
 pub weights-each : (ruleOf mesh (letters "mi") .types ≡ N) × (ruleOf mesh (letters "mi") .array ≡ single)
-unfolding letters lines lists same numberIn readDigits number ruleIn ofKind linesOf
+unfolding letters lines lists same numberAfter readDigits number ruleIn ofKind linesOf
 weights-each = (refl, refl)
 
 pub key-text : ruleOf curve (letters "kp") .types ≡ only string
-unfolding letters lines lists same numberIn readDigits number ruleIn ofKind linesOf
+unfolding letters lines lists same numberAfter readDigits number ruleIn ofKind linesOf
 key-text = refl
 
 pub rotation-letters : bytesOk (letters "rq") ≡ true

@@ -7,8 +7,7 @@ use mathlib.Core.List.{List, [], _∷_, _++_}
 use lib.Dec.{eqb}
 use borrow.Author.Tests.{eq-eqb, eqb-true, not-true}
 use Rattle.base.proofs.Tests.{by-test}
-use Rattle.names.specs.Names.{same, readDigits, number}
-use Rattle.names.specs.Names.{numbered as numberIn}
+use Rattle.names.specs.Names.{same, readDigits, number, numberAfter}
 use Rattle.rules.specs.Table.{Line, lines, free}
 use Rattle.base.specs.Letters.{letters}
 use Rattle.rules.specs.Rules.{isNumber, lists, ruleIn, ofKind, linesOf, ruleOf}
@@ -19,7 +18,7 @@ use Rattle.valid.proofs.Says.{Says, says-same}
 use Rattle.valid.proofs.Decimals.{says-numbered}
 use Rattle.base.proofs.Lists.{each-map}
 
-says-spelt : (numbered : Bool) (letters name : List ℕ) → Says (cond numbered (isNumber (numberIn name letters)) (same name letters)) (Spells numbered letters name)
+says-spelt : (numbered : Bool) (letters name : List ℕ) → Says (cond numbered (isNumber (numberAfter name letters)) (same name letters)) (Spells numbered letters name)
 says-spelt true letters name = says-numbered name letters
 says-spelt false letters name = says-same name letters
 
@@ -35,8 +34,8 @@ startAlike (x ∷ a) (y ∷ b) = eqb x y
 
 abbrev alike : (numbered other : Bool) (a b : List ℕ) → Bool
 alike true true a b = startAlike a b
-alike true false a b = isNumber (numberIn b a)
-alike false true a b = isNumber (numberIn a b)
+alike true false a b = isNumber (numberAfter b a)
+alike false true a b = isNumber (numberAfter a b)
 alike false false a b = same a b
 
 abbrev meet : Line → Line → Bool
@@ -66,7 +65,7 @@ allClear [] = true
 allClear (l ∷ ls) = all (clear l) ls && allClear ls
 
 table-clear : allClear lines ≡ true
-unfolding allClear all startAlike numberIn number readDigits same letters lines
+unfolding allClear all startAlike numberAfter number readDigits same letters lines
 table-clear = refl
 
 pub all-each : {A : Type 0} (test : A → Bool) (xs : List A) → all test xs ≡ true → Each (λ x. test x ≡ true) xs

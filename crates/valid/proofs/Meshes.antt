@@ -11,8 +11,7 @@ use lib.ListN.{drop}
 use borrow.Author.Tests.{eqb-true, eqb-false}
 use Rattle.le.specs.Le.{numberAt}
 use Rattle.base.proofs.Tests.{by-test}
-use Rattle.names.specs.Names.{same, readDigits, number}
-use Rattle.names.specs.Names.{numbered as numberIn}
+use Rattle.names.specs.Names.{same, readDigits, number, numberAfter}
 use Rattle.names.proofs.Laws.{same-eq, same-refl}
 use Rattle.kinds.specs.Kinds.{mesh}
 use Rattle.body.specs.Body.{properties}
@@ -65,7 +64,7 @@ held-f kind name =
     (each-map (λ l n k h e. one-f (l .numbered) (l .name) name h (n e .0) ∙ n e .1) lines faces-named)
 
 f-held : ruleOf mesh f .held ≡ faces
-unfolding letters lines lists same numberIn readDigits number ruleIn ofKind linesOf
+unfolding letters lines lists same numberAfter readDigits number ruleIn ofKind linesOf
 f-held = refl
 
 -- ---- a node's faces

@@ -7,14 +7,14 @@ use Rattle.rules.specs.Table.{Types, only}
 use Rattle.base.specs.Letters.{letters}
 use Rattle.props.specs.Types.{float}
 use Rattle.rules.specs.Rules.{ruleOf}
-use Rattle.judge.specs.Properties.{keyTypes}
+use Rattle.judge.specs.Properties.{wantedTypes}
 use Rattle.base.specs.Lists.{Each}
 use Rattle.format.specs.Layout.{Property}
 use Rattle.valid.specs.Obeys.{FitsLine, Keeps, Distinct, HasRequired, Partnered, ofNamed}
 
 -- the types that kp wants of kv
 abbrev pub wanted : List Property → Types
-wanted ps = ofNamed (letters "kp") (λ p. keyTypes (p .content)) (only float) ps
+wanted ps = ofNamed (letters "kp") (λ p. wantedTypes (p .content)) (only float) ps
 
 abbrev pub FitsRules : (kind : ℕ) → List Property → Type 0
 FitsRules kind ps = Each (λ p. FitsLine (ruleOf kind (p .name)) p) ps

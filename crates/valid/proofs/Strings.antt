@@ -11,7 +11,7 @@ use Rattle.names.specs.Names.{same, bytesOk}
 use Rattle.base.specs.Letters.{letters}
 use Rattle.rules.specs.Rules.{isText, isOneOf}
 use Rattle.rules.proofs.Laws.{all}
-use Rattle.judge.specs.Properties.{keyTypes}
+use Rattle.judge.specs.Properties.{wantedTypes}
 use Rattle.base.specs.Lists.{Each, Some}
 use Rattle.format.specs.Layout.{EndsInZero}
 use Rattle.format.proofs.Stages.{bytes-sound}
@@ -62,5 +62,5 @@ module _ {content : List ℕ} (c : EndsInZero content) (more : List ℕ) where
   text-alone string e =
       says-equal (isText (content ++ more) string) (isText content string) (says-text c more string e) (says-string c string e)
 
-  pub key-alone : keyTypes (content ++ more) ≡ keyTypes content
+  pub key-alone : wantedTypes (content ++ more) ≡ wantedTypes content
   key-alone = rw (text-alone (letters "rq") rotation-letters, text-alone (letters "vb") visible-letters)

@@ -12,10 +12,10 @@ use lib.Seq.{drop-drop}
 use borrow.Author.Tests.{ltb-true, lt-ltb}
 use Rattle.le.specs.Le.{numberAt}
 use Rattle.faces.specs.declared.Values.{Values}
-use Rattle.faces.specs.declared.Values.the-variants.{Below, Past}
+use Rattle.faces.specs.declared.Values.the-variants.{Below, NotBelow}
 use Rattle.faces.specs.Faces.{facesIn, below}
 
-passed : (t : Bool) (v : Values) (k : ℕ) → (cond t v (Past k) ≡ Below) ↔ (t ≡ true) × (v ≡ Below)
+passed : (t : Bool) (v : Values) (k : ℕ) → (cond t v (NotBelow k) ≡ Below) ↔ (t ≡ true) × (v ≡ Below)
 passed true v k = (λ e. (refl, e), λ p. p .1)
 passed false v k = (λ e. (cc, cc), λ p. cc)
 

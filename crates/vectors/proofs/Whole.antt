@@ -11,7 +11,7 @@ use lib.Seq.{sets, sets-eq, take-append-seam}
 use Rattle.le.specs.Le.{numberAt}
 use Rattle.names.specs.declared.Numeral.{Numeral}
 use Rattle.names.specs.declared.Numeral.the-variants.{Is, Not}
-use Rattle.names.specs.Names.{numbered}
+use Rattle.names.specs.Names.{numberAfter}
 use Rattle.props.specs.declared.Size.{Size}
 use Rattle.props.specs.declared.Size.the-variants.{Bytes, Text, NoSuch}
 use Rattle.props.specs.declared.Step.{Step}
@@ -27,7 +27,7 @@ use Rattle.lookup.specs.Lookup.{lookupOf, partOf}
 use Rattle.vectors.specs.declared.frame.Frame.{Frame}
 use Rattle.vectors.specs.Answers.{answered, toldBy}
 use Rattle.vectors.specs.Buffers.{numbersIn, checksum}
-use Rattle.vectors.specs.Cases.{lineOf}
+use Rattle.vectors.specs.Cases.{answerLine}
 use Rattle.vectors.specs.Files.{walkNumbers, readingNumbers, fileNumbers, intoTable, fileLine}
 use Rattle.vectors.specs.Leaves.{writtenLine, leafLine}
 use Rattle.vectors.specs.Listings.{listNumbers}
@@ -85,7 +85,7 @@ part f first second =
     either (eqb (f .function) 10) (size (elementSize (f .x % 65536)))
     (either (eqb (f .function) 11) (either (ltb 65535 (length first)) (short (omega arith)) (short (omega arith)))
     (either (eqb (f .function) 12) (short (omega arith))
-    (either (eqb (f .function) 13) (numeral (numbered first second))
+    (either (eqb (f .function) 13) (numeral (numberAfter first second))
     (either (eqb (f .function) 14) (short (omega arith))
     (either (eqb (f .function) 15) (short (omega arith))
     (either (eqb (f .function) 16) (step (stepAt first (f .x)))
@@ -131,8 +131,8 @@ output f first second =
     either (ltb 98304 (f .y)) (short (omega arith))
     (one-more _ _ (either (ltb (f .function) 34) (short (omega arith)) (either (ltb (f .function) 36) (write f first second _) (trim f first second _))))
 
-line : (f : Frame) (first second : List ℕ) → AtMost 12 (lineOf f first second)
-unfolding lineOf
+line : (f : Frame) (first second : List ℕ) → AtMost 12 (answerLine f first second)
+unfolding answerLine
 line f first second =
     either (ltb (f .function) 10) (leaf f first)
     (either (ltb (f .function) 19) (part f first second)
@@ -150,4 +150,4 @@ has-all ns h =
     ∙ take-append-seam ns (drop (0 + length ns) zeros)
 
 pub hasAll : HasAll
-hasAll f first second = has-all (lineOf f first second) (line f first second .few)
+hasAll f first second = has-all (answerLine f first second) (line f first second .few)

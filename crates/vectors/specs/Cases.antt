@@ -11,8 +11,8 @@ use Rattle.vectors.specs.Parts.{partLine}
 use Rattle.vectors.specs.Rows.{rowLine}
 
 -- what is not run has no number
-unfoldable pub lineOf : Frame → (first second : List ℕ) → List ℕ
-lineOf f first second =
+unfoldable pub answerLine : Frame → (first second : List ℕ) → List ℕ
+answerLine f first second =
     cond (ltb (f .function) 10) (leafLine f first)
     (cond (ltb (f .function) 19) (partLine f first second)
     (cond (ltb (f .function) 30) (rowLine f first second)

@@ -5,7 +5,7 @@ use mathlib.Core.List.{List, [], _∷_}
 use Rattle.le.specs.Le.{val, numberAt, le}
 use Rattle.vectors.specs.declared.frame.Frame.{Frame}
 use Rattle.vectors.specs.Buffers.{rising, taking, checksumFrom, checksum}
-use Rattle.vectors.specs.Cases.{lineOf}
+use Rattle.vectors.specs.Cases.{answerLine}
 use Rattle.vectors.specs.Files.{fileLine}
 use Rattle.vectors.specs.Leaves.{stored, writtenLine, leafLine}
 use Rattle.vectors.specs.Outputs.{outputLine}
@@ -13,8 +13,8 @@ use Rattle.vectors.specs.Parts.{sizeLine, partLine}
 
 -- a case's line over these bytes as its first block
 unfoldable line : Frame → List ℕ
-unfolding val numberAt le rising taking checksumFrom checksum stored writtenLine leafLine sizeLine partLine fileLine outputLine lineOf
-line f = lineOf f (0x67 ∷ 0xEC ∷ 0x8E ∷ 0x65 ∷ 0xA1 ∷ 0x8D ∷ 0xEB ∷ 0xBE ∷ 0x5E ∷ 0x55 ∷ 0x32 ∷ []) []
+unfolding val numberAt le rising taking checksumFrom checksum stored writtenLine leafLine sizeLine partLine fileLine outputLine answerLine
+line f = answerLine f (0x67 ∷ 0xEC ∷ 0x8E ∷ 0x65 ∷ 0xA1 ∷ 0x8D ∷ 0xEB ∷ 0xBE ∷ 0x5E ∷ 0x55 ∷ 0x32 ∷ []) []
 
 abbrev case : (function seed x y : ℕ) → Frame
 case function seed x y = record { function = function; first = 11; second = 0; seed = seed; x = x; y = y }

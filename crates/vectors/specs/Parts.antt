@@ -6,7 +6,7 @@ use lib.Dec.{eqb, ltb}
 use lib.ListN.{length}
 use Rattle.names.specs.declared.Numeral.{Numeral}
 use Rattle.names.specs.declared.Numeral.the-variants.{Is, Not}
-use Rattle.names.specs.Names.{sizeOk, bytesOk, same, numbered}
+use Rattle.names.specs.Names.{sizeOk, bytesOk, same, numberAfter}
 use Rattle.kinds.specs.declared.Parent.{Parent}
 use Rattle.kinds.specs.declared.Parent.the-variants.{None, Kind}
 use Rattle.kinds.specs.Kinds.{isKnown, mayStand}
@@ -58,7 +58,7 @@ partLine f first second =
     cond (eqb function 10) (sizeLine (elementSize (f .x % 65536)))
     (cond (eqb function 11) (nameLine first)
     (cond (eqb function 12) (bit (same first second) ∷ [])
-    (cond (eqb function 13) (numeralLine (numbered first second))
+    (cond (eqb function 13) (numeralLine (numberAfter first second))
     (cond (eqb function 14) (bit (isKnown (f .x % 4294967296)) ∷ [])
     (cond (eqb function 15) (bit (mayStand (parentOf (f .x)) count) ∷ [])
     (cond (eqb function 16) (stepLine (stepAt first (f .x)))

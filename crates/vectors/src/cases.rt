@@ -8,10 +8,10 @@ use crate::parts;
 use crate::rows;
 ghost use mathlib.Core.Path.{_≡_};
 ghost use Rattle.vectors.specs.Answers.{answered};
-ghost use Rattle.vectors.specs.Cases.{lineOf};
+ghost use Rattle.vectors.specs.Cases.{answerLine};
 
 pub fn run(f: Frame, first: &[u8], second: &[u8]) -> Answer
-    ensures { λ r. ⌜ r ≡ answered (lineOf f (now (first .entry)) (now (second .entry))) ⌝ }
+    ensures { λ r. ⌜ r ≡ answered (answerLine f (now (first .entry)) (now (second .entry))) ⌝ }
 {
     if f.function < 10 {
         return leaves::run(f, first);

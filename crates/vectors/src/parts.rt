@@ -5,7 +5,7 @@ use crate::frame::Frame;
 ghost use mathlib.Core.Path.{_≡_};
 ghost use Rattle.props.specs.Types.{elementSize};
 ghost use Rattle.props.specs.Step.{stepAt};
-ghost use Rattle.names.specs.Names.{numbered};
+ghost use Rattle.names.specs.Names.{numberAfter};
 ghost use Rattle.body.specs.Body.{properties};
 ghost use Rattle.vectors.specs.Answers.{answered};
 ghost use Rattle.vectors.specs.Parts.{sizeLine, nameLine, numeralLine, parentOf, stepLine, indexNumbers, partLine};
@@ -65,9 +65,9 @@ fn name(bytes: &[u8]) -> Answer
 }
 
 fn numbered(name: &[u8], prefix: &[u8]) -> Answer
-    ensures { λ r. ⌜ r ≡ answered (numeralLine (numbered (now (name .entry)) (now (prefix .entry)))) ⌝ }
+    ensures { λ r. ⌜ r ≡ answered (numeralLine (numberAfter (now (name .entry)) (now (prefix .entry)))) ⌝ }
 {
-    match names::numbered(name, prefix) {
+    match names::number_after(name, prefix) {
         names::Numeral::Is(n) => Answer::two(1, n as u64),
         names::Numeral::Not => Answer::two(0, 0),
     }

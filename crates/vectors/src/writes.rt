@@ -50,7 +50,7 @@ fn parts(rows: usize, flags: u32, out: &mut [u8], source: &[u8], plan: &[u32]) -
     ensures result { λ r. ⌜ r ≡ answered (partsNumbers (now (plan .entry)) rows flags (now (source .entry)) (length (now (out .entry)))) ⌝ }
     ensures output { λ _. ⌜ now (out .exit) ≡ partsOutput (now (plan .entry)) rows flags (now (source .entry)) (now (out .entry)) ⌝ }
 {
-    let refusal = plan::refusal(plan, rows, source);
+    let refusal = plan::plan_refusal(plan, rows, source);
     let answer = Answer::two(refusal.number as u64, refusal.place as u64);
     if refusal.number != 0 {
         return answer.push_two(0, 0).push(0);

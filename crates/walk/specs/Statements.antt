@@ -41,7 +41,7 @@ abbrev pub Others : Type 0
 Others = (flags : ℕ) (f : Forest) → WellFormedFile flags f → (Placed None f × Few f → ⊥)
     → (walkOf (fileOf flags f) .number ≡ 6) ⊎ ((walkOf (fileOf flags f) .number ≡ 7) × (Few f → ⊥))
 
--- The bound that `node` and `children` recurse on never speaks: any that is greater than the number of bytes gives the same walk, so
+-- The bound that `node` and `children` recurse on decides nothing: any that is greater than the number of bytes gives the same walk, so
 -- that the two may be read as calling each other without it.
 abbrev pub Unbounded : Type 0
 Unbounded = (n : ℕ) (parent : Parent) (above depth count at row : ℕ) (bs : List ℕ) → length bs < n

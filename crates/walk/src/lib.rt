@@ -214,7 +214,7 @@ pub struct Answer {
     pub flags: u32,
 }
 
-fn refused(number: u32, place: u32) -> Answer
+fn refused_answer(number: u32, place: u32) -> Answer
     ensures { λ r. ⌜ r ≡ refusedAnswer number place ⌝ }
 {
     Answer {
@@ -240,13 +240,13 @@ pub fn walk(file: &[u8], table: &mut [u32]) -> Answer
     ensures bound { λ r. ⌜ length (limited (now (file .entry)) .rows) ≤ mostRows ⌝ }
 {
     if base::MOST_BYTES < file.len() {
-        return refused(2, 0);
+        return refused_answer(2, 0);
     }
     if !is_cast(file) {
-        return refused(3, 0);
+        return refused_answer(3, 0);
     }
     if le::u32_at(file, 4) != 1 {
-        return refused(4, 4);
+        return refused_answer(4, 4);
     }
     let roots = le::u32_at(file, 8);
     let flags = le::u32_at(file, 12);
@@ -261,7 +261,7 @@ pub fn walk(file: &[u8], table: &mut [u32]) -> Answer
         roots,
     );
     if w.number != 0 {
-        return refused(w.number, w.at as u32);
+        return refused_answer(w.number, w.at as u32);
     }
     let nodes = w.rows as u32;
     Answer {

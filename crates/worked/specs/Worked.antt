@@ -6,7 +6,7 @@ use Prim.Native.String.{String}
 use mathlib.Core.List.{List, [], _∷_, _++_, map, flatMap}
 use lib.ListN.{length, take, drop, replicate}
 use Rattle.le.specs.Le.{val, numberAt, le}
-use Rattle.names.specs.Names.{bytesOk, same, readDigits, number, numbered}
+use Rattle.names.specs.Names.{bytesOk, same, readDigits, number, numberAfter}
 use Rattle.text.specs.Text.{glyph, digits, digitCount}
 use Rattle.kinds.specs.Kinds.{root, model, mesh, parentsIn, parentsOf, isKnown, standsAtTop, standsUnder, mayStand, parentsTable}
 use Rattle.table.specs.declared.Row.{Row}
@@ -56,7 +56,7 @@ rowsBy (Accepted a) rows = rows
 rowsBy (Refused n place) rows = []
 
 unfoldable pub computed : List ℕ → Answer
-unfolding val numberAt bytesOk same readDigits number numbered parentsTable parentsIn parentsOf isKnown standsAtTop standsUnder mayStand toZero nameAt stepAt pass properties firstNamed widthOf facesIn below degenerate letters lines lists ruleIn ofKind linesOf isText isOneOf le lengthOf valueOf typesOf besideOf typed misses lacks faultOf valued nodeFaces nodeLinks verdictAt judgedAt judged reached linksAt linksFrom resolved linked headerAt nodeRefusal andThen children node childrenAt walkOf limited countUnder judgedWith ruled ownKnown ownUnknown checked verdict glyph digits digitCount parentText wordsOf textOf nodeLines fileLines flatMap printed listingOf header fileHeader hasRoom readingOf sizesUnder nodesBytes roots fileBytes emitLeft withoutFrom newFile trimmedOf trimmedOutput
+unfolding val numberAt bytesOk same readDigits number numberAfter parentsTable parentsIn parentsOf isKnown standsAtTop standsUnder mayStand toZero nameAt stepAt pass properties firstNamed widthOf facesIn below degenerate letters lines lists ruleIn ofKind linesOf isText isOneOf le lengthOf valueOf typesOf besideOf typed misses lacks faultOf valued nodeFaces nodeLinks verdictAt judgedAt judged reached linksAt linksFrom resolved linked headerAt nodeRefusal andThen children node childrenAt walkOf limited countUnder judgedWith ruled ownKnown ownUnknown checked verdict glyph digits digitCount parentText wordsOf textOf nodeLines fileLines flatMap printed listingOf header fileHeader hasRoom readingOf sizesUnder nodesBytes roots fileBytes emitLeft withoutFrom newFile trimmedOf trimmedOutput
 computed s = record {
   numbers = numbersOf (verdict s);
   rows = rowsBy (verdict s) (limited s .rows);
@@ -149,10 +149,10 @@ abbrev pub meshRows : List Row
 meshRows = row root noParent 40 40 0 1 ∷ row model 0 64 64 0 1 ∷ row mesh 1 88 146 2 0 ∷ []
 
 -- a file and its answer
-abbrev pub Line : Type 0
-Line = List ℕ × Answer
+abbrev pub Example : Type 0
+Example = List ℕ × Answer
 
-abbrev pub table : List Line
+abbrev pub table : List Example
 table =
     -- E1: no roots. E2: no bytes
     (cast 0 [], accepted 0 0 0 0 0 [] ("cast 1 flags 0 nodes 0 bytes 16" ∷ "header 16" ∷ "faces 0 degenerate 0" ∷ "total 16" ∷ []) (stays 30) lentOutput) ∷

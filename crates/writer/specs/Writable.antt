@@ -81,7 +81,7 @@ pub record Writable (plan s : List ℕ) (room : ℕ) : Type 0 where
   pub short : 16 + allOwnBytes (planRows plan) ≤ mostBytes
   pub fits : 16 + allOwnBytes (planRows plan) ≤ room
 
--- a plan is written exactly when none of 20 to 26 speaks, whatever its numbers and the flags are
+-- a plan is written exactly when none of 20 to 26 is given, whatever its numbers and the flags are
 abbrev pub WritesExactly : Type 0
 WritesExactly = (plan s : List ℕ) (flags room : ℕ) → AreBytes s → ((writtenOf plan s flags room .number ≡ 0) ↔ Writable plan s room)
 

@@ -9,12 +9,12 @@ pub fn write(plan: &[u32], source: &[u8], flags: u32, out: &mut [u8]) -> emit::W
     ensures output { λ r. ⌜ now (out .exit) ≡ outputAfter (now (plan .entry)) (now (source .entry)) flags (now (out .entry)) ⌝ }
 {
     if !table::is_plan(plan) {
-        return emit::refused(20, 0);
+        return emit::refused_writing(20, 0);
     }
     let rows = table::row_count(plan);
-    let refusal = plan::refusal(plan, rows, source);
+    let refusal = plan::plan_refusal(plan, rows, source);
     if refusal.number != 0 {
-        return emit::refused(refusal.number, refusal.place as u32);
+        return emit::refused_writing(refusal.number, refusal.place as u32);
     }
     emit::emit(plan, rows, source, flags, out)
 }

@@ -71,20 +71,20 @@ module _ (c : tie.After-measure) where
       (counted joined)
       p
 
-refused-requires : tie.Need-refused-requires
-refused-requires c κs = search needs
+refused-writing-requires : tie.Need-refused-writing-requires
+refused-writing-requires c κs = search needs
 
 returns : tie.Need-returns
 returns c =
     let m = c .before .before .before in
     let x = too-long (flags m) (source m) (rows m) (out m) (measured m true (c .before .if2 .taken)) in
-    answered m _ _ (c .refused .ensures ∙ x .0, x .1)
+    answered m _ _ (c .refused-writing .ensures ∙ x .0, x .1)
 
 cast-least : tie.Need-cast-least
 cast-least c = search needs
 
-refused-requires-2 : tie.Need-refused-requires-2
-refused-requires-2 c κs = search needs
+refused-writing-requires-2 : tie.Need-refused-writing-requires-2
+refused-writing-requires-2 c κs = search needs
 
 returns-2 : tie.Need-returns-2
 returns-2 c =
@@ -92,7 +92,7 @@ returns-2 c =
     let m = e .before .before in
     let d = measured m false (e .if2 .left) in
     let x = no-room (flags m) (source m) (rows m) (out m) (omega (arith, d .0, d .1)) (omega (arith, d .0, c .before .if3 .taken)) in
-    answered m _ _ (c .refused2 .ensures ∙ x .0, x .1)
+    answered m _ _ (c .refused-writing2 .ensures ∙ x .0, x .1)
 
 put-file-header-requires : tie.Need-put-file-header-requires
 put-file-header-requires c κs = search needs
@@ -141,10 +141,10 @@ emit-spec =
     (tie.spec
     slice-aggregate-measure
     measure-requires
-    refused-requires
+    refused-writing-requires
     returns
     cast-least
-    refused-requires-2
+    refused-writing-requires-2
     returns-2
     put-file-header-requires
     slice-aggregate-put-nodes

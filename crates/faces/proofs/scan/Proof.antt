@@ -9,7 +9,7 @@ use lib.ListN.{drop}
 use borrow.Author.Needs.{needs}
 use Rattle.faces.specs.declared.Face.{Face}
 use Rattle.faces.specs.declared.Values.{Values}
-use Rattle.faces.specs.declared.Values.the-variants.{Past}
+use Rattle.faces.specs.declared.Values.the-variants.{NotBelow}
 use Rattle.faces.specs.Faces.{widthOf, facesIn, below, degenerate as degenerates, countedBy, scanOf, scanNumbers}
 use Rattle.base.proofs.Answers.{told}
 use Rattle.faces.proofs.Laws.{first, ended, length-facesIn, past-first, past-second, past-third, passed, below-none, counted, not-counted, count-none, scan-past, scan-below}
@@ -77,8 +77,8 @@ module _ (m : tie.After-face-at Inv-loop μ-loop) where
   values : says (m .face-at .result ∷ later (m .before .before)) ≡ below (limit (m .before .before)) 0 (all (m .before .before))
   values = ap says (sym here) ∙ m .before .before .loop .inv .3
 
-  stopped : {k : ℕ} → says (m .face-at .result ∷ later (m .before .before)) ≡ Past k
-      → countedBy (Past k) [] ≡ scanOf (limit (m .before .before)) (all (m .before .before))
+  stopped : {k : ℕ} → says (m .face-at .result ∷ later (m .before .before)) ≡ NotBelow k
+      → countedBy (NotBelow k) [] ≡ scanOf (limit (m .before .before)) (all (m .before .before))
   stopped e = scan-past (limit (m .before .before)) (all (m .before .before)) (sym values ∙ e)
 
   count : m .before .before .loop .degenerate + degenerates (m .face-at .result ∷ later (m .before .before)) ≡ degenerates (all (m .before .before))

@@ -17,32 +17,32 @@ slice-aggregate-typed c = search needs
 typed-requires : tie.Need-typed-requires
 typed-requires c κs = search needs
 
-refused-requires : tie.Need-refused-requires
-refused-requires c κs = search needs
+refused-node-requires : tie.Need-refused-node-requires
+refused-node-requires c κs = search needs
 
 returns : tie.Need-returns
 returns c =
     let v = c .before .before .before .before in
     let a = v .before .before .before .before .args in (
-      c .refused .ensures ∙ mistyped (a .kind) (linesFrom (a .lines .now)) (a .body .now) (a .starts .now) (a .bones) (v .typed .ensures .0) (c .before .if1 .taken),
-      refused-bounded _ _ (length (a .body .now)) (v .typed .ensures .1 .1) (c .refused .ensures),
+      c .refused-node .ensures ∙ mistyped (a .kind) (linesFrom (a .lines .now)) (a .body .now) (a .starts .now) (a .bones) (v .typed .ensures .0) (c .before .if1 .taken),
+      refused-bounded _ _ (length (a .body .now)) (v .typed .ensures .1 .1) (c .refused-node .ensures),
     )
 
 lacks-requires : tie.Need-lacks-requires
 lacks-requires c κs = search needs
 
-refused-requires-2 : tie.Need-refused-requires-2
-refused-requires-2 c κs = search needs
+refused-node-requires-2 : tie.Need-refused-node-requires-2
+refused-node-requires-2 c κs = search needs
 
 returns-2 : tie.Need-returns-2
 returns-2 c =
     let l = c .before .before in
     let v = l .before .before .before .before in
     let a = v .before .before .before .before .args in (
-      c .refused2 .ensures
+      c .refused-node2 .ensures
           ∙ lacking (a .kind) (linesFrom (a .lines .now)) (a .body .now) (a .starts .now) (a .bones) (v .typed .ensures .0) (l .before .if1 .left)
           (sym (l .lacks .ensures) ∙ c .before .if2 .taken),
-      refused-bounded 14 0 (length (a .body .now)) (omega arith) (c .refused2 .ensures),
+      refused-bounded 14 0 (length (a .body .now)) (omega arith) (c .refused-node2 .ensures),
     )
 
 array-share-prefix-numbers : tie.Need-array-share-prefix-numbers
@@ -84,10 +84,10 @@ judge-at-spec =
     (tie.spec
     slice-aggregate-typed
     typed-requires
-    refused-requires
+    refused-node-requires
     returns
     lacks-requires
-    refused-requires-2
+    refused-node-requires-2
     returns-2
     array-share-prefix-numbers
     slice-aggregate-valued

@@ -2,7 +2,7 @@
 use mathlib.Core.Path.{_≡_, sym, ap, _∙_}
 use lib.Seq.{length-take-le}
 use borrow.Author.Needs.{needs}
-use Rattle.names.specs.Names.{numbered as numberIn}
+use Rattle.names.specs.Names.{numberAfter}
 use Rattle.rules.specs.Packing.{lineOf}
 use Rattle.rules.specs.Rules.{isNumber}
 use Rattle.rules.proofs.Names.{within, taken}
@@ -18,8 +18,8 @@ array-share-prefix-bytes c = within _ _ _ _ (c .before .name-of .ensures)
 slice-aggregate-numbered : tie.Need-slice-aggregate-numbered
 slice-aggregate-numbered c = sym (length-take-le _ _ (within _ _ _ _ (c .before .before .name-of .ensures)))
 
-numbered-requires : tie.Need-numbered-requires
-numbered-requires c κs = search needs
+number-after-requires : tie.Need-number-after-requires
+number-after-requires c κs = search needs
 
 enum-told : tie.Need-enum-told
 enum-told c = search needs
@@ -27,12 +27,12 @@ enum-told c = search needs
 enum-told-2 : tie.Need-enum-told-2
 enum-told-2 c = search needs
 
-answers : (c : tie.After-numbered) →
+answers : (c : tie.After-number-after) →
     let a = c .before .before .before .before .before .args in
-    c .numbered .result ≡ numberIn (a .name .now) (lineOf (a .e) .name)
+    c .number-after .result ≡ numberAfter (a .name .now) (lineOf (a .e) .name)
 answers c =
     let n = c .before .before .before in
-    c .numbered .ensures .0 ∙ ap (numberIn (n .before .before .args .name .now)) (taken _ _ _ _ (n .name-of .ensures))
+    c .number-after .ensures .0 ∙ ap (numberAfter (n .before .before .args .name .now)) (taken _ _ _ _ (n .name-of .ensures))
 
 returns : tie.Need-returns
 returns c = ap isNumber (sym (c .enum-told .given .1) ∙ answers (c .before .before))
@@ -47,7 +47,7 @@ is-numbered-spec =
     name-of-requires
     array-share-prefix-bytes
     slice-aggregate-numbered
-    numbered-requires
+    number-after-requires
     enum-told
     enum-told-2
     returns

@@ -30,8 +30,8 @@ remove-requires c κs =
 enum-known-reading-2 : tie.Need-enum-known-reading-2
 enum-known-reading-2 c = search needs
 
-refused-requires : tie.Need-refused-requires
-refused-requires c κs = search needs
+refused-writing-requires : tie.Need-refused-writing-requires
+refused-writing-requires c κs = search needs
 
 same-length : tie.Need-same-length
 same-length c = search needs
@@ -58,7 +58,7 @@ returns-2 c =
     let s = r .before .before .before .before .before in
     let a = s .args in
     let is = trimmed-refused (a .file .now) (a .table .now) (g .0 .0) (g .0 .1 .0) (a .row) (a .out .now) _ (sym (r .read .ensures .0) ∙ g .1) (r .read .ensures .1 .1 .0) in
-    (c .refused .ensures ∙ is .0, is .1)
+    (c .refused-writing .ensures ∙ is .0, is .1)
 
 pub trim-spec : {M : Type 1} → statement M
 trim-spec =
@@ -68,7 +68,7 @@ trim-spec =
     enum-known-reading
     remove-requires
     enum-known-reading-2
-    refused-requires
+    refused-writing-requires
     same-length
     same-length-2
     returns

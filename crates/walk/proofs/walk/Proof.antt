@@ -7,28 +7,28 @@ use borrow.Author.Needs.{needs}
 use Rattle.walk.proofs.walk.Statement.{statement}
 use Rattle.walk.proofs.walk.Tie as tie
 
-refused-requires : tie.Need-refused-requires
-refused-requires c κs = search needs
+refused-answer-requires : tie.Need-refused-answer-requires
+refused-answer-requires c κs = search needs
 
 returns : tie.Need-returns
-returns c = clauses (too-long _ _ (c .before .if1 .taken) (c .refused .ensures))
+returns c = clauses (too-long _ _ (c .before .if1 .taken) (c .refused-answer .ensures))
 
 is-cast-requires : tie.Need-is-cast-requires
 is-cast-requires c κs = search needs
 
-refused-requires-2 : tie.Need-refused-requires-2
-refused-requires-2 c κs = search needs
+refused-answer-requires-2 : tie.Need-refused-answer-requires-2
+refused-answer-requires-2 c κs = search needs
 
 returns-2 : tie.Need-returns-2
 returns-2 c =
     let k = c .before .before in
-    clauses (no-cast _ _ (k .before .if1 .left) (sym (k .is-cast .ensures) ∙ not-true _ (c .before .if2 .taken)) (c .refused2 .ensures))
+    clauses (no-cast _ _ (k .before .if1 .left) (sym (k .is-cast .ensures) ∙ not-true _ (c .before .if2 .taken)) (c .refused-answer2 .ensures))
 
 u32-at-requires : tie.Need-u32-at-requires
 u32-at-requires c κs = search needs
 
-refused-requires-3 : tie.Need-refused-requires-3
-refused-requires-3 c κs = search needs
+refused-answer-requires-3 : tie.Need-refused-answer-requires-3
+refused-answer-requires-3 c κs = search needs
 
 returns-3 : tie.Need-returns-3
 returns-3 c =
@@ -37,7 +37,7 @@ returns-3 c =
     let k = two .before in
     clauses
     (no-version _ _ (k .before .if1 .left) (sym (k .is-cast .ensures) ∙ not-false _ (two .if2 .left))
-    (λ e. c .before .if3 .taken (v .u32-at .ensures ∙ e)) (c .refused3 .ensures))
+    (λ e. c .before .if3 .taken (v .u32-at .ensures ∙ e)) (c .refused-answer3 .ensures))
 
 u32-at-requires-2 : tie.Need-u32-at-requires-2
 u32-at-requires-2 c κs = search needs
@@ -66,8 +66,8 @@ walk-children-requires c κs = search needs
 cast-refused : tie.Need-cast-refused
 cast-refused c = search needs
 
-refused-requires-4 : tie.Need-refused-requires-4
-refused-requires-4 c κs = search needs
+refused-answer-requires-4 : tie.Need-refused-answer-requires-4
+refused-answer-requires-4 c κs = search needs
 
 same-length : tie.Need-same-length
 same-length c = search needs
@@ -82,7 +82,7 @@ returns-4 c =
     let k = two .before in
     clauses
     (nodes-refused _ _ (k .before .if1 .left) (sym (k .is-cast .ensures) ∙ not-false _ (two .if2 .left)) (sym (v .u32-at .ensures) ∙ three .if3 .left)
-    (r .u32-at2 .ensures) (w .walk-children .ensures) (c .before .before .if4 .taken) (c .refused4 .ensures))
+    (r .u32-at2 .ensures) (w .walk-children .ensures) (c .before .before .if4 .taken) (c .refused-answer4 .ensures))
 
 cast-nodes : tie.Need-cast-nodes
 cast-nodes c = search needs
@@ -107,13 +107,13 @@ pub walk-spec : {M : Type 1} → statement M
 walk-spec =
     tie.close
     (tie.spec
-    refused-requires
+    refused-answer-requires
     returns
     is-cast-requires
-    refused-requires-2
+    refused-answer-requires-2
     returns-2
     u32-at-requires
-    refused-requires-3
+    refused-answer-requires-3
     returns-3
     u32-at-requires-2
     u32-at-requires-3
@@ -122,7 +122,7 @@ walk-spec =
     part-walk-children-end
     walk-children-requires
     cast-refused
-    refused-requires-4
+    refused-answer-requires-4
     same-length
     returns-4
     cast-nodes

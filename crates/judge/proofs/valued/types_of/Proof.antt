@@ -2,7 +2,7 @@
 use mathlib.Core.Path.{_≡_, sym, ap}
 use borrow.Author.Tests.{lt-ltb, le-ltb}
 use Rattle.base.specs.Letters.{letters}
-use Rattle.judge.specs.Properties.{keyTypes, typesOf}
+use Rattle.judge.specs.Properties.{wantedTypes, typesOf}
 use borrow.Author.Needs.{needs}
 use Rattle.judge.proofs.valued.types_of.Statement.{statement}
 use Rattle.judge.proofs.valued.types_of.Tie as tie
@@ -35,11 +35,11 @@ is-text-requires c κs = search needs
 -- what the string at that place wants is what is sought
 wanted : (c : tie.After-rest-at) →
     let a = c .before .before .before .before .before .before .before .args in
-    typesOf (a .body .now) (a .starts .now) ≡ keyTypes (c .rest-at .result .now)
+    typesOf (a .body .now) (a .starts .now) ≡ wantedTypes (c .rest-at .result .now)
 unfolding typesOf letters
 wanted c =
     let t = c .before .before in
-    rw (← t .before .first-named .ensures .0, lt-ltb _ _ (t .if1 .left)) (ap keyTypes (sym (c .rest-at .ensures)))
+    rw (← t .before .first-named .ensures .0, lt-ltb _ _ (t .if1 .left)) (ap wantedTypes (sym (c .rest-at .ensures)))
 
 returns-2 : tie.Need-returns-2
 unfolding letters

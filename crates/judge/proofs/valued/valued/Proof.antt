@@ -112,11 +112,11 @@ enum-told-2 c = search needs
 add-refused : tie.Need-add-refused Inv-loop μ-loop
 add-refused c = within (c .before .before)
 
-refused-requires : tie.Need-refused-requires Inv-loop μ-loop
-refused-requires c κs = search needs
+refused-node-requires : tie.Need-refused-node-requires Inv-loop μ-loop
+refused-node-requires c κs = search needs
 
 returns : tie.Need-returns Inv-loop μ-loop
-returns c = refuses (c .before .before .before) (c .before .enum-told2 .given .1) refl (c .refused .ensures)
+returns c = refuses (c .before .before .before) (c .before .enum-told2 .given .1) refl (c .refused-node .ensures)
 
 enum-told-3 : tie.Need-enum-told-3 Inv-loop μ-loop
 enum-told-3 c = search needs
@@ -124,11 +124,11 @@ enum-told-3 c = search needs
 add-refused-2 : tie.Need-add-refused-2 Inv-loop μ-loop
 add-refused-2 c = within (c .before .before)
 
-refused-requires-2 : tie.Need-refused-requires-2 Inv-loop μ-loop
-refused-requires-2 c κs = search needs
+refused-node-requires-2 : tie.Need-refused-node-requires-2 Inv-loop μ-loop
+refused-node-requires-2 c κs = search needs
 
 returns-2 : tie.Need-returns-2 Inv-loop μ-loop
-returns-2 c = refuses (c .before .before .before) (c .before .enum-told3 .given .1) refl (c .refused2 .ensures)
+returns-2 c = refuses (c .before .before .before) (c .before .enum-told3 .given .1) refl (c .refused-node2 .ensures)
 
 one-link-requires : tie.Need-one-link-requires Inv-loop μ-loop
 one-link-requires c κs = search needs
@@ -198,11 +198,11 @@ valued-spec =
     add-degenerate
     enum-told-2
     add-refused
-    refused-requires
+    refused-node-requires
     returns
     enum-told-3
     add-refused-2
-    refused-requires-2
+    refused-node-requires-2
     returns-2
     one-link-requires
     add-links

@@ -6,8 +6,8 @@ use Rattle.vectors.specs.Parts.{numeralLine}
 use Rattle.vectors.proofs.parts.numbered.Statement.{statement}
 use Rattle.vectors.proofs.parts.numbered.Tie as tie
 
-numbered-requires : tie.Need-numbered-requires
-numbered-requires c κs = search needs
+number-after-requires : tie.Need-number-after-requires
+number-after-requires c κs = search needs
 
 enum-known-n : tie.Need-enum-known-n
 enum-known-n c = search needs
@@ -28,17 +28,17 @@ returns : tie.Need-returns
 unfolding numeralLine
 returns c =
     let at-numbered = c .before .before .before .before in
-    c .two .ensures ∙ ap (λ s. answered (numeralLine s)) (sym (c .before .before .n .given .1) ∙ at-numbered .numbered .ensures .0)
+    c .two .ensures ∙ ap (λ s. answered (numeralLine s)) (sym (c .before .before .n .given .1) ∙ at-numbered .number-after .ensures .0)
 
 returns-2 : tie.Need-returns-2
 unfolding numeralLine
-returns-2 c = c .two2 .ensures ∙ ap (λ s. answered (numeralLine s)) (sym (c .before .enum-told .given .1) ∙ c .before .before .before .numbered .ensures .0)
+returns-2 c = c .two2 .ensures ∙ ap (λ s. answered (numeralLine s)) (sym (c .before .enum-told .given .1) ∙ c .before .before .before .number-after .ensures .0)
 
-pub numbered-spec : {M : Type 1} → statement M
-numbered-spec =
+pub number-after-spec : {M : Type 1} → statement M
+number-after-spec =
     tie.close
     (tie.spec
-    numbered-requires
+    number-after-requires
     enum-known-n
     cast-two
     two-requires

@@ -9,8 +9,8 @@ use Rattle.vectors.proofs.Answers.{put-after}
 use Rattle.vectors.proofs.writes.parts.Statement.{statement}
 use Rattle.vectors.proofs.writes.parts.Tie as tie
 
-refusal-requires : tie.Need-refusal-requires
-refusal-requires c κs = search needs
+plan-refusal-requires : tie.Need-plan-refusal-requires
+plan-refusal-requires c κs = search needs
 
 cast-two : tie.Need-cast-two
 cast-two c = search needs
@@ -28,7 +28,7 @@ returns : tie.Need-returns
 unfolding partsNumbers partsOutput
 returns c =
     let at-two = c .before .before .before .before in
-    rw (← at-two .before .before .refusal .ensures .0, ne-eqb _ _ (c .before .before .if1 .taken))
+    rw (← at-two .before .before .plan-refusal .ensures .0, ne-eqb _ _ (c .before .before .if1 .taken))
     (put-after (0 ∷ []) (c .push .ensures) (put-after (0 ∷ 0 ∷ []) (c .before .push-two .ensures) (at-two .two .ensures)), refl)
 
 emit-requires : tie.Need-emit-requires
@@ -46,9 +46,9 @@ returns-2 c =
     let at-emit = c .before .before .before in
     let at-two = at-emit .before .before .before .before in
     let at-refusal = at-two .before .before in
-    let j = at-refusal .refusal .result in
+    let j = at-refusal .plan-refusal .result in
     let e = at-emit .emit .ensures in
-    rw (← at-refusal .refusal .ensures .0, eq-eqb _ _ (at-emit .before .before .if1 .left)) (
+    rw (← at-refusal .plan-refusal .ensures .0, eq-eqb _ _ (at-emit .before .before .if1 .left)) (
       put-after (writtenNumbers (at-emit .emit .result)) (c .with-written .ensures) (at-two .two .ensures)
           ∙ ap (λ w. answered (j .number ∷ j .place ∷ writtenNumbers w)) (e .0),
       e .1,
@@ -58,7 +58,7 @@ pub parts-spec : {M : Type 1} → statement M
 parts-spec =
     tie.close
     (tie.spec
-    refusal-requires
+    plan-refusal-requires
     cast-two
     two-requires
     push-two-requires

@@ -1,4 +1,4 @@
--- `plan::refusal`: the rows naming each row are counted first.
+-- `plan::plan_refusal`: the rows naming each row are counted first.
 use Prim.Native.Nat.{ℕ, _≤_, min}
 use native.Mathlib.Nat.{min-eq-left}
 use native.Mathlib.Omega.{arith}
@@ -10,8 +10,8 @@ use Rattle.table.specs.declared.Which.the-variants.{All}
 use Rattle.table.specs.Table.{rowsAt}
 use Rattle.table.proofs.Counts.{counts-tell}
 use Rattle.plan.specs.Plan.{naming, planRefusal}
-use Rattle.plan.proofs.refusal.Statement.{statement}
-use Rattle.plan.proofs.refusal.Tie as tie
+use Rattle.plan.proofs.plan_refusal.Statement.{statement}
+use Rattle.plan.proofs.plan_refusal.Tie as tie
 
 slice-aggregate-count-under : tie.Need-slice-aggregate-count-under
 slice-aggregate-count-under c = search needs
@@ -45,8 +45,8 @@ returns c =
     let a = j .before .before .before .args in
     (c .judge-rows .ensures .0 ∙ ap (λ n. planRefusal (a .source .now) (rowsAt (a .plan .now) 0 n)) (many j), c .judge-rows .ensures .1)
 
-pub refusal-spec : {M : Type 1} → statement M
-refusal-spec =
+pub plan-refusal-spec : {M : Type 1} → statement M
+plan-refusal-spec =
     tie.close
     (tie.spec
     slice-aggregate-count-under

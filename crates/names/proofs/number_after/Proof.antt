@@ -1,4 +1,4 @@
--- `names::numbered`: a name shorter than the prefix, another prefix, or the number after the prefix.
+-- `names::number_after`: a name shorter than the prefix, another prefix, or the number after the prefix.
 use mathlib.Core.Path.{sym, _∙_}
 use lib.Seq.{length-take-le}
 use borrow.Author.Needs.{needs}
@@ -6,8 +6,8 @@ use borrow.Author.Tests.{not-true, not-false}
 use Rattle.base.proofs.Answers.{told}
 use Rattle.names.specs.Names.{numeralNumbers}
 use Rattle.names.proofs.Laws.{numbered-short, numbered-other, numbered-by}
-use Rattle.names.proofs.numbered.Statement.{statement}
-use Rattle.names.proofs.numbered.Tie as tie
+use Rattle.names.proofs.number_after.Statement.{statement}
+use Rattle.names.proofs.number_after.Tie as tie
 
 returns : tie.Need-returns
 returns c = told numeralNumbers (sym (numbered-short _ _ (c .if1 .taken)))
@@ -38,8 +38,8 @@ returns-3 c =
     let s = c .before .before in
     told numeralNumbers (c .number .ensures ∙ sym (numbered-by _ _ (sym (s .before .same .ensures) ∙ not-false _ (s .if2 .left))))
 
-pub numbered-spec : {M : Type 1} → statement M
-numbered-spec =
+pub number-after-spec : {M : Type 1} → statement M
+number-after-spec =
     tie.close
     (tie.spec
     returns
