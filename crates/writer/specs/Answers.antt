@@ -24,7 +24,8 @@ use Rattle.writer.specs.Writable.{nthRow, IsKnown, RightParent, rowsNami
 abbrev pub Writes : Type 0
 Writes = (plan s : List ℕ) (flags : ℕ) (out : List ℕ) → AreBytes s → Writable plan s (length out)
     → let size = 16 + allOwnBytes (planRows plan) in
-    (writtenOf plan s flags (length out) ≡ writingDone size) × (outputAfter plan s flags out ≡ fileOf flags (forestOf s (planRows plan)) ++ drop size out)
+    (writtenOf plan s flags (length out) ≡ writingDone size)
+    × (outputAfter plan s flags out ≡ fileOf flags (forestOf s (planRows plan)) ++ drop size out)
 
 -- "A refusal answers length 0 and leaves the output": of any other plan, the number is not 0
 abbrev pub Refuses : Type 0
@@ -64,7 +65,9 @@ pub record WriterAnswers (plan s : List ℕ) (flags room : ℕ) (rows : List Row
   pub noPlan : (writtenOf plan s flags room ≡ refusedWriting 20 0) ↔ (IsPlan plan → ⊥)
   -- 21 to 24: "The place is the row for these."
   pub parent : (k : ℕ) → (writtenOf plan s flags room ≡ refusedWriting 21 k) ↔ (Reaches plan s k × (RightParent rows k → ⊥))
-  pub outside : (k : ℕ) → (writtenOf plan s flags room ≡ refusedWriting 22 k) ↔ (Reaches plan s k × RightParent rows k × (InBytes s (nthRow rows k) → ⊥))
+  pub outside : (k : ℕ)
+      → (writtenOf plan s flags room ≡ refusedWriting 22 k)
+      ↔ (Reaches plan s k × RightParent rows k × (InBytes s (nthRow rows k) → ⊥))
   pub body : (k : ℕ)
       → (writtenOf plan s flags room ≡ refusedWriting 23 k)
       ↔ (Reaches plan s k × RightParent rows k × InBytes s (nthRow rows k) × (RightBody s (nthRow rows k) → ⊥))
