@@ -15,8 +15,8 @@ name-of-requires c κs = search needs
 array-share-prefix-bytes : tie.Need-array-share-prefix-bytes
 array-share-prefix-bytes c = within _ _ _ _ (c .before .name-of .ensures)
 
-slice-aggregate-numbered : tie.Need-slice-aggregate-numbered
-slice-aggregate-numbered c = sym (length-take-le _ _ (within _ _ _ _ (c .before .before .name-of .ensures)))
+slice-aggregate-number-after : tie.Need-slice-aggregate-number-after
+slice-aggregate-number-after c = sym (length-take-le _ _ (within _ _ _ _ (c .before .before .name-of .ensures)))
 
 number-after-requires : tie.Need-number-after-requires
 number-after-requires c κs = search needs
@@ -46,7 +46,7 @@ is-numbered-spec =
     (tie.spec
     name-of-requires
     array-share-prefix-bytes
-    slice-aggregate-numbered
+    slice-aggregate-number-after
     number-after-requires
     enum-told
     enum-told-2

@@ -63,8 +63,8 @@ part-walk-children-end c = search needs
 walk-children-requires : tie.Need-walk-children-requires
 walk-children-requires c κs = search needs
 
-cast-refused : tie.Need-cast-refused
-cast-refused c = search needs
+cast-refused-answer : tie.Need-cast-refused-answer
+cast-refused-answer c = search needs
 
 refused-answer-requires-4 : tie.Need-refused-answer-requires-4
 refused-answer-requires-4 c κs = search needs
@@ -121,7 +121,7 @@ walk-spec =
     part-walk-children-start
     part-walk-children-end
     walk-children-requires
-    cast-refused
+    cast-refused-answer
     refused-answer-requires-4
     same-length
     returns-4

@@ -25,8 +25,8 @@ row-count-requires c κs = search needs
 plan-refusal-requires : tie.Need-plan-refusal-requires
 plan-refusal-requires c κs = search needs
 
-cast-refused : tie.Need-cast-refused
-cast-refused c = omega (arith, c .before .before .before .plan-refusal .ensures .1)
+cast-refused-writing : tie.Need-cast-refused-writing
+cast-refused-writing c = omega (arith, c .before .before .before .plan-refusal .ensures .1)
 
 refused-writing-requires-2 : tie.Need-refused-writing-requires-2
 refused-writing-requires-2 c κs = search needs
@@ -64,7 +64,7 @@ write-spec =
     returns
     row-count-requires
     plan-refusal-requires
-    cast-refused
+    cast-refused-writing
     refused-writing-requires-2
     returns-2
     emit-requires

@@ -109,8 +109,8 @@ add-degenerate c = omega arith
 enum-told-2 : tie.Need-enum-told-2 Inv-loop μ-loop
 enum-told-2 c = search needs
 
-add-refused : tie.Need-add-refused Inv-loop μ-loop
-add-refused c = within (c .before .before)
+add-refused-node : tie.Need-add-refused-node Inv-loop μ-loop
+add-refused-node c = within (c .before .before)
 
 refused-node-requires : tie.Need-refused-node-requires Inv-loop μ-loop
 refused-node-requires c κs = search needs
@@ -121,8 +121,8 @@ returns c = refuses (c .before .before .before) (c .before .enum-told2 .given .1
 enum-told-3 : tie.Need-enum-told-3 Inv-loop μ-loop
 enum-told-3 c = search needs
 
-add-refused-2 : tie.Need-add-refused-2 Inv-loop μ-loop
-add-refused-2 c = within (c .before .before)
+add-refused-node-2 : tie.Need-add-refused-node-2 Inv-loop μ-loop
+add-refused-node-2 c = within (c .before .before)
 
 refused-node-requires-2 : tie.Need-refused-node-requires-2 Inv-loop μ-loop
 refused-node-requires-2 c κs = search needs
@@ -197,11 +197,11 @@ valued-spec =
     add-faces
     add-degenerate
     enum-told-2
-    add-refused
+    add-refused-node
     refused-node-requires
     returns
     enum-told-3
-    add-refused-2
+    add-refused-node-2
     refused-node-requires-2
     returns-2
     one-link-requires
