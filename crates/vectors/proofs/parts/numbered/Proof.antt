@@ -34,8 +34,8 @@ returns-2 : tie.Need-returns-2
 unfolding numeralLine
 returns-2 c = c .two2 .ensures ∙ ap (λ s. answered (numeralLine s)) (sym (c .before .enum-told .given .1) ∙ c .before .before .before .number-after .ensures .0)
 
-pub number-after-spec : {M : Type 1} → statement M
-number-after-spec =
+pub numbered-spec : {M : Type 1} → statement M
+numbered-spec =
     tie.close
     (tie.spec
     number-after-requires

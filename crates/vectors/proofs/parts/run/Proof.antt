@@ -31,8 +31,8 @@ same-requires c κs = search needs
 truth-requires : tie.Need-truth-requires
 truth-requires c κs = search needs
 
-number-after-requires : tie.Need-number-after-requires
-number-after-requires c κs = search needs
+numbered-requires : tie.Need-numbered-requires
+numbered-requires c κs = search needs
 
 known-requires : tie.Need-known-requires
 known-requires c κs = search needs
@@ -75,7 +75,7 @@ returns-3 c = rw (c .before .before .match .keys3) (c .truth .ensures ∙ ap (λ
 
 returns-4 : tie.Need-returns-4
 unfolding partLine
-returns-4 c = rw (c .before .match .keys4) (c .number-after .ensures)
+returns-4 c = rw (c .before .match .keys4) (c .numbered .ensures)
 
 returns-5 : tie.Need-returns-5
 unfolding partLine
@@ -113,7 +113,7 @@ run-spec =
     name-requires
     same-requires
     truth-requires
-    number-after-requires
+    numbered-requires
     known-requires
     truth-requires-2
     above-requires
