@@ -22,7 +22,7 @@ use Rattle.judge.specs.Valued.{faultOf, valued, nodeFaces, nodeLinks}
 use Rattle.judge.specs.Judge.{verdictAt, judgedAt, judged}
 
 abbrev numbers : Judged → List ℕ
-numbers j = j .number ∷ j .at ∷ j .faces .0 ∷ j .degenerate ∷ j .links ∷ []
+numbers j = j .number ∷ j .place ∷ j .faces .0 ∷ j .degenerate ∷ j .links ∷ []
 
 -- a node's number and offset, faces, degenerate ones and links: of its kind, its property count, the Bones beside it and its body
 unfoldable judge : (kind count bones : ℕ) → List ℕ → List ℕ

@@ -27,11 +27,11 @@ verdictAt kind ls s starts bones =
     (cond (lacks kind ls s starts) (refusal 14 0)
     (valued ls s (besideOf kind s starts bones) starts))
 
-abbrev pub refusedNode : (number at : ℕ) → Judged
-refusedNode n at = record { number = n; at = at; faces = record { 0 = 0 }; degenerate = 0; links = 0 }
+abbrev pub refusedNode : (number place : ℕ) → Judged
+refusedNode n place = record { number = n; place = place; faces = record { 0 = 0 }; degenerate = 0; links = 0 }
 
 abbrev pub acceptedNode : (faces degenerate links : ℕ) → Judged
-acceptedNode faces degenerate links = record { number = 0; at = 0; faces = record { 0 = faces }; degenerate = degenerate; links = links }
+acceptedNode faces degenerate links = record { number = 0; place = 0; faces = record { 0 = faces }; degenerate = degenerate; links = links }
 
 -- what a node counts where nothing is refused
 abbrev pub judgedBy : Refusal → List Face → (links : ℕ) → Judged
@@ -46,7 +46,7 @@ judged kind count s bones = judgedAt kind (linesOf kind) s (properties s count .
 
 -- how large a judgement's numbers are: its place lies in the node, whose body has a given size; and 64 properties count at most this
 pub record Bounded (r : Judged) (size : ℕ) : Type 0 where
-  pub place : r .at ≤ 24 + size
+  pub place : r .place ≤ 24 + size
   pub faces : r .faces .0 ≤ mostProperties * 2 ^ 32
   pub degenerates : r .degenerate ≤ mostProperties * 2 ^ 32
   pub links : r .links ≤ mostProperties

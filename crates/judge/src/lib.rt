@@ -26,18 +26,18 @@ fn has(body: &[u8], starts: &[usize], name: &[u8]) -> bool
 // its place as an offset from the node's header.
 pub struct Judged {
     pub number: u32,
-    pub at: usize,
+    pub place: usize,
     pub faces: faces::Faces,
     pub degenerate: u64,
     pub links: u32,
 }
 
-fn refused_node(number: u32, at: usize) -> Judged
-    ensures { λ r. ⌜ r ≡ refusedNode number at ⌝ }
+fn refused_node(number: u32, place: usize) -> Judged
+    ensures { λ r. ⌜ r ≡ refusedNode number place ⌝ }
 {
     Judged {
         number,
-        at,
+        place,
         faces: faces::Faces(0),
         degenerate: 0,
         links: 0,

@@ -264,7 +264,7 @@ pub(crate) fn valued(
     }
     Judged {
         number: 0,
-        at: 0,
+        place: 0,
         faces: faces::Faces(faces),
         degenerate,
         links,

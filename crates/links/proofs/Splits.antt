@@ -3,7 +3,8 @@ use Prim.Native.Nat.{ℕ}
 use mathlib.Core.Path.{_≡_, refl, ap}
 use mathlib.Core.Bool.{false≢true}
 use Rattle.rules.specs.Table.{Held, nothing, flag, oneOf, vertices, weights, faces, indices, keys, boneNumber, linkTo}
-use Rattle.rules.specs.Rules.{ifLink, isLink}
+use Rattle.rules.proofs.Helds.{isLink}
+use Rattle.rules.specs.Rules.{ifLink}
 
 abbrev pub NoLink : Held → Type 0
 NoLink h = (kind : ℕ) → h ≡ linkTo kind → ⊥

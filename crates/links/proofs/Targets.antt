@@ -11,8 +11,8 @@ use Rattle.base.proofs.Tests.{by-test}
 use Rattle.kinds.specs.Kinds.{mesh, bone, material, file}
 use Rattle.table.specs.declared.Row.{Row}
 use Rattle.rules.specs.Table.{Line, linkTo, lines}
-use Rattle.rules.specs.Rules.{ruleOf, ifLink}
-use Rattle.rules.proofs.Laws.{all, ruled}
+use Rattle.rules.proofs.Laws.{ruleOf, all, ruled}
+use Rattle.rules.specs.Rules.{ifLink}
 use Rattle.format.specs.Rows.{hashOf}
 use Rattle.links.specs.Private.{hashesOf, occurrences, Count, hashesFor, countIn}
 use Rattle.links.specs.Links.{reached}

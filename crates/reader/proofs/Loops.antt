@@ -45,7 +45,7 @@ onTop f d l u = record { number = u .number; place = u .place; faces = f + u .fa
 
 -- a judgement's place lies after the node's header, and in the file
 pub row-place : (s t : List ℕ) (n i : ℕ) {r : Row} {j : Judged} → RowsOk (length s) t n → i < n → r ≡ rowAt t i → Bounded j (length (bodyOf s r))
-    → (24 ≤ r .start + j .at) × (r .start + j .at ≤ 24 + length s)
+    → (24 ≤ r .start + j .place) × (r .start + j .place ≤ 24 + length s)
 row-place s t n i {r} ok h e b =
     let row : RowOk (length s) n r = rw e (ok i h) in
     let size = body-length s r in
@@ -61,13 +61,13 @@ module _ (s t : List ℕ) (n : ℕ) where
   module _ (f d l i : ℕ) where
     module _ (h : i < n) {r : Row} {b : ℕ} {j : Judged} (e : r ≡ rowAt t i) (g : b ≡ bonesUnder all (r .parent))
         (k : j ≡ judgedWith s r b) where
-      next : ruled s all (rest t n i) ≡ refusedOr (j .number) (uncounted (j .number) (r .start + j .at - 24)) (counted j (ruled s all (rest t n (i + 1))))
+      next : ruled s all (rest t n i) ≡ refusedOr (j .number) (uncounted (j .number) (r .start + j .place - 24)) (counted j (ruled s all (rest t n (i + 1))))
       unfolding ruled
       next = rw (rest-more t n i h, ← e, ← g, ← k)
 
       pub rules-refused : (j .number ≡ 0 → ⊥)
           → onTop f d l (ruled s all (rest t n i))
-          ≡ record { number = j .number; place = (r .start + j .at) - 24; faces = f; degenerate = d; links = l }
+          ≡ record { number = j .number; place = (r .start + j .place) - 24; faces = f; degenerate = d; links = l }
       rules-refused m = rw (next ∙ is-refused (j .number) _ _ m) (simp add-zero)
 
       pub rules-passed : j .number ≡ 0

@@ -13,8 +13,9 @@ use Rattle.base.proofs.Tests.{by-test}
 use Rattle.table.specs.declared.Row.{Row}
 use Rattle.body.specs.Body.{properties}
 use Rattle.rules.specs.Table.{linkTo}
-use Rattle.rules.specs.Rules.{linesOf, ruleOf}
-use Rattle.rules.specs.Rules.{isLink as isLinkTo}
+use Rattle.rules.proofs.Laws.{ruleOf}
+use Rattle.rules.specs.Rules.{linesOf}
+use Rattle.rules.proofs.Helds.{isLink as isLinkTo}
 use Rattle.judge.specs.Properties.{restAt}
 use Rattle.format.specs.Rows.{hashOf}
 use Rattle.base.specs.Lists.{Each, Picks, none, taken, left}

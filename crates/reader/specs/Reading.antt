@@ -58,7 +58,7 @@ unfoldable pub ruled : (s : List ℕ) (all rows : List Row) → Ruled
 ruled s all [] = uncounted 0 0
 ruled s all (r ∷ rs) =
     let j = judgedRow s all r in
-    refusedOr (j .number) (uncounted (j .number) ((r .start + j .at) - 24)) (counted j (ruled s all rs))
+    refusedOr (j .number) (uncounted (j .number) ((r .start + j .place) - 24)) (counted j (ruled s all rs))
 
 -- ---- own bytes of known and of unknown nodes
 unfoldable pub ownKnown : List Row → ℕ

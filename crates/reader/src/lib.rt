@@ -50,7 +50,7 @@ fn judge_row(file: &[u8], row: table::Row, bones: u32) -> judge::Judged
     if !kinds::known(row.kind) {
         return judge::Judged {
             number: 0,
-            at: 0,
+            place: 0,
             faces: faces::Faces(0),
             degenerate: 0,
             links: 0,
@@ -84,7 +84,7 @@ fn rules_of(file: &[u8], table: &[u32], nodes: usize, bones: &[u32]) -> Ruled
         let j = judge_row(file, row, beside(bones, row.parent));
         let start = row.start as usize;
         if j.number != 0 {
-            let place = start + j.at - 24;
+            let place = start + j.place - 24;
             return Ruled {
                 number: j.number,
                 place,

@@ -1,10 +1,15 @@
 -- What an entry is held to, by its number.
 use Prim.Native.Nat.{ℕ, zero, suc}
 use mathlib.Core.Path.{_≡_, refl}
+use mathlib.Core.Bool.{Bool, true, false}
 use Rattle.rules.specs.declared.Entry.{Entry}
 use Rattle.rules.specs.Table.{Held, nothing, flag, oneOf, vertices, weights, faces, indices, keys, boneNumber, linkTo}
 use Rattle.rules.specs.Packing.{stringsOf, heldFrom, lineOf}
 use Rattle.rules.specs.Rules.{ifLink}
+
+-- whether it is a link
+abbrev pub isLink : Held → Bool
+isLink h = ifLink h (λ kind. true) false
 
 -- for callers: what holds of each number and what it says, holds of all
 pub by-held : (set target : ℕ) (P : ℕ → Held → Type 0) → P 0 nothing → P 1 flag → P 2 (oneOf (stringsOf set)) → P 3 vertices → P 4 weights →

@@ -18,8 +18,12 @@ use Rattle.rules.specs.declared.Entry.{Entry}
 use Rattle.rules.specs.declared.Text.{Text}
 use Rattle.rules.specs.Table.{Line, lines, free}
 use Rattle.rules.specs.Packing.{stringSets, stringsOf, unpacked, lineOf, entryFrom, lineFrom, linesFrom, columnsOf, PackedTable}
-use Rattle.rules.specs.Rules.{lists, ruleIn, findIn, ofKind, linesOf, ruleOf, fitting, isText, isOneOf}
+use Rattle.rules.specs.Rules.{lists, ruleIn, findIn, ofKind, linesOf, fitting, isText, isOneOf}
 use Rattle.rules.specs.Private.{textFrom, stringOf}
+
+-- the line of a kind and name
+abbrev pub ruleOf : (kind : ℕ) (name : List ℕ) → Line
+ruleOf kind name = ruleIn (linesOf kind) name
 
 -- what stands inside is there whatever would stand for what is not
 pub getD-inside : {A : Type 0} (l : List A) (i : ℕ) (d e : A) → i < length l → getD l i d ≡ getD l i e

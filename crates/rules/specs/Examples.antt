@@ -10,20 +10,20 @@ use Rattle.kinds.specs.Kinds.{root, model, mesh, curve, material, file}
 use Rattle.base.specs.Letters.{letters}
 use Rattle.props.specs.Types.{v3, int, string, long}
 use Rattle.rules.specs.Table.{only, nothing, vertices, oneOf, linkTo, Line, plain, numbered, single, array, required, optional, rule, modes, lines, free}
-use Rattle.rules.specs.Rules.{takes, lists, ruleIn, ofKind, linesOf, ruleOf, isText, isOneOf, isLink}
+use Rattle.rules.specs.Rules.{takes, lists, ruleIn, ofKind, linesOf, isText, isOneOf, ifLink}
 
 count : length lines ≡ 81
 unfolding lines
 count = refl
 
 -- the lines of type l are those that link, and no others: "Links, where the node's kind lists the name as l"
-linking : map (λ l. takes (l .types) long) lines ≡ map (λ l. isLink (l .held)) lines
+linking : map (λ l. takes (l .types) long) lines ≡ map (λ l. ifLink (l .held) (λ kind. true) false) lines
 unfolding lines
 linking = refl
 
 unfoldable found : ℕ → String → Line
 unfolding letters lines lists same numberAfter readDigits number ruleIn ofKind linesOf
-found kind name = ruleOf kind (letters name)
+found kind name = ruleIn (linesOf kind) (letters name)
 
 abbrev colours : Line
 colours = rule mesh "c" numbered (only int) array optional vertices

@@ -52,10 +52,6 @@ ofKind (l ∷ ls) kind = cond (eqb (l .kind) kind) (l ∷ ofKind ls kind) (ofKin
 unfoldable pub linesOf : (kind : ℕ) → List Line
 linesOf kind = ofKind lines kind
 
--- the line of a kind and name
-abbrev pub ruleOf : (kind : ℕ) (name : List ℕ) → Line
-ruleOf kind name = ruleIn (linesOf kind) name
-
 -- some lines where all have room; else none
 abbrev pub fitting : List Line → (room : ℕ) → List Line
 fitting ls room = cond (leb (length ls) room) ls []
@@ -85,6 +81,3 @@ ifLink faces link other = other
 ifLink indices link other = other
 ifLink keys link other = other
 ifLink boneNumber link other = other
-
-abbrev pub isLink : Held → Bool
-isLink h = ifLink h (λ kind. true) false

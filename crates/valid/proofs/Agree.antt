@@ -15,7 +15,8 @@ use Rattle.kinds.specs.Kinds.{curve}
 use Rattle.rules.specs.Table.{only, N, Line, free}
 use Rattle.base.specs.Letters.{letters}
 use Rattle.props.specs.Types.{float, v4, string}
-use Rattle.rules.specs.Rules.{takes, isText, ruleOf}
+use Rattle.rules.proofs.Laws.{ruleOf}
+use Rattle.rules.specs.Rules.{takes, isText}
 use Rattle.judge.specs.Valued.{signed}
 use Rattle.base.specs.Lists.{Each, Some}
 use Rattle.format.specs.Layout.{Property, EndsInZero, GoodProperty}

@@ -9,7 +9,7 @@ use Rattle.props.specs.Step.{lengthAt}
 use Rattle.base.specs.Letters.{letters}
 use Rattle.props.specs.Types.{float}
 use Rattle.rules.specs.Table.{only}
-use Rattle.rules.specs.Rules.{ruleOf}
+use Rattle.rules.proofs.Laws.{ruleOf}
 use Rattle.judge.specs.Properties.{Beside, restAt, valueAt, lengthOf, valueOf, wantedTypes, typesOf, besideOf}
 use Rattle.format.specs.Layout.{Property}
 use Rattle.valid.specs.Obeys.{FitsLine, value, elementsOf, firstValueOf, vertexCount}

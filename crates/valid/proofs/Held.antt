@@ -16,7 +16,8 @@ use Rattle.faces.specs.Faces.{widthOf, facesIn, below}
 use Rattle.rules.specs.Table.{Held, nothing, flag, oneOf, vertices, weights, faces, indices, keys, boneNumber, linkTo, Line}
 use Rattle.base.specs.Letters.{letters}
 use Rattle.props.specs.Types.{byte, int}
-use Rattle.rules.specs.Rules.{isN, takes, linesOf, ruleOf, isOneOf}
+use Rattle.rules.proofs.Laws.{ruleOf}
+use Rattle.rules.specs.Rules.{isN, takes, linesOf, isOneOf}
 use Rattle.base.specs.declared.Refusal.{Refusal}
 use Rattle.judge.specs.Properties.{Beside, restAt, valueAt}
 use Rattle.judge.specs.declared.valued.Fault.{Fault}

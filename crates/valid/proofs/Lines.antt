@@ -13,8 +13,8 @@ use Rattle.faces.specs.declared.Face.{Face}
 use Rattle.rules.specs.Table.{Types, only, N, keyType, anyType, Held, nothing, flag, oneOf, vertices, weights, faces, indices, keys, boneNumber, linkTo, Line, lines, plain, single}
 use Rattle.base.specs.Letters.{letters}
 use Rattle.props.specs.Types.{byte, int, long, string}
-use Rattle.rules.specs.Rules.{lists, ruleIn, ofKind, linesOf, ruleOf}
-use Rattle.rules.proofs.Laws.{all, ruled}
+use Rattle.rules.proofs.Laws.{ruleOf, all, ruled}
+use Rattle.rules.specs.Rules.{lists, ruleIn, ofKind, linesOf}
 use Rattle.judge.specs.Valued.{facesAt, heldFaces}
 use Rattle.base.specs.Lists.{Each}
 use Rattle.base.proofs.Lists.{each-map}

@@ -10,7 +10,9 @@ use Rattle.le.specs.Le.{val}
 use Rattle.table.specs.declared.Row.{Row}
 use Rattle.body.specs.Body.{properties}
 use Rattle.rules.specs.Table.{Line, linkTo}
-use Rattle.rules.specs.Rules.{linesOf, ruleOf, isLink}
+use Rattle.rules.proofs.Laws.{ruleOf}
+use Rattle.rules.proofs.Helds.{isLink}
+use Rattle.rules.specs.Rules.{linesOf}
 use Rattle.base.specs.Refusals.{refusedOr}
 use Rattle.base.specs.Lists.{Each}
 use Rattle.format.specs.Layout.{Property, GoodBody}

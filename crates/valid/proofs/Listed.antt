@@ -10,8 +10,8 @@ use Rattle.base.proofs.Tests.{by-test}
 use Rattle.names.specs.Names.{same, readDigits, number, numberAfter}
 use Rattle.rules.specs.Table.{Line, lines, free}
 use Rattle.base.specs.Letters.{letters}
-use Rattle.rules.specs.Rules.{isNumber, lists, ruleIn, ofKind, linesOf, ruleOf}
-use Rattle.rules.proofs.Laws.{all}
+use Rattle.rules.proofs.Laws.{ruleOf, all}
+use Rattle.rules.specs.Rules.{isNumber, lists, ruleIn, ofKind, linesOf}
 use Rattle.base.specs.Lists.{Each, Some}
 use Rattle.valid.specs.Lines.{Numbered, Spells, Lists, ByLine}
 use Rattle.valid.proofs.Says.{Says, says-same}

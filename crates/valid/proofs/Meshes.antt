@@ -19,7 +19,8 @@ use Rattle.faces.specs.declared.Face.{Face}
 use Rattle.faces.specs.Faces.{widthOf, facesIn}
 use Rattle.rules.specs.Table.{faces, lines, plain}
 use Rattle.base.specs.Letters.{letters}
-use Rattle.rules.specs.Rules.{lists, ruleIn, ofKind, linesOf, ruleOf, isN}
+use Rattle.rules.proofs.Laws.{ruleOf}
+use Rattle.rules.specs.Rules.{lists, ruleIn, ofKind, linesOf, isN}
 use Rattle.judge.specs.Properties.{restAt}
 use Rattle.judge.specs.Valued.{nodeFaces}
 use Rattle.format.specs.Layout.{Property, GoodBody}

@@ -6,7 +6,7 @@ use Rattle.kinds.specs.Kinds.{mesh}
 use Rattle.rules.specs.Table.{Types, only}
 use Rattle.base.specs.Letters.{letters}
 use Rattle.props.specs.Types.{float}
-use Rattle.rules.specs.Rules.{ruleOf}
+use Rattle.rules.proofs.Laws.{ruleOf}
 use Rattle.judge.specs.Properties.{wantedTypes}
 use Rattle.base.specs.Lists.{Each}
 use Rattle.format.specs.Layout.{Property}

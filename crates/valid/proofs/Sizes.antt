@@ -8,7 +8,8 @@ use lib.ListN.{length, length-append}
 use Rattle.body.specs.Body.{properties}
 use Rattle.faces.specs.Faces.{widthOf}
 use Rattle.faces.proofs.Laws.{length-facesIn}
-use Rattle.rules.specs.Rules.{linesOf, ruleOf, isN}
+use Rattle.rules.proofs.Laws.{ruleOf}
+use Rattle.rules.specs.Rules.{linesOf, isN}
 use Rattle.props.specs.Step.{codeAt, lengthAt}
 use Rattle.judge.specs.Properties.{ruleAt, restAt}
 use Rattle.judge.specs.Valued.{heldFaces, nodeFaces}

@@ -8,7 +8,8 @@ use mathlib.Core.List.{List, [], _∷_, _++_}
 use lib.Dec.{eqb}
 use Rattle.names.specs.Names.{same}
 use Rattle.rules.specs.Table.{Line}
-use Rattle.rules.specs.Rules.{takes, misfits, linesOf, ruleOf}
+use Rattle.rules.proofs.Laws.{ruleOf}
+use Rattle.rules.specs.Rules.{takes, misfits, linesOf}
 use Rattle.judge.specs.Properties.{has}
 use Rattle.base.specs.declared.Refusal.{Refusal}
 use Rattle.judge.specs.Typed.{isMistyped, typed}

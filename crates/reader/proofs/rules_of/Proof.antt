@@ -52,8 +52,8 @@ module _ (j : tie.After-judge-row Inv-loop μ-loop) where
   few : at-loop .loop .i < 1024
   few = omega (arith, turn .loop-test .taken, start .pre .0)
 
-  place : (24 ≤ row .row-at .result .start + j .judge-row .result .at)
-      × (row .row-at .result .start + j .judge-row .result .at ≤ 24 + length (start .args .file .now))
+  place : (24 ≤ row .row-at .result .start + j .judge-row .result .place)
+      × (row .row-at .result .start + j .judge-row .result .place ≤ 24 + length (start .args .file .now))
   place = row-place _ _ _ _ (start .pre .1) (turn .loop-test .taken) (row .row-at .ensures) (j .judge-row .ensures .1)
 
   beside-counted : j .before .beside .result ≡ bonesUnder (rowsAt (start .args .table .now) 0 (start .args .nodes)) (row .row-at .result .parent)
