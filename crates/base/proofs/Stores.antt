@@ -1,14 +1,12 @@
 -- Laws of stores at a place, and of what is read where nothing was stored.
-use Prim.Native.Nat.{ℕ, zero, suc, _+_, _-_, _/_, _%_, _^_, _≤_, _<_}
+use Prim.Native.Nat.{ℕ, zero, suc, _+_, _-_, _≤_, _<_}
 use native.Mathlib.Omega.{arith}
-use native.Mathlib.Nat.{zero-add, add-zero}
 use native.Mathlib.Numerals.{add-one}
 use mathlib.Core.Path.{_≡_, refl, ap, sym, _∙_}
-use mathlib.Core.Logic.{_⊎_, inl, inr}
-use mathlib.Core.List.{List, [], _∷_, _++_, append-nil, map, map-append}
+use mathlib.Core.List.{List, [], _∷_, _++_, map, map-append}
 use lib.Dec.{ltb}
-use lib.ListN.{length, getD, take, drop, set, take-append-drop, length-drop, length-map, length-set, drop-of-length-le, replicate, length-replicate, getD-replicate, List·getD-eq-default}
-use lib.Seq.{sets, set-out, take-nil, take-length, take-suc, length-take-le, take-set-le, drop-set-add, drop-set-lt, getD-set-same, getD-set-other, set-comm}
+use lib.ListN.{length, getD, take, drop, set, take-append-drop, length-map, length-set, replicate, length-replicate, getD-replicate, List·getD-eq-default}
+use lib.Seq.{sets, set-out, take-nil, take-suc, length-take-le, take-set-le, drop-set-add, drop-set-lt, getD-set-same, getD-set-other, set-comm}
 use borrow.Author.Tests.{ltb-true, ltb-false}
 use Rattle.base.proofs.Tests.{by-test}
 

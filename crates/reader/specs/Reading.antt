@@ -1,6 +1,6 @@
 -- Document 01's reading: "1 to 4; then nodes as they come ... Then, row by row: all 13, then 14, then all 15. Then links, row
 -- by row. ... The first found is the answer; all other numbers of it are 0."
-use Prim.Native.Nat.{ℕ, suc, _+_, _-_, _<_, _^_}
+use Prim.Native.Nat.{ℕ, _+_, _-_, _<_, _^_}
 use mathlib.Core.Bool.{cond}
 use mathlib.Core.List.{List, [], _∷_}
 use lib.ListN.{length}
