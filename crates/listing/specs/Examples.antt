@@ -2,6 +2,7 @@
 use Prim.Native.Nat.{ℕ}
 use mathlib.Core.Path.{_≡_, refl}
 use mathlib.Core.List.{[], _∷_, _++_, map}
+use Rattle.kinds.specs.Kinds.{root}
 use Rattle.table.specs.declared.Row.{Row}
 use Rattle.table.specs.Table.{noParent}
 use Rattle.base.specs.Letters.{letters}
@@ -14,7 +15,7 @@ row kind parent start stop = record { kind = kind; low = 1; high = 2; parent = p
 
 lines : map textOf (
     Summary 3000000001 0 18446744073709551615 ∷
-    Node 0 (row 0x746F6F72 noParent 40 40) ∷
+    Node 0 (row root noParent 40 40) ∷
     Node 9 (row 0xA 4294967294 100 175) ∷
     Node 1023 (row 0xFFFFFFFF 10 99 98) ∷
     FileHeader ∷

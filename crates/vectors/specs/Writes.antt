@@ -4,6 +4,7 @@ use mathlib.Core.Bool.{cond}
 use mathlib.Core.List.{List, [], _∷_}
 use lib.Dec.{eqb, ltb}
 use lib.ListN.{length}
+use Rattle.base.specs.Limits.{mostRows}
 use Rattle.table.specs.declared.Row.{Row}
 use Rattle.table.specs.Table.{rowsAt}
 use Rattle.plan.specs.Plan.{planRefusal}
@@ -20,7 +21,7 @@ writtenNumbers w = w .number ∷ w .place ∷ w .length ∷ []
 -- zeros stand for that answer
 
 abbrev pub firstOf : (plan : List ℕ) (n : ℕ) → List Row
-firstOf plan n = rowsAt plan 0 (min n 1024)
+firstOf plan n = rowsAt plan 0 (min n mostRows)
 
 unfoldable pub partsNumbers : (plan : List ℕ) (n flags : ℕ) (s : List ℕ) (room : ℕ) → List ℕ
 partsNumbers plan n flags s room =
