@@ -3,6 +3,5 @@ pub mod Placing
 pub mod Collecting
 pub mod Targets
 pub mod Resolving
-pub mod Splits
 pub mod Turns
 pub mod Numbers

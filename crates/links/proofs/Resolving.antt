@@ -18,7 +18,7 @@ use Rattle.links.specs.declared.Linked.{Linked}
 use Rattle.links.specs.Links.{Link, reached, linksAt, rowLinks, linksFrom, linked, refusalOf, refusedLinks, resolved}
 use Rattle.links.specs.Private.{Count, nodeLinked, rowLinked, rowsLinked}
 use Rattle.links.proofs.Targets.{CountsReached}
-use Rattle.links.proofs.Splits.{by-link, link-none}
+use Rattle.rules.proofs.Helds.{by-link, link-none}
 
 -- two tell of more
 refusal-capped : (n : ℕ) → refusalOf (min n 2) ≡ refusalOf n

@@ -17,7 +17,7 @@ use Rattle.base.proofs.Lists.{each-append}
 use Rattle.base.proofs.Refusals.{by-refusal}
 use Rattle.format.proofs.Rows.{body-length}
 use Rattle.links.specs.Links.{Link, linksAt, linksFrom, refusalOf, refusedLinks, resolved}
-use Rattle.links.proofs.Splits.{by-link}
+use Rattle.rules.proofs.Helds.{by-link}
 use Rattle.reader.specs.Private.{RowOk}
 
 -- ---- links lie in the file

@@ -19,7 +19,7 @@ use Rattle.judge.specs.Judge.{judged, Bounded}
 use Rattle.judge.proofs.Counted.{judged-links}
 use Rattle.format.specs.Rows.{bodyOf}
 use Rattle.links.specs.Links.{Link, linksAt, rowLinks, linksFrom, linksOf, acceptedLinks, resolved, linked}
-use Rattle.links.proofs.Splits.{by-link, link-none}
+use Rattle.rules.proofs.Helds.{by-link, link-none}
 use Rattle.reader.specs.declared.Ruled.{Ruled}
 use Rattle.reader.specs.Reading.{bonesUnder, unjudged, judgedWith, judgedRow, counted, uncounted, ruled}
 

@@ -22,7 +22,7 @@ use Rattle.base.specs.Lists.{Each, Picks, none, taken, left}
 use Rattle.format.specs.Layout.{Property}
 use Rattle.base.proofs.Lists.{each-append}
 use Rattle.links.specs.Links.{Link, reached, linksAt, rowLinks, linksFrom, linksOf}
-use Rattle.links.proofs.Splits.{by-link, one-kind}
+use Rattle.rules.proofs.Helds.{by-link, one-kind}
 use Rattle.valid.specs.Nodes.{Node, NodeProperty, propertiesFrom, LinkLine, IsLink, IsNode, IsOnly, NodeLink, ReachesOne, LinksAre}
 use Rattle.valid.proofs.Described.{Described, described}
 use Rattle.valid.proofs.Described as Found

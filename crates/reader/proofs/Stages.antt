@@ -20,7 +20,7 @@ use Rattle.format.specs.Rows.{bodyOf}
 use Rattle.base.specs.Lists.{Each}
 use Rattle.links.specs.declared.Linked.{Linked}
 use Rattle.links.specs.Links.{Link, reached, linksAt, rowLinks, linksFrom, refusalOf, refusedLinks, resolved}
-use Rattle.links.proofs.Splits.{by-link, link-none}
+use Rattle.rules.proofs.Helds.{by-link, link-none}
 use Rattle.reader.specs.declared.Ruled.{Ruled}
 use Rattle.reader.specs.Reading.{judgedRow, counted, uncounted, ruled}
 

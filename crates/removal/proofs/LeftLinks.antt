@@ -17,7 +17,7 @@ use Rattle.base.proofs.Lists.{each-append}
 use Rattle.rules.specs.Rules.{linesOf}
 use Rattle.judge.specs.Properties.{ruleAt, restAt}
 use Rattle.links.specs.Links.{reached, linksAt, rowLinks, linksFrom, linksOf}
-use Rattle.links.proofs.Splits.{by-link, link-none}
+use Rattle.rules.proofs.Helds.{by-link, link-none}
 use Rattle.reader.specs.Reading.{ownKnown, ownUnknown}
 use Rattle.reader.specs.Acceptance.{rowFaces, facesOf}
 use Rattle.removal.specs.Tally.{sumOverMarked}

@@ -11,7 +11,7 @@ use Rattle.table.specs.declared.Row.{Row}
 use Rattle.body.specs.Body.{properties}
 use Rattle.rules.specs.Table.{Line, linkTo}
 use Rattle.rules.proofs.Laws.{ruleOf}
-use Rattle.rules.proofs.Helds.{isLink}
+use Rattle.rules.proofs.Helds.{isLink, by-link, one-kind}
 use Rattle.rules.specs.Rules.{linesOf}
 use Rattle.base.specs.Refusals.{refusedOr}
 use Rattle.base.specs.Lists.{Each}
@@ -19,7 +19,6 @@ use Rattle.format.specs.Layout.{Property, GoodBody}
 use Rattle.base.proofs.Lists.{each-map}
 use Rattle.links.specs.declared.Linked.{Linked}
 use Rattle.links.specs.Links.{reached, linksAt, refusalOf, refusedLinks, resolved}
-use Rattle.links.proofs.Splits.{by-link, one-kind}
 use Rattle.valid.specs.Lines.{ByLine}
 use Rattle.valid.specs.Obeys.{FitsLine}
 use Rattle.valid.proofs.Ruled.{FitsRules}
