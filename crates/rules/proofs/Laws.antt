@@ -8,8 +8,8 @@ use mathlib.Core.Bool.{Bool, true, false, _&&_, _||_, and-false, and-eq-true-iff
 use mathlib.Core.List.{List, [], _∷_, _++_, map}
 use lib.Dec.{eqb}
 use lib.ListN.{length, take, drop, getD, length-map, drop-of-length-le, List·getD-eq-default, List·getD-map}
-use lib.Seq.{drop-cons, take-append-seam, sets, sets-eq, length-sets}
-use borrow.Author.Tests.{eq-eqb, ne-eqb, eqb-true, le-leb}
+use lib.Seq.{drop-cons}
+use borrow.Author.Tests.{eq-eqb, ne-eqb, eqb-true}
 use Rattle.base.proofs.Tests.{by-test}
 use Rattle.base.specs.Letters.{letters}
 use Rattle.le.specs.Le.{val, le, numberAt}
@@ -18,7 +18,7 @@ use Rattle.rules.specs.declared.Entry.{Entry}
 use Rattle.rules.specs.declared.Text.{Text}
 use Rattle.rules.specs.Table.{Line, lines, free}
 use Rattle.rules.specs.Packing.{stringSets, stringsOf, unpacked, lineOf, entryFrom, lineFrom, linesFrom, columnsOf, PackedTable}
-use Rattle.rules.specs.Rules.{lists, ruleIn, findIn, ofKind, linesOf, fitting, isText, isOneOf}
+use Rattle.rules.specs.Rules.{lists, ruleIn, findIn, ofKind, linesOf, isText, isOneOf}
 use Rattle.rules.specs.Private.{textFrom, stringOf}
 
 -- the line of a kind and name
@@ -97,37 +97,6 @@ module _ (test : Line → Bool) (kind : ℕ) (name : List ℕ) where
   pub ruled : all test lines ≡ true → (ruleOf kind name ≡ free) ⊎ ((test (ruleOf kind name) ≡ true) × (ruleOf kind name .kind ≡ kind))
   unfolding linesOf
   ruled = ruled-in lines
-
--- packing loses nothing of the lines of a kind
-packed-of : (kind : ℕ) (ls : List Line) → linesFrom (map columnsOf ls) ≡ ls → linesFrom (map columnsOf (ofKind ls kind)) ≡ ofKind ls kind
-unfolding ofKind
-packed-of kind [] e = refl
-packed-of kind (l ∷ ls) e =
-    let rest = packed-of kind ls (ap (drop 1) e) in
-    by-test (eqb (l .kind) kind)
-    (λ t. rw t (ap (λ m. m ∷ linesFrom (map columnsOf (ofKind ls kind))) (ap (λ ls. getD ls 0 free) e) ∙ ap (λ m. l ∷ m) rest))
-    (λ t. rw t rest)
-
--- for callers: what lines of a kind are taken from rows where they were put
-module _ (kind : ℕ) (old : List (List ℕ)) (room : length (linesOf kind) ≤ length old) {n : ℕ} {rows : List (List ℕ)}
-    (c : n ≡ length (fitting (linesOf kind) (length old))) (e : rows ≡ sets old 0 (map columnsOf (fitting (linesOf kind) (length old)))) where
-  abbrev ls : List Line
-  ls = linesOf kind
-
-  back : linesFrom (map columnsOf ls) ≡ ls
-  unfolding linesOf
-  back = packed-of kind lines (ap (drop 1) PackedTable)
-
-  all-fit : fitting ls (length old) ≡ ls
-  all-fit = rw (le-leb (length ls) (length old) room)
-
-  pub lines-room : n ≤ length rows
-  lines-room = rw (c, e, all-fit) (omega (arith, length-sets old 0 (map columnsOf ls)))
-
-  pub lines-taken : linesFrom (take n rows) ≡ ls
-  lines-taken =
-      let many : length (map columnsOf ls) ≡ length ls = length-map ls columnsOf in
-      rw (c, e, all-fit, ← many, sets-eq (map columnsOf ls) old 0 (omega arith), take-append-seam (map columnsOf ls) (drop (0 + length (map columnsOf ls)) old)) back
 
 -- ---- the strings of a set
 

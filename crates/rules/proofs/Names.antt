@@ -1,19 +1,19 @@
--- The letters of a line: stored and taken, and the first four of them in one number.
-use Prim.Native.Nat.{ℕ, min, _+_, _/_, _%_, _^_, _≤_, _<_}
+-- The letters of a line: stored and taken, and the first of them.
+use Prim.Native.Nat.{ℕ, suc, min, _-_, _/_, _%_, _≤_, _<_}
 use native.Mathlib.Omega.{arith}
-use native.Mathlib.Nat.{mod-lt, one-le-pow}
 use mathlib.Core.Path.{_≡_, refl, sym, ap, _∙_}
 use mathlib.Core.Bool.{false}
-use mathlib.Core.List.{List, _++_, append-assoc}
-use lib.Dec.{ltb}
+use mathlib.Core.List.{List, [], _∷_, _++_, append-nil}
+use lib.Dec.{eqb, ltb}
 use lib.ListN.{length, take, replicate}
-use lib.Seq.{sets, take-all, take-take, take-at}
+use lib.Seq.{sets, take-all}
 use borrow.Author.Tests.{eq-eqb, ne-eqb, ltb-true, ltb-false}
 use Rattle.le.specs.Le.{val, le, numberAt}
-use Rattle.le.proofs.Laws.{le-remainder, le-split, length-le, val-le}
 use Rattle.base.proofs.Tests.{by-test}
 use Rattle.names.specs.Names.{same, numberAfter}
-use Rattle.names.proofs.Laws.{same-eq}
+use Rattle.names.specs.declared.Numeral.{Numeral}
+use Rattle.names.specs.declared.Numeral.the-variants.{Is, Not}
+use Rattle.names.proofs.Laws.{same-eq, numbered-sound}
 use Rattle.rules.specs.declared.Entry.{Entry}
 use Rattle.rules.specs.declared.Letters.{Letters}
 use Rattle.rules.specs.Packing.{unpacked, lettersOf, lineOf}
@@ -52,28 +52,31 @@ module _ (size first second third : ℕ) where
         rw all (take-all 12 bytes (omega (arith, most)) ∙ sym (take-all size bytes (omega (arith, most, long)))))
         (λ t. let some : min size 12 ≡ size = omega (arith, ltb-false 12 size t) in rw some))
 
--- ---- the first four letters of a line's name
-module _ (e : Entry) where
+-- ---- the first letter of a line's name
+first-letter : (x : ℕ) (xs : List ℕ) → numberAt 1 (x ∷ xs) 0 ≡ x
+unfolding numberAt val
+first-letter x xs = omega arith
+
+module _ (e : Entry) (n : e .size ≡ 0 → ⊥) where
+  abbrev letter : ℕ
+  letter = e .first % 256
+
   abbrev others : List ℕ
-  others = le 4 (e .second) ++ le 4 (e .third)
+  others = take (e .size - 1) (le 3 (e .first / 256) ++ (le 4 (e .second) ++ le 4 (e .third)))
 
-  -- n letters of four
-  pub four-some : (n m : ℕ) → e .size ≡ n → n + m ≡ 4 → e .first % 256 ^ n ≡ numberAt 4 (lineOf e .name) 0
-  unfolding unpacked numberAt
-  four-some n m k f =
-      let x = e .first in
-      let split : le 4 x ++ others ≡ le n x ++ (le m (x / 256 ^ n) ++ others) =
-      ap (λ w. le w x ++ others) (sym f) ∙ ap (λ b. b ++ others) (le-split n m x) ∙ append-assoc (le n x) (le m (x / 256 ^ n)) others in
-      let low : take n (le 4 x ++ others) ≡ le n x = ap (take n) split ∙ take-at (le n x) (le m (x / 256 ^ n) ++ others) n (length-le n x) in
-      let all : take 4 (le n x) ≡ le n x = take-all 4 (le n x) (omega (arith, length-le n x)) in
-      sym (rw (k, low, all, ← le-remainder n x) (val-le n (x % 256 ^ n) (mod-lt x (one-le-pow n 256 (omega arith)))))
+  starts : lineOf e .name ≡ letter ∷ others
+  unfolding unpacked le
+  starts = let some : e .size ≡ suc (e .size - 1) = omega arith in ap (λ k. take k (unpacked (e .first) (e .second) (e .third))) some
 
-  pub four-all : 4 ≤ e .size → e .first < 256 ^ 4 → e .first ≡ numberAt 4 (lineOf e .name) 0
-  unfolding unpacked numberAt
-  four-all k h =
-      sym (ap val (take-take 4 (e .size) (le 4 (e .first) ++ others) k ∙ take-at (le 4 (e .first)) others 4 (length-le 4 (e .first))) ∙ val-le 4 (e .first) h)
+  -- a name that the line's starts has its letter
+  pub by-letter : (name more : List ℕ) → name ≡ lineOf e .name ++ more → letter ≡ numberAt 1 name 0
+  by-letter name more q = sym (ap (λ l. numberAt 1 l 0) (q ∙ ap (λ l. l ++ more) starts) ∙ first-letter letter (others ++ more))
 
 -- ---- a line has a name
+is-no-number : (r : Numeral) → ((k : ℕ) → r ≡ Is k → ⊥) → isNumber r ≡ false
+is-no-number (Is k) n = absurd (n k refl)
+is-no-number Not n = refl
+
 module _ (name : List ℕ) (e : Entry) where
   pub lists-numbered : e .numbered ≡ 1 → lists (lineOf e) name ≡ isNumber (numberAfter name (lineOf e .name))
   unfolding lists
@@ -84,8 +87,12 @@ module _ (name : List ℕ) (e : Entry) where
     unfolding lists
     lists-plain = rw (ne-eqb (e .numbered) 1 n)
 
-    pub lists-other : {first four : ℕ} → first ≡ numberAt 4 (lineOf e .name) 0 → four ≡ numberAt 4 name 0 → (first ≡ four → ⊥) → lists (lineOf e) name ≡ false
-    lists-other h f m =
-        lists-plain ∙ by-test (same name (lineOf e .name))
-        (λ s. absurd (m (rw (f, same-eq name (lineOf e .name) s) h)))
-        (λ s. s)
+  -- a name with another first letter is not the line's
+  pub lists-other : (e .size ≡ 0 → ⊥) → {letter : ℕ} → letter ≡ numberAt 1 name 0 → (e .first % 256 ≡ letter → ⊥) → lists (lineOf e) name ≡ false
+  unfolding lists
+  lists-other n h m =
+      let prefix = lineOf e .name in
+      let other : (more : List ℕ) → name ≡ prefix ++ more → ⊥ = λ more q. m (by-letter e n name more q ∙ sym h) in
+      by-test (eqb (e .numbered) 1)
+      (λ t. rw t (is-no-number (numberAfter name prefix) (λ k q. other _ (numbered-sound name prefix k q .0))))
+      (λ t. rw t (by-test (same name prefix) (λ s. absurd (other [] (same-eq name prefix s ∙ sym (append-nil prefix)))) (λ s. s)))

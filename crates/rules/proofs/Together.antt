@@ -1,20 +1,17 @@
 -- The lines of a kind are found by places: they stand together.
-use Prim.Native.Nat.{ℕ, _+_, _-_, _≤_, _<_}
+use Prim.Native.Nat.{ℕ, zero, suc, _+_, _-_, _≤_}
 use native.Mathlib.Omega.{arith}
 use mathlib.Core.Path.{_≡_, refl, sym, ap, _∙_}
 use mathlib.Core.Bool.{Bool, true, not, _&&_, _||_, and-eq-true-iff}
 use mathlib.Core.List.{List, [], _∷_, map}
 use lib.Dec.{eqb}
-use lib.ListN.{length, take, drop, getD, length-drop, length-map, List·getD-map}
-use lib.Seq.{getD-drop, length-take-le, sets}
-use borrow.Author.Tests.{eqb-true, not-true, le-leb, lt-leb}
+use lib.ListN.{length, take, drop, length-drop, length-map}
+use borrow.Author.Tests.{eqb-true, not-true, le-leb}
 use Rattle.base.proofs.Tests.{by-test}
 use Rattle.rules.specs.declared.Span.{Span}
-use Rattle.rules.specs.Table.{Line, lines, free}
-use Rattle.rules.specs.Packing.{columnsOf}
-use Rattle.rules.specs.Rules.{ofKind, linesOf, fitting}
-use Rattle.rules.specs.Private.{before, run, spanOf}
-use Rattle.rules.proofs.Laws.{getD-inside}
+use Rattle.rules.specs.Table.{Line, lines}
+use Rattle.rules.specs.Packing.{lineFrom, linesFrom, columnsOf, PackedTable}
+use Rattle.rules.specs.Rules.{ofKind, linesOf, before, run, spanOf, rowsOf}
 
 pub many : length lines ≡ 81
 unfolding lines
@@ -70,49 +67,54 @@ module _ (kind : ℕ) where
       (λ t. rw (t, t) (ap (λ r. l ∷ r) (after l ls (eqb-true (l .kind) kind t) e)))
       (λ t. rw t (stand ls (tail-together l ls e)))
 
--- ---- the lines of a kind are those of its span, and are put into rows
-
--- lines of a kind stand there, in the table and at most 14
+-- ---- the lines of a kind are those of its span
 abbrev pub Spanned : ℕ → Span → Type 0
-Spanned kind s = (s ≡ spanOf kind) × (s .from ≤ s .to) × (s .to ≤ s .from + 14) × (s .to ≤ 81)
+Spanned kind s = (s ≡ spanOf kind) × (s .from ≤ s .to) × (s .to ≤ 81)
 
-module _ (kind : ℕ) {span : Span} (s : Spanned kind span) where
-  of-span : linesOf kind ≡ take (span .to - span .from) (drop (span .from) lines)
-  unfolding spanOf linesOf
-  of-span =
+of-span : (kind : ℕ) → linesOf kind ≡ take (spanOf kind .to - spanOf kind .from) (drop (spanOf kind .from) lines)
+unfolding spanOf linesOf
+of-span kind =
+    let at = before lines kind in
+    let count = run (drop at lines) kind in
+    let taken : at + count - at ≡ count = omega arith in
+    rw taken (stand kind lines all-together)
+
+-- the rows that stand there in the table are those of the kind's lines
+take-map : {A B : Type 0} (f : A → B) (n : ℕ) (l : List A) → map f (take n l) ≡ take n (map f l)
+take-map f zero l = refl
+take-map f (suc n) [] = refl
+take-map f (suc n) (x ∷ xs) = ap (λ ys. f x ∷ ys) (take-map f n xs)
+
+drop-map : {A B : Type 0} (f : A → B) (n : ℕ) (l : List A) → map f (drop n l) ≡ drop n (map f l)
+drop-map f zero l = refl
+drop-map f (suc n) [] = refl
+drop-map f (suc n) (x ∷ xs) = drop-map f n xs
+
+-- the span of a kind lies in the table
+module _ (kind : ℕ) where
+  before-most : (ls : List Line) → before ls kind ≤ length ls
+  unfolding before
+  before-most [] = omega arith
+  before-most (l ∷ ls) = by-test (eqb (l .kind) kind) (λ t. rw t (omega arith)) (λ t. rw t (omega (arith, before-most ls)))
+
+  run-most : (ls : List Line) → run ls kind ≤ length ls
+  unfolding run
+  run-most [] = omega arith
+  run-most (l ∷ ls) = by-test (eqb (l .kind) kind) (λ t. rw t (omega (arith, run-most ls))) (λ t. rw t (omega arith))
+
+  inside : spanOf kind .to ≤ 81
+  unfolding spanOf
+  inside =
       let at = before lines kind in
-      let count = run (drop at lines) kind in
-      let taken : at + count - at ≡ count = omega arith in
-      rw (s .0) (rw taken (stand kind lines all-together))
+      omega (arith, before-most lines, run-most (drop at lines), length-drop at lines, many)
 
-  counted : length (linesOf kind) ≡ span .to - span .from
-  counted = rw of-span (length-take-le (span .to - span .from) (drop (span .from) lines) (omega (arith, s .3, length-drop (span .from) lines, many)))
-
-  module _ (rows : List (List ℕ)) where
-    -- n were put, and this is in the rows then
-    abbrev pub Put : ℕ → List (List ℕ) → Type 0
-    Put n after =
-        (n ≡ length (fitting (linesOf kind) (length rows)))
-        × (after ≡ sets rows 0 (map columnsOf (fitting (linesOf kind) (length rows))))
-        × (length (linesOf kind) ≤ 14)
-
-    few : length (linesOf kind) ≤ 14
-    few = omega (arith, s .2, counted)
-
-    pub put-none : span .to ≤ span .from → Put 0 rows
-    put-none n =
-        let none : span .to - span .from ≡ 0 = omega arith in
-        rw (of-span, none, le-leb 0 (length rows) (omega arith)) (refl, refl, omega arith)
-
-    pub put-short : length rows < span .to - span .from → Put 0 rows
-    put-short n = rw (lt-leb (length (linesOf kind)) (length rows) (omega (arith, counted))) (refl, refl, few)
-
-    pub put-all : span .to - span .from ≤ length rows → {after : List (List ℕ)} →
-        after ≡ sets rows 0 (map columnsOf (take (span .to - span .from) (drop (span .from) lines))) → Put (span .to - span .from) after
-    put-all n a = rw (le-leb (length (linesOf kind)) (length rows) (omega (arith, counted))) (sym counted, a ∙ ap (λ ls. sets rows 0 (map columnsOf ls)) (sym of-span), few)
-
--- the row that is read for the line at a place after another
-pub row-at : (from i : ℕ) → from + i < 81 → getD (map columnsOf lines) (from + i) [] ≡ columnsOf (getD (drop from lines) i free)
-row-at from i h =
-    getD-inside (map columnsOf lines) (from + i) [] (columnsOf free) (omega (arith, length-map lines columnsOf, many))
-    ∙ List·getD-map columnsOf lines (from + i) free ∙ ap columnsOf (sym (getD-drop from lines i free))
+-- for callers: the lines of a kind, of the rows that are lent for it where those of the whole table are
+pub lines-lent : (kind : ℕ) → linesFrom (rowsOf kind (map columnsOf lines)) ≡ linesOf kind
+unfolding rowsOf
+lines-lent kind =
+    let from = spanOf kind .from in
+    let n = spanOf kind .to - from in
+    let rows = map columnsOf lines in
+    let packed : linesFrom rows ≡ lines = ap (drop 1) PackedTable in
+    rw (le-leb (spanOf kind .to) (length rows) (omega (arith, inside kind, length-map lines columnsOf, many)))
+    (take-map lineFrom n (drop from rows) ∙ ap (take n) (drop-map lineFrom from rows) ∙ ap (λ ls. take n (drop from ls)) packed ∙ sym (of-span kind))

@@ -1,13 +1,14 @@
 -- The line of a kind and name, what it says of a type and a length, and the strings that are taken.
-use Prim.Native.Nat.{ℕ, suc}
+use Prim.Native.Nat.{ℕ, suc, _+_, _-_}
 use mathlib.Core.Bool.{Bool, true, false, cond, not, _&&_, _||_}
 use mathlib.Core.List.{List, [], _∷_}
 use lib.Dec.{eqb, leb}
-use lib.ListN.{length, take, getD}
+use lib.ListN.{length, take, drop, getD}
 use Rattle.names.specs.Names.{same, numberAfter}
 use Rattle.names.specs.declared.Numeral.{Numeral}
 use Rattle.names.specs.declared.Numeral.the-variants.{Is, Not}
 use Rattle.props.specs.Types.{byte, short, int, float, v4}
+use Rattle.rules.specs.declared.Span.{Span}
 use Rattle.rules.specs.Table.{Types, only, N, keyType, anyType, Held, nothing, flag, oneOf, vertices, weights, faces, indices, keys, boneNumber, linkTo, Line, lines, free}
 
 -- "`N` any of `b h i`"
@@ -52,9 +53,21 @@ ofKind (l ∷ ls) kind = cond (eqb (l .kind) kind) (l ∷ ofKind ls kind) (ofKin
 unfoldable pub linesOf : (kind : ℕ) → List Line
 linesOf kind = ofKind lines kind
 
--- some lines where all have room; else none
-abbrev pub fitting : List Line → (room : ℕ) → List Line
-fitting ls room = cond (leb (length ls) room) ls []
+-- where they stand in the table: how many lines come before the first of a kind, and how many of it come first
+unfoldable pub before : List Line → ℕ → ℕ
+before [] kind = 0
+before (l ∷ ls) kind = cond (eqb (l .kind) kind) 0 (suc (before ls kind))
+
+unfoldable pub run : List Line → ℕ → ℕ
+run [] kind = 0
+run (l ∷ ls) kind = cond (eqb (l .kind) kind) (suc (run ls kind)) 0
+
+unfoldable pub spanOf : ℕ → Span
+spanOf kind = record { from = before lines kind; to = before lines kind + run (drop (before lines kind) lines) kind }
+
+-- of any rows, those at these places; none where they do not all lie among the rows
+unfoldable pub rowsOf : (kind : ℕ) → List (List ℕ) → List (List ℕ)
+rowsOf kind rows = cond (leb (spanOf kind .to) (length rows)) (take (spanOf kind .to - spanOf kind .from) (drop (spanOf kind .from) rows)) []
 
 -- ---- strings
 

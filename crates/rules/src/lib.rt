@@ -6,10 +6,10 @@ ghost use lib.ListN.{length, getD};
 ghost use lib.Seq.{sets};
 ghost use Rattle.le.specs.Le.{numberAt};
 ghost use Rattle.names.specs.Names.{same, numberAfter};
-ghost use Rattle.rules.specs.Table.{free};
+ghost use Rattle.rules.specs.Table.{lines, free};
 ghost use Rattle.rules.specs.Packing.{lettersOf, stringsOf, typesFrom, lineOf, entryFrom, linesFrom, columnsOf};
-ghost use Rattle.rules.specs.Rules.{takes, misfits, isNumber, lists, findIn, linesOf, fitting, isText, isOneOf};
-ghost use Rattle.rules.specs.Private.{spanOf, textFrom, stringOf};
+ghost use Rattle.rules.specs.Rules.{takes, misfits, isNumber, lists, findIn, spanOf, rowsOf, isText, isOneOf};
+ghost use Rattle.rules.specs.Private.{textFrom, stringOf};
 
 pub mod columns;
 mod lines;
@@ -125,31 +125,16 @@ fn is_numbered(e: Entry, name: &[u8]) -> bool
     }
 }
 
-// The first four letters of a line's name in one number, zeros for those that are not there.
-fn four_of(e: Entry) -> u32
-    ensures { λ r. ⌜ r ≡ numberAt 4 (lineOf e .name) 0 ⌝ }
-{
-    let size = e.size;
-    let first = e.first;
-    match size {
-        0 => 0,
-        1 => first % 256,
-        2 => first % 65536,
-        3 => first % 16777216,
-        _ => first,
-    }
-}
-
-// Whether a line has a name, whose first four letters are one number. Most lines differ in these.
-fn has_name(e: Entry, name: &[u8], four: u32) -> bool
-    requires { ⌜ four ≡ numberAt 4 (now name) 0 ⌝ }
+// Whether a line has a name, whose first letter is a number, 0 where it has none. Most lines differ in their first letter.
+fn has_name(e: Entry, name: &[u8], letter: u32) -> bool
+    requires { ⌜ letter ≡ numberAt 1 (now name) 0 ⌝ }
     ensures { λ r. ⌜ r ≡ lists (lineOf e) (now (name .entry)) ⌝ }
 {
+    if (e.size != 0) & (e.first % 256 != letter) {
+        return false;
+    }
     if e.numbered == columns::NUMBERED {
         return is_numbered(e, name);
-    }
-    if four_of(e) != four {
-        return false;
     }
     is_plain(e, name)
 }
@@ -158,11 +143,11 @@ fn has_name(e: Entry, name: &[u8], four: u32) -> bool
 pub fn line_named(lines: &[Columns], name: &[u8]) -> usize
     ensures { λ r. ⌜ r ≡ findIn (linesFrom (now (lines .entry))) (now (name .entry)) ⌝ }
 {
-    let four = le::u32_at(name, 0);
+    let letter = le::number_at(name, 0, 1);
     let mut i: usize = 0;
     while i < lines.len() {
         let row = lines[i];
-        if has_name(entry_from(row), name, four) {
+        if has_name(entry_from(row), name, letter) {
             return i;
         }
         i += 1;
@@ -188,50 +173,47 @@ struct Span {
     to: usize,
 }
 
-// Where the lines of a kind stand. No kind has more than the 14 of a Mesh.
+// Where the lines of a kind stand.
 fn span_of(kind: u32) -> Span
-    ensures { λ r. ⌜ (r ≡ spanOf kind) × (r .from ≤ r .to) × (r .to ≤ r .from + 14) × (r .to ≤ 81) ⌝ }
+    ensures { λ r. ⌜ (r ≡ spanOf kind) × (r .from ≤ r .to) × (r .to ≤ 81) ⌝ }
 {
-    let spans = lines::SPANS;
-    let mut i: usize = 0;
-    while i < 14 {
-        let span = spans[i];
-        let of = span[0];
-        let from = span[1] as usize;
-        let to = span[2] as usize;
-        if of == kind {
-            return Span { from, to };
-        }
-        i += 1;
+    match kind {
+        kinds::MODEL => Span { from: 0, to: 1 },
+        kinds::MESH => Span { from: 1, to: 15 },
+        kinds::BLEND_SHAPE => Span { from: 15, to: 20 },
+        kinds::BONE => Span { from: 20, to: 28 },
+        kinds::IK_HANDLE => Span { from: 28, to: 35 },
+        kinds::CONSTRAINT => Span { from: 35, to: 43 },
+        kinds::MATERIAL => Span { from: 43, to: 56 },
+        kinds::FILE => Span { from: 56, to: 57 },
+        kinds::ANIMATION => Span { from: 57, to: 60 },
+        kinds::CURVE => Span { from: 60, to: 66 },
+        kinds::CURVE_MODE_OVERRIDE => Span { from: 66, to: 71 },
+        kinds::NOTIFICATION_TRACK => Span { from: 71, to: 73 },
+        kinds::INSTANCE => Span { from: 73, to: 78 },
+        kinds::METADATA => Span { from: 78, to: 81 },
+        _ => Span { from: 81, to: 81 },
     }
-    Span { from: 81, to: 81 }
 }
 
-// Puts the lines of a kind into some rows, where all have room, and answers how many were put. Nothing else reads the table:
-// each read copies it to the stack, so a node's lines are taken out once a stage and lent.
-pub fn put_lines(kind: u32, rows: &mut [Columns]) -> usize
-    ensures count { λ r. ⌜ r ≡ length (fitting (linesOf kind) (length (now (rows .entry)))) ⌝ }
-    ensures rows { λ r. ⌜ now (rows .exit) ≡ sets (now (rows .entry)) 0 (map columnsOf (fitting (linesOf kind) (length (now (rows .entry))))) ⌝ }
-    ensures bound { λ r. ⌜ length (linesOf kind) ≤ 14 ⌝ }
+// All lines, which a reading writes out once and lends: each read of the constant at a place that is not known copies it.
+pub fn table() -> [Columns; 81]
+    ensures { λ r. ⌜ r ≡ map columnsOf lines ⌝ }
+{
+    lines::LINES
+}
+
+// The lines of a kind among all; of other rows, those at the same places, where there are as many.
+pub fn lines_of(rows: &[Columns], kind: u32) -> &[Columns]
+    ensures { λ r. ⌜ now r ≡ rowsOf kind (now (rows .entry)) ⌝ }
 {
     let span = span_of(kind);
     let from = span.from;
     let to = span.to;
-    if to <= from {
-        return 0;
+    if rows.len() < to {
+        return &rows[0..0];
     }
-    let count = to - from;
-    if rows.len() < count {
-        return 0;
-    }
-    let table = lines::LINES;
-    let mut i: usize = 0;
-    while i < count {
-        let row = table[from + i];
-        rows[i] = row;
-        i += 1;
-    }
-    count
+    &rows[from..to]
 }
 
 // A string of a set.

@@ -1,4 +1,4 @@
-// The constant tables: the rules of properties, where the lines of each kind stand among them, and the sets of strings.
+// The constant tables: the rules of properties, and the sets of strings.
 
 use crate::columns;
 
@@ -160,24 +160,6 @@ pub const LINES: [[u32; 12]; 81] = [
 
 // The line of the names that are not listed: any type and any length.
 pub const FREE: [u32; 12] = [0, 0, 0, 0, 0, 0, columns::ANY_TYPE, 1, 0, 0, 0, 0];
-
-// The lines of a kind stand together: the kind, the place of its first line, and the place after its last.
-pub const SPANS: [[u32; 3]; 14] = [
-    [MODL, 0, 1],
-    [MESH, 1, 15],
-    [BLSH, 15, 20],
-    [BONE, 20, 28],
-    [IKHD, 28, 35],
-    [CNST, 35, 43],
-    [MATL, 43, 56],
-    [FILE, 56, 57],
-    [ANIM, 57, 60],
-    [CURV, 60, 66],
-    [CMOV, 66, 71],
-    [NTIF, 71, 73],
-    [INST, 73, 78],
-    [META, 78, 81],
-];
 
 // The strings that a set has: the set, the string's size and its letters, four to a number.
 pub const STRINGS: [[u32; 5]; 20] = [

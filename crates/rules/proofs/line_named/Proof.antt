@@ -18,8 +18,8 @@ Inv-loop lines name four i₀ i = (i ≤ length lines) × (i + findIn (drop i (l
 abbrev μ-loop : tie.MeasureT-loop
 μ-loop lines name four i₀ i = length lines - i
 
-u32-at-requires : tie.Need-u32-at-requires Inv-loop μ-loop
-u32-at-requires c κs = search needs
+number-at-requires : tie.Need-number-at-requires Inv-loop μ-loop
+number-at-requires c κs = search needs
 
 loop-holds : tie.Need-loop-holds Inv-loop μ-loop
 loop-holds c = (omega arith, zero-add _)
@@ -85,7 +85,7 @@ line-named-spec =
     (tie.spec
     Inv-loop
     μ-loop
-    u32-at-requires
+    number-at-requires
     loop-holds
     mul-row
     shared-slice-copy-out-row

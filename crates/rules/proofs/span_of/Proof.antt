@@ -1,86 +1,106 @@
--- `rules::span_of`: the kind is sought among those from i on. The table of spans is what the table of lines says.
-use Prim.Native.Nat.{_-_}
+-- `rules::span_of`: each arm by its kind, as the table says; the last by none of them.
 use native.Mathlib.Omega.{arith}
-use mathlib.Core.Path.{_≡_, refl, _∙_}
-use lib.ListN.{drop, drop-of-length-le}
-use borrow.Author.Needs.{needs}
+use mathlib.Core.Path.{ap, sym}
+use borrow.Author.Tests.{ne-eqb}
 use Rattle.rules.specs.Table.{lines}
-use Rattle.rules.specs.Private.{before, run, spanOf}
-use Rattle.rules.proofs.Spans.{kinds, member, span-within, span-hit, span-passed, nowhere}
+use Rattle.rules.specs.Rules.{before, run, spanOf}
+use Rattle.rules.proofs.Spans.{nowhere}
 use Rattle.rules.proofs.span_of.Statement.{statement}
 use Rattle.rules.proofs.span_of.Tie as tie
 
-abbrev Inv-loop : tie.InvT-loop
-Inv-loop kind spans i₀ i = member kind kinds ≡ member kind (drop i kinds)
-
-abbrev μ-loop : tie.MeasureT-loop
-μ-loop kind spans i₀ i = 14 - i
-
-loop-holds : tie.Need-loop-holds Inv-loop μ-loop
-loop-holds c = refl
-
-mul-span : tie.Need-mul-span Inv-loop μ-loop
-mul-span c = search needs
-
-array-copy-out-span : tie.Need-array-copy-out-span Inv-loop μ-loop
-array-copy-out-span c = search needs
-
-array-read-of : tie.Need-array-read-of Inv-loop μ-loop
-array-read-of c = search needs
-
-array-read-from : tie.Need-array-read-from Inv-loop μ-loop
-array-read-from c = search needs
-
-cast-from : tie.Need-cast-from Inv-loop μ-loop
+returns : tie.Need-returns
 unfolding lines before run spanOf
-cast-from c = omega (arith, span-within (c .before .before .before .args .kind) (c .before .before .loop .i) (c .before .loop-test .taken) refl)
+returns c = (ap spanOf (sym (c .match .keys1)), omega arith, omega arith)
 
-array-read-to : tie.Need-array-read-to Inv-loop μ-loop
-array-read-to c = search needs
-
-cast-to : tie.Need-cast-to Inv-loop μ-loop
+returns-2 : tie.Need-returns-2
 unfolding lines before run spanOf
-cast-to c = omega (arith, span-within (c .before .before .before .args .kind) (c .before .before .loop .i) (c .before .loop-test .taken) refl)
+returns-2 c = (ap spanOf (sym (c .match .keys2)), omega arith, omega arith)
 
-returns : tie.Need-returns Inv-loop μ-loop
+returns-3 : tie.Need-returns-3
 unfolding lines before run spanOf
-returns c =
-    let l = c .before .before .before in
-    span-hit (l .before .args .kind) (l .loop .i) (c .before .before .loop-test .taken) refl (c .if1 .taken)
+returns-3 c = (ap spanOf (sym (c .match .keys3)), omega arith, omega arith)
 
-add-i : tie.Need-add-i Inv-loop μ-loop
-add-i c = omega arith
-
-loop-less : tie.Need-loop-less Inv-loop μ-loop
-loop-less c = omega arith
-
-loop-again : tie.Need-loop-again Inv-loop μ-loop
+returns-4 : tie.Need-returns-4
 unfolding lines before run spanOf
-loop-again c =
-    let l = c .before .before .before in
-    l .loop .inv ∙ span-passed (l .before .args .kind) (l .loop .i) (c .before .before .loop-test .taken) refl (c .if1 .left)
+returns-4 c = (ap spanOf (sym (c .match .keys4)), omega arith, omega arith)
 
-returns-2 : tie.Need-returns-2 Inv-loop μ-loop
-returns-2 c =
-    let l = c .before in
-    nowhere (l .before .args .kind) (l .loop .inv ∙ rw (drop-of-length-le kinds {i = l .loop .i} (c .loop-test .left)))
+returns-5 : tie.Need-returns-5
+unfolding lines before run spanOf
+returns-5 c = (ap spanOf (sym (c .match .keys5)), omega arith, omega arith)
+
+returns-6 : tie.Need-returns-6
+unfolding lines before run spanOf
+returns-6 c = (ap spanOf (sym (c .match .keys6)), omega arith, omega arith)
+
+returns-7 : tie.Need-returns-7
+unfolding lines before run spanOf
+returns-7 c = (ap spanOf (sym (c .match .keys7)), omega arith, omega arith)
+
+returns-8 : tie.Need-returns-8
+unfolding lines before run spanOf
+returns-8 c = (ap spanOf (sym (c .match .keys8)), omega arith, omega arith)
+
+returns-9 : tie.Need-returns-9
+unfolding lines before run spanOf
+returns-9 c = (ap spanOf (sym (c .match .keys9)), omega arith, omega arith)
+
+returns-10 : tie.Need-returns-10
+unfolding lines before run spanOf
+returns-10 c = (ap spanOf (sym (c .match .keys10)), omega arith, omega arith)
+
+returns-11 : tie.Need-returns-11
+unfolding lines before run spanOf
+returns-11 c = (ap spanOf (sym (c .match .keys11)), omega arith, omega arith)
+
+returns-12 : tie.Need-returns-12
+unfolding lines before run spanOf
+returns-12 c = (ap spanOf (sym (c .match .keys12)), omega arith, omega arith)
+
+returns-13 : tie.Need-returns-13
+unfolding lines before run spanOf
+returns-13 c = (ap spanOf (sym (c .match .keys13)), omega arith, omega arith)
+
+returns-14 : tie.Need-returns-14
+unfolding lines before run spanOf
+returns-14 c = (ap spanOf (sym (c .match .keys14)), omega arith, omega arith)
+
+returns-15 : tie.Need-returns-15
+returns-15 c =
+    let r = c .match .rest in
+    nowhere (c .before .args .kind)
+    (simp (
+      ne-eqb _ _ (λ e. r .0 .0 .0 .0 .0 .0 .0 .0 .0 .0 .0 .0 .0 .1 (sym e)),
+      ne-eqb _ _ (λ e. r .0 .0 .0 .0 .0 .0 .0 .0 .0 .0 .0 .0 .1 (sym e)),
+      ne-eqb _ _ (λ e. r .0 .0 .0 .0 .0 .0 .0 .0 .0 .0 .0 .1 (sym e)),
+      ne-eqb _ _ (λ e. r .0 .0 .0 .0 .0 .0 .0 .0 .0 .0 .1 (sym e)),
+      ne-eqb _ _ (λ e. r .0 .0 .0 .0 .0 .0 .0 .0 .0 .1 (sym e)),
+      ne-eqb _ _ (λ e. r .0 .0 .0 .0 .0 .0 .0 .0 .1 (sym e)),
+      ne-eqb _ _ (λ e. r .0 .0 .0 .0 .0 .0 .0 .1 (sym e)),
+      ne-eqb _ _ (λ e. r .0 .0 .0 .0 .0 .0 .1 (sym e)),
+      ne-eqb _ _ (λ e. r .0 .0 .0 .0 .0 .1 (sym e)),
+      ne-eqb _ _ (λ e. r .0 .0 .0 .0 .1 (sym e)),
+      ne-eqb _ _ (λ e. r .0 .0 .0 .1 (sym e)),
+      ne-eqb _ _ (λ e. r .0 .0 .1 (sym e)),
+      ne-eqb _ _ (λ e. r .0 .1 (sym e)),
+      ne-eqb _ _ (λ e. r .1 (sym e)),
+    ))
 
 pub span-of-spec : {M : Type 1} → statement M
 span-of-spec =
     tie.close
     (tie.spec
-    Inv-loop
-    μ-loop
-    loop-holds
-    mul-span
-    array-copy-out-span
-    array-read-of
-    array-read-from
-    cast-from
-    array-read-to
-    cast-to
     returns
-    add-i
-    loop-less
-    loop-again
-    returns-2)
+    returns-2
+    returns-3
+    returns-4
+    returns-5
+    returns-6
+    returns-7
+    returns-8
+    returns-9
+    returns-10
+    returns-11
+    returns-12
+    returns-13
+    returns-14
+    returns-15)
