@@ -1,16 +1,17 @@
 -- A given number of properties from the start of some bytes on: for document 01's 9 to 11 in the reader, all that is left of the
 -- node; for its 23 in the writer and its 42 in the lookup, the body.
-use Prim.Native.Nat.{ℕ, zero, suc}
+use Prim.Native.Nat.{ℕ, zero, suc, _+_, min}
 use mathlib.Core.Bool.{Bool, cond, _&&_}
 use mathlib.Core.List.{List, [], _∷_, _++_}
 use lib.Dec.{eqb, ltb}
-use lib.ListN.{length, replicate}
+use lib.ListN.{length, drop, replicate}
 use lib.Seq.{sets}
 use Rattle.base.specs.Limits.{mostProperties}
 use Rattle.names.specs.Names.{same}
 use Rattle.props.specs.declared.Step.{Step}
 use Rattle.props.specs.declared.Step.the-variants.{Past, Refused}
-use Rattle.props.specs.Step.{stepAt, nameAt}
+use Rattle.props.specs.Types.{elementSize}
+use Rattle.props.specs.Step.{codeAt, lengthAt, startAt, dataSize, stepAt, nameAt}
 use Rattle.body.specs.declared.Passed.{Passed}
 use Rattle.body.specs.declared.Index.{Index}
 
@@ -58,7 +59,21 @@ places w = w .starts ++ (w .at ∷ [])
 abbrev pub indexOf : PropertyWalk → Index
 indexOf w = record { number = w .number; count = length (w .starts); starts = sets (replicate 65 0) 0 (places w) }
 
--- the first of the properties at these places that has the name; their number where none has. "Of two equal names the first is found."
+-- ---- a second pass over properties that were passed already judges none of them
+
+-- where the property at a place ends by its header's numbers, at most at the end of the bytes
+unfoldable pub nextAt : List ℕ → (at : ℕ) → ℕ
+nextAt s at = min (startAt s at + dataSize (elementSize (codeAt s at)) (lengthAt s at) (drop (startAt s at) s)) (length s)
+
+-- where k properties start, from a place on; and from the start on, at most 64
+unfoldable pub skim : List ℕ → (k at : ℕ) → List ℕ
+skim s zero at = []
+skim s (suc k) at = at ∷ skim s k (nextAt s at)
+
+unfoldable pub skimmed : List ℕ → (k : ℕ) → List ℕ
+skimmed s k = cond (ltb mostProperties k) [] (skim s k 0)
+
+-- ---- the first of the properties at these places that has the name; their number where none has. "Of two equal names the first is found."
 unfoldable pub firstNamed : (s name starts : List ℕ) → ℕ
 firstNamed s name [] = 0
 firstNamed s name (at ∷ more) = cond (same (nameAt s at) name) 0 (suc (firstNamed s name more))

@@ -1,9 +1,15 @@
 // The properties of a body: a given number of them from its start on, where each starts, and the first of a name.
 ghost use mathlib.Core.Path.{_≡_};
-ghost use Prim.Native.Nat.{_≤_};
+ghost use Prim.Native.Nat.{_≤_, _<_};
 ghost use lib.ListN.{length};
 ghost use Rattle.base.specs.Limits.{mostProperties};
-ghost use Rattle.body.specs.Body.{pass, properties, exactly, endOf, indexOf, firstNamed};
+ghost use Rattle.body.specs.Body.{pass, properties, exactly, endOf, indexOf, nextAt, firstNamed};
+
+fn wide(x: u16) -> usize
+    ensures { λ r. ⌜ (r ≡ x) × (r < 65536) ⌝ }
+{
+    x as usize
+}
 
 // How a walk over properties ended: with number 0 just past the last, with another refused at a property.
 pub struct Passed {
@@ -92,6 +98,28 @@ pub fn index_of(body: &[u8], count: u32) -> Index
         count: i,
         starts,
     }
+}
+
+// Where the property at a place ends by its header, at most at the end of the body: for one that was passed already.
+pub fn next_at(body: &[u8], at: usize) -> usize
+    ensures result { λ r. ⌜ r ≡ nextAt (now (body .entry)) at ⌝ }
+    ensures within { λ r. ⌜ r ≤ length (now (body .entry)) ⌝ }
+{
+    let n = body.len();
+    if n < at {
+        return n;
+    }
+    let h = props::header_at(body, at);
+    let data = 8 + wide(h.size);
+    if n - at < data {
+        return n;
+    }
+    let start = at + data;
+    let taken = props::data_size(h.code, h.length, &body[start..]);
+    if n - start < taken {
+        return n;
+    }
+    start + taken
 }
 
 // The first of the properties that start at these places which has the name; their number where none has.
