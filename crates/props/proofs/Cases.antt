@@ -1,5 +1,5 @@
 -- The cases of the stages, each from the tests that lead to it; and the step over the part of a body from a place on.
-use mathlib.Core.Path.{_≡_, refl, sym, _∙_}
+use mathlib.Core.Path.{_≡_, refl, sym}
 use mathlib.Core.Bool.{Bool, true, false, cond, not}
 use mathlib.Core.List.{List}
 use Prim.Native.Nat.{ℕ, _+_, _-_, _*_, _<_, _≤_}
@@ -13,7 +13,6 @@ use borrow.Author.Tests.{lt-ltb, le-ltb, ltb-false}
 use Rattle.le.specs.Le.{numberAt}
 use Rattle.le.proofs.Laws.{rest, length-rest, drop-rest, numberAt-rest}
 use Rattle.base.specs.Refusals.{refusedOr}
-use Rattle.base.proofs.Refusals.{is-refused}
 use Rattle.base.proofs.Tests.{by-test}
 use Rattle.names.specs.Names.{sizeOk, bytesOk}
 use Rattle.props.specs.declared.Size.{Size}
@@ -25,7 +24,7 @@ use Rattle.props.specs.declared.Step.{Step}
 use Rattle.props.specs.declared.Step.the-variants.{Past, Refused}
 use Rattle.props.specs.Types.{elementSize, noSuch}
 use Rattle.props.specs.Step.{headerRefusal, dataRefusal, toZero, lengthOk, dataSize, codeAt, sizeAt, lengthAt, nameAt, startAt, stepAt}
-use Rattle.props.specs.Private.{fit, extentOf, dataOf}
+use Rattle.props.specs.Private.{fit, dataOf, nameOut}
 
 -- ---- the header
 module _ (code size room : ℕ) where
@@ -76,15 +75,6 @@ module _ (n room : ℕ) where
 
   pub fit-in : n ≤ room → Takes n ≡ fit n room
   fit-in h = rw (le-ltb _ _ h)
-
-module _ (size : Size) (len : ℕ) (bs : List ℕ) where
-  pub data-refused : {n : ℕ} → n ≡ dataRefusal size len (length bs) → (n ≡ 0 → ⊥) → noData n ≡ dataOf size len bs
-  unfolding dataOf
-  data-refused {n} e h = sym (is-refused n (noData n) (extentOf size len bs) h) ∙ rw e
-
-  pub data-right : dataRefusal size len (length bs) ≡ 0 → extentOf size len bs ≡ dataOf size len bs
-  unfolding dataOf
-  data-right e = rw e
 
 -- elements of a size fit, or are refused by their numbers
 pub elements-fit : (w len : ℕ) (bs : List ℕ) → dataOf (Bytes w) len bs ≡ fit (len * w) (length bs)
@@ -156,20 +146,56 @@ module _ (s : List ℕ) (at : ℕ) where
       let first : at + 0 ≡ at = omega arith in
       rw (by-stages, length-rest s at, drop-rest s at 8, drop-rest s at (8 + size), sum, c, z, l, numberAt-rest 2 s at 0, numberAt-rest 2 s at 2, numberAt-rest 4 s at 4, first)
 
-  pub past-end : length s < at → Refused 10 ≡ stepAt s at
+-- the step in the code's order, which tells a wrong type with the data, or before a name that does not fit
+data-typed : (at start : ℕ) (size : Size) (len : ℕ) (bs : List ℕ) →
+    cond (noSuch size) (Refused 11) (past at start (dataOf size len bs)) ≡ past at start (dataOf size len bs)
+unfolding dataRefusal dataOf
+data-typed at start (Bytes w) len bs = refl
+data-typed at start Text len bs = refl
+data-typed at start NoSuch len bs = refl
+
+type-first : (t : Bool) → Refused (cond t 11 10) ≡ cond t (Refused 11) (Refused 10)
+type-first true = refl
+type-first false = refl
+
+type-alike : (t : Bool) (step : Step) → step ≡ Refused 11 → Refused 11 ≡ cond t (Refused 11) step
+type-alike true step e = refl
+type-alike false step e = sym e
+
+module _ (s : List ℕ) (at : ℕ) where
+  abbrev type : Bool
+  type = noSuch (elementSize (codeAt s at))
+
+  pub header-out : length s - at < 8 → Refused 10 ≡ stepAt s at
   unfolding stepAt
-  past-end h = rw (lt-ltb (length s - at) 8 (omega arith))
+  header-out h = rw (lt-ltb _ _ h)
 
--- the step by what was read of the header's part
+  module _ (header : 8 ≤ length s - at) where
+    pub size-wrong : sizeOk (sizeAt s at) ≡ false → Refused 11 ≡ stepAt s at
+    unfolding stepAt
+    size-wrong e = rw (le-ltb _ _ header, e) (type-alike type (Refused 11) refl)
+
+    module _ (sized : sizeOk (sizeAt s at) ≡ true) where
+      pub name-unfit : length s - at < 8 + sizeAt s at → Refused (nameOut (codeAt s at)) ≡ stepAt s at
+      unfolding stepAt
+      name-unfit h = rw (le-ltb _ _ header, sized, lt-ltb _ _ h) (type-first type)
+
+      module _ (room : 8 + sizeAt s at ≤ length s - at) where
+        pub bytes-wrong : bytesOk (nameAt s at) ≡ false → Refused 11 ≡ stepAt s at
+        unfolding stepAt
+        bytes-wrong e = rw (le-ltb _ _ header, sized, le-ltb _ _ room, e) (type-alike type (Refused 11) refl)
+
+        pub by-extent : bytesOk (nameAt s at) ≡ true →
+            past at (startAt s at) (dataOf (elementSize (codeAt s at)) (lengthAt s at) (drop (startAt s at) s)) ≡ stepAt s at
+        unfolding stepAt
+        by-extent e =
+            let size = elementSize (codeAt s at) in
+            let bs = drop (startAt s at) s in
+            rw (le-ltb _ _ header, sized, le-ltb _ _ room, e, data-by at (startAt s at) size (lengthAt s at) bs)
+            (sym (data-typed at (startAt s at) size (lengthAt s at) bs))
+
+-- the step by what was read of a header's part that is not refused
 module _ (s : List ℕ) (at : ℕ) {code size : ℕ} (c : code ≡ numberAt 2 (rest s at) 0) (z : size ≡ numberAt 2 (rest s at) 2) where
-  pub header-refused : {n : ℕ} → n ≡ headerRefusal code size (length (rest s at)) → (n ≡ 0 → ⊥) → Refused n ≡ stepAt s at
-  header-refused {n} e h = sym (is-refused n (Refused n) (cond (bytesOk (take size (drop 8 (rest s at)))) (past at (at + (8 + size)) (dataOf (elementSize code) (numberAt 4 (rest s at) 4) (drop (8 + size) (rest s at)))) (Refused 11)) h)
-      ∙ rw e (step-rest s at c z refl)
-
-  module _ (right : headerRefusal code size (length (rest s at)) ≡ 0) where
-    pub name-refused : bytesOk (take size (drop 8 (rest s at))) ≡ false → Refused 11 ≡ stepAt s at
-    name-refused e = rw (right, e) at (step-rest s at c z refl)
-
-    pub by-data : bytesOk (take size (drop 8 (rest s at))) ≡ true → {len : ℕ} → len ≡ numberAt 4 (rest s at) 4
-        → {e : Extent} → e ≡ dataOf (elementSize code) len (drop (8 + size) (rest s at)) → past at (at + (8 + size)) e ≡ stepAt s at
-    by-data ok l d = rw d (rw (right, ok) at (step-rest s at c z l))
+  pub by-data : headerRefusal code size (length (rest s at)) ≡ 0 → bytesOk (take size (drop 8 (rest s at))) ≡ true → {len : ℕ} → len ≡ numberAt 4 (rest s at) 4
+      → {e : Extent} → e ≡ dataOf (elementSize code) len (drop (8 + size) (rest s at)) → past at (at + (8 + size)) e ≡ stepAt s at
+  by-data right ok l d = rw d (rw (right, ok) at (step-rest s at c z l))

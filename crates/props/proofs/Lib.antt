@@ -1,4 +1,5 @@
 pub mod Laws
+pub mod Header
 pub mod Cases
 pub mod Within
 pub mod Statements

@@ -10,6 +10,7 @@ use Rattle.le.specs.Le.{numberAt}
 use Rattle.names.specs.Names.{sizeOk, bytesOk}
 use Rattle.props.specs.declared.Size.{Size}
 use Rattle.props.specs.declared.Size.the-variants.{Bytes, Text, NoSuch}
+use Rattle.props.specs.declared.PropertyHeader.{PropertyHeader}
 use Rattle.props.specs.declared.Step.{Step}
 use Rattle.props.specs.declared.Step.the-variants.{Past, Refused}
 use Rattle.props.specs.Types.{elementSize, noSuch}
@@ -23,6 +24,10 @@ sizeAt s at = numberAt 2 s (at + 2)
 
 abbrev pub lengthAt : List ℕ → (at : ℕ) → ℕ
 lengthAt s at = numberAt 4 s (at + 4)
+
+-- "type u16, name size u16, array length u32"
+abbrev pub headerAt : List ℕ → (at : ℕ) → PropertyHeader
+headerAt s at = record { code = codeAt s at; size = sizeAt s at; length = lengthAt s at }
 
 unfoldable pub nameAt : List ℕ → (at : ℕ) → List ℕ
 nameAt s at = take (sizeAt s at) (drop (at + 8) s)

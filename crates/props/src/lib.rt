@@ -4,8 +4,8 @@ ghost use Prim.Native.Nat.{_+_, _≤_, _<_};
 ghost use lib.Dec.{leb};
 ghost use lib.ListN.{length, drop};
 ghost use Rattle.props.specs.Types.{elementSize, noSuch, sizeNumbers};
-ghost use Rattle.props.specs.Step.{headerRefusal, dataRefusal, toZero, stepAt, codeAt, lengthAt, nameAt, startAt, dataAt, stepNumbers};
-ghost use Rattle.props.specs.Private.{dataOf};
+ghost use Rattle.props.specs.Step.{headerRefusal, dataRefusal, toZero, dataSize, stepAt, headerAt, codeAt, lengthAt, nameAt, startAt, dataAt, stepNumbers};
+ghost use Rattle.props.specs.Private.{fit, dataOf, nameOut};
 
 // The type codes, by the letters that document 01 gives them.
 pub const BYTE: u16 = 0x62; // b
@@ -159,28 +159,88 @@ enum Extent {
     Refused(u32),
 }
 
-// The data at the start of `rest`, as `length` elements of this size.
+// So many bytes of the room, where they fit.
+fn fit(n: usize, room: usize) -> Extent
+    ensures { λ r. ⌜ r ≡ fit n room ⌝ }
+{
+    if room < n {
+        return Extent::Refused(10);
+    }
+    Extent::Takes(n)
+}
+
+// The data at the start of `rest`, as `length` elements of this size: one match tells a wrong type, a wrong string length
+// and data that does not fit.
 fn data_of(size: Size, length: u32, rest: &[u8]) -> Extent
     ensures { λ r. ⌜ r ≡ dataOf size length (now (rest .entry)) ⌝ }
 {
-    let number = data_refusal(size, length, rest.len());
-    if number != 0 {
-        return Extent::Refused(number);
-    }
     match size {
-        Size::Bytes(w) => {
-            let n = length as usize * w as usize;
-            Extent::Takes(n)
-        }
+        Size::Bytes(w) => fit(length as usize * w as usize, rest.len()),
         Size::Text => {
-            let n = to_zero(rest);
-            if rest.len() < n {
-                return Extent::Refused(10);
+            if length == 1 {
+                fit(to_zero(rest), rest.len())
+            } else {
+                Extent::Refused(11)
             }
-            Extent::Takes(n)
         }
         Size::NoSuch => Extent::Refused(11),
     }
+}
+
+// How many bytes the data at the start of `rest` takes, where its property was passed already.
+pub fn data_size(code: u16, length: u32, rest: &[u8]) -> usize
+    ensures { λ r. ⌜ r ≡ dataSize (elementSize code) length (now (rest .entry)) ⌝ }
+{
+    match element_size(code) {
+        Size::Bytes(w) => length as usize * w as usize,
+        Size::Text => to_zero(rest),
+        Size::NoSuch => 0,
+    }
+}
+
+// A property's header.
+pub struct PropertyHeader {
+    pub code: u16,
+    pub size: u16,
+    pub length: u32,
+}
+
+// The header at the start of these bytes, all by one number.
+fn header_of(bytes: &[u8]) -> PropertyHeader
+    ensures { λ r. ⌜ r ≡ headerAt (now (bytes .entry)) 0 ⌝ }
+{
+    let number = le::u64_at(bytes, 0);
+    let code = (number % 65536) as u16;
+    let size = (number / 65536 % 65536) as u16;
+    let length = (number / 4294967296) as u32;
+    PropertyHeader { code, size, length }
+}
+
+// The header of the property at a place. It is read from just 8 bytes where they are there, so that no byte of it is
+// tested for.
+pub fn header_at(body: &[u8], at: usize) -> PropertyHeader
+    ensures { λ r. ⌜ r ≡ headerAt (now (body .entry)) at ⌝ }
+{
+    let n = body.len();
+    if n < at {
+        return PropertyHeader {
+            code: 0,
+            size: 0,
+            length: 0,
+        };
+    }
+    if n - at < 8 {
+        return header_of(&body[at..]);
+    }
+    let end = at + 8;
+    header_of(&body[at..end])
+}
+
+// What a name that does not fit is refused with: a wrong type comes first.
+fn name_out(code: u16) -> u32
+    ensures { λ r. ⌜ r ≡ nameOut code ⌝ }
+{
+    if no_such(element_size(code)) { 11 } else { 10 }
 }
 
 // A position in a body.
@@ -202,32 +262,36 @@ pub enum Step {
 }
 
 impl Cursor {
-    // Steps past one property: header fits, type, name size, name fits, name bytes, string length, data fits.
+    // Steps past one property: header fits, type, name size, name fits, name bytes, string length, data fits. A wrong type is
+    // refused with the number of a wrong name, so it is told last, with the data; but before a name that does not fit.
     pub fn step(self, body: &[u8]) -> Step
         ensures result { λ r. ⌜ r ≡ stepAt (now (body .entry)) (self .at) ⌝ }
         ensures numbers { λ r. ⌜ stepNumbers r ≡ stepNumbers (stepAt (now (body .entry)) (self .at)) ⌝ }
     {
         let at = self.at;
-        if body.len() < at {
+        let n = body.len();
+        if n < at {
             return Step::Refused(10);
         }
-        let header = &body[at..];
-        let code = le::u16_at(header, 0);
-        let size = le::u16_at(header, 2);
-        let refusal = header_refusal(code, size, header.len());
-        if refusal != 0 {
-            return Step::Refused(refusal);
+        if n - at < 8 {
+            return Step::Refused(10);
         }
-        let data = 8 + wide(size);
-        if !names::bytes_ok(&header[8..data]) {
+        let name = at + 8;
+        let header = header_of(&body[at..name]);
+        if !names::size_ok(header.size) {
             return Step::Refused(11);
         }
-        let length = le::u32_at(header, 4);
-        match data_of(element_size(code), length, &header[data..]) {
-            Extent::Takes(n) => {
-                let name = at + 8;
-                let start = at + data;
-                let end = start + n;
+        let size = wide(header.size);
+        if n - name < size {
+            return Step::Refused(name_out(header.code));
+        }
+        let start = name + size;
+        if !names::bytes_ok(&body[name..start]) {
+            return Step::Refused(11);
+        }
+        match data_of(element_size(header.code), header.length, &body[start..]) {
+            Extent::Takes(k) => {
+                let end = start + k;
                 Step::Past {
                     offsets: Offsets { name, start },
                     next: Cursor { at: end },

@@ -1,41 +1,26 @@
--- `props::data_of`: refused by its numbers, or the extent by the size that the match found.
-use native.Mathlib.Omega.{arith}
-use borrow.Author.Needs.{needs}
-use mathlib.Core.Path.{_≡_, sym, ap, _∙_}
+-- `props::data_of`: the extent by the size that the match found; a product with a size does not wrap.
+use mathlib.Core.Path.{sym, ap, _∙_}
 use lib.ListN.{length}
+use borrow.Author.Tests.{eq-eqb, ne-eqb}
 use Rattle.props.specs.declared.Size.{Size}
-use Rattle.props.specs.declared.Extent.the-variants.{Takes}
-use Rattle.props.specs.Step.{toZero}
-use Rattle.props.specs.Private.{extentOf, dataOf}
-use Rattle.props.proofs.Cases.{product-fits, fit-out, fit-in, data-refused, data-right}
+use Rattle.props.specs.Step.{dataRefusal}
+use Rattle.props.specs.Private.{fit, dataOf}
+use Rattle.props.proofs.Cases.{product-fits, elements-fit}
+use borrow.Author.Needs.{needs}
 use Rattle.props.proofs.data_of.Statement.{statement}
 use Rattle.props.proofs.data_of.Tie as tie
-
--- where its numbers are right, the extent is the answer
-right : (c : tie.Else1) {size : Size} → c .before .before .before .args .size ≡ size →
-    extentOf size (c .before .before .before .args .length) (c .before .before .before .args .rest .now) ≡
-    dataOf (c .before .before .before .args .size) (c .before .before .before .args .length) (c .before .before .before .args .rest .now)
-right c e =
-    let a = c .before .before .before .args in
-    ap (λ (z : Size). extentOf z (a .length) (a .rest .now)) (sym e)
-    ∙ data-right (a .size) (a .length) (a .rest .now) (sym (c .before .data-refusal .ensures) ∙ c .if1 .left)
-
-data-refusal-requires : tie.Need-data-refusal-requires
-data-refusal-requires c κs = search needs
-
-returns : tie.Need-returns
-returns c =
-    let a = c .before .before .before .args in
-    data-refused (a .size) (a .length) (a .rest .now) (c .before .data-refusal .ensures) (c .if1 .taken)
 
 enum-known-size : tie.Need-enum-known-size
 enum-known-size c = search needs
 
-cast-n : tie.Need-cast-n
-cast-n c = search needs
+cast-fit : tie.Need-cast-fit
+cast-fit c = search needs
 
-mul-n : tie.Need-mul-n
-mul-n c = product-fits (search needs) (search needs)
+mul-fit : tie.Need-mul-fit
+mul-fit c = product-fits (search needs) (search needs)
+
+fit-requires : tie.Need-fit-requires
+fit-requires c κs = search needs
 
 enum-told : tie.Need-enum-told
 enum-told c = search needs
@@ -43,40 +28,46 @@ enum-told c = search needs
 to-zero-requires : tie.Need-to-zero-requires
 to-zero-requires c κs = search needs
 
-returns-2 : tie.Need-returns-2
-returns-2 c =
-    let t = c .before .before in
-    let s = t .before .before .before .before .before .args .rest .now in
-    fit-out (toZero s) (length s) (omega arith) ∙ right (t .before .before) (t .enum-told .given .1)
+fit-requires-2 : tie.Need-fit-requires-2
+fit-requires-2 c κs = search needs
 
 enum-told-2 : tie.Need-enum-told-2
 enum-told-2 c = search needs
 
+returns : tie.Need-returns
+returns c =
+    let s = c .before .before in
+    let a = s .before .before .before .args in
+    c .fit .ensures ∙ sym (elements-fit (s .size .given .0 .0) (a .length) (a .rest .now)) ∙ ap (λ (z : Size). dataOf z (a .length) (a .rest .now)) (sym (s .size .given .1))
+
+returns-2 : tie.Need-returns-2
+unfolding dataRefusal dataOf
+returns-2 c =
+    let t = c .before .before in
+    let bs = t .before .before .before .before .args .rest .now in
+    c .fit2 .ensures ∙ ap (λ n. fit n (length bs)) (c .before .to-zero .ensures) ∙ rw (t .before .enum-told .given .1, eq-eqb _ _ (t .if1 .taken))
+
 returns-3 : tie.Need-returns-3
-returns-3 c = right (c .before .before .before) (c .before .size .given .1)
+unfolding dataRefusal dataOf
+returns-3 c = rw (c .before .enum-told .given .1, ne-eqb _ _ (c .if1 .left))
 
 returns-4 : tie.Need-returns-4
-returns-4 c =
-    let t = c .before .before in
-    let s = t .before .before .before .before .before .args .rest .now in
-    ap Takes (c .before .to-zero .ensures) ∙ fit-in (toZero s) (length s) (omega arith) ∙ right (t .before .before) (t .enum-told .given .1)
-
-returns-5 : tie.Need-returns-5
-returns-5 c = right (c .before .before) (c .enum-told2 .given .1)
+unfolding dataRefusal dataOf
+returns-4 c = rw (c .enum-told2 .given .1)
 
 pub data-of-spec : {M : Type 1} → statement M
 data-of-spec =
     tie.close
     (tie.spec
-    data-refusal-requires
-    returns
     enum-known-size
-    cast-n
-    mul-n
+    cast-fit
+    mul-fit
+    fit-requires
     enum-told
     to-zero-requires
-    returns-2
+    fit-requires-2
     enum-told-2
+    returns
+    returns-2
     returns-3
-    returns-4
-    returns-5)
+    returns-4)
