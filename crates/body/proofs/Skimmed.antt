@@ -2,11 +2,11 @@
 use mathlib.Core.Path.{_≡_, refl, ap, _∙_}
 use mathlib.Core.Bool.{Bool, true, false, cond, not}
 use mathlib.Core.List.{List, [], _∷_}
-use Prim.Native.Nat.{ℕ, zero, suc, _+_, _-_, _≤_}
+use Prim.Native.Nat.{ℕ, zero, suc, _+_, _-_, _≤_, _<_}
 use native.Mathlib.Omega.{arith}
 use lib.Dec.{ltb}
 use lib.ListN.{length, drop, getD}
-use borrow.Author.Tests.{ltb-false}
+use borrow.Author.Tests.{lt-ltb, le-ltb, ltb-false}
 use Rattle.base.proofs.Tests.{by-test}
 use Rattle.le.proofs.Laws.{rest, rest-drop}
 use Rattle.props.specs.declared.PropertyHeader.{PropertyHeader}
@@ -130,3 +130,12 @@ module _ (s : List ℕ) where
   pub skimmed-few : (k : ℕ) → length (skimmed s k) ≤ 64
   unfolding skimmed
   skimmed-few k = by-test (ltb 64 k) (λ t. rw t (omega arith)) (λ t. rw (t, length-skim k 0) (ltb-false 64 k t))
+
+  -- for callers: the count that is taken, none where it is over 64
+  pub skim-none : (k n : ℕ) → 64 < k → n ≡ 0 → skim s n 0 ≡ skimmed s k
+  unfolding skimmed skim
+  skim-none k n h e = rw (e, lt-ltb 64 k h)
+
+  pub skim-all : (k n : ℕ) → k ≤ 64 → n ≡ k → skim s n 0 ≡ skimmed s k
+  unfolding skimmed
+  skim-all k n h e = rw (e, le-ltb 64 k h)

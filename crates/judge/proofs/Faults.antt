@@ -119,7 +119,15 @@ module _ (e : Entry) (s : List ℕ) (at : ℕ) (b : Beside) where
   unfolding keptAt
   held-other n q k = (k ∙ rw (q, other-faces n) (no-faces (faultOf (lineOf e .held) s at b)), rw k (omega arith), rw k (omega arith))
 
-  -- a property that is held to none of these breaks nothing
+  -- a property that is held to nothing, or to be a link, breaks nothing
+  pub idle : (eqb (e .held) 0 || eqb (e .held) 9) ≡ true → Right ≡ faultOf (lineOf e .held) s at b
+  unfolding faultOf
+  idle h =
+      by-test (eqb (e .held) 0)
+      (λ t. rw (eqb-true (e .held) 0 t))
+      (λ t. let nine : eqb (e .held) 9 ≡ true = rw t at h in rw (eqb-true (e .held) 9 nine))
+
+  -- and so does one that is held to none of these
   pub unheld : (e .held ≡ 1 → ⊥) → (e .held ≡ 2 → ⊥) → (e .held ≡ 3 → ⊥) → (e .held ≡ 4 → ⊥) → (e .held ≡ 5 → ⊥) → (e .held ≡ 6 → ⊥) →
       (e .held ≡ 7 → ⊥) → (e .held ≡ 8 → ⊥) → faultOf (lineOf e .held) s at b ≡ Right
   unfolding faultOf

@@ -1,29 +1,31 @@
 -- 13: a name of another key is another name; a property that is right is passed; and what is noted of those passed.
-use Prim.Native.Nat.{ℕ, suc, _+_, _≤_, _<_}
+use Prim.Native.Nat.{ℕ, zero, suc, _+_, _-_, _/_, _%_, _^_, _≤_, _<_}
 use native.Mathlib.Omega.{arith}
 use native.Mathlib.Numerals.{add-one}
-use mathlib.Core.Path.{_≡_, refl, sym, ap, _∙_}
+use mathlib.Core.Path.{_≡_, refl, sym, ap, _∙_, subst}
 use mathlib.Core.Bool.{Bool, true, false, cond, _||_, true≢false, or-false, or-assoc}
-use mathlib.Core.List.{List, [], _∷_, _++_, map, map-append}
+use mathlib.Core.List.{List, [], _∷_, _++_, map, map-append, append-assoc, append-nil}
 use lib.Dec.{eqb}
-use lib.ListN.{length, take, drop, getD, set, drop-of-length-le, length-set}
-use lib.Seq.{drop-cons, take-suc, take-suc-set, take-all, sets, length-sets}
+use lib.ListN.{length, take, drop, getD, set, length-map, drop-of-length-le}
+use lib.Seq.{drop-cons, drop-drop, take-suc, take-append-seam, length-take-le, sets, sets-eq, length-sets}
 use borrow.Author.Tests.{eq-eqb, le-ltb}
 use Rattle.le.specs.Le.{numberAt}
 use Rattle.base.proofs.Stores.{sets-more}
 use Rattle.base.proofs.Tests.{by-test}
 use Rattle.names.specs.Names.{same}
 use Rattle.names.proofs.Laws.{same-eq}
-use Rattle.props.specs.Step.{codeAt, lengthAt, nameAt}
-use Rattle.body.specs.Body.{firstNamed}
+use Rattle.props.specs.declared.PropertyHeader.{PropertyHeader}
+use Rattle.props.specs.Step.{headerAt, codeAt, lengthAt, nameAt}
+use Rattle.body.specs.Body.{nextAt, skim, firstNamed}
+use Rattle.body.proofs.Skimmed.{length-skim}
 use Rattle.rules.specs.Table.{Line, free}
 use Rattle.rules.specs.Rules.{misfits, findIn}
 use Rattle.rules.proofs.Laws.{found}
 use Rattle.base.specs.declared.Refusal.{Refusal}
-use Rattle.judge.specs.Properties.{has}
-use Rattle.judge.specs.Typed.{isMistyped, typed}
+use Rattle.judge.specs.Properties.{lineNumber, has}
+use Rattle.judge.specs.Typed.{isMistyped, typed, rightlyTyped, keyFrom, keyOf, keyAt}
 use Rattle.base.specs.Refusals.{refusal, noRefusal}
-use Rattle.judge.specs.Private.{lineNumber, keyAt, hasKey}
+use Rattle.judge.specs.Private.{hasKey, Noted}
 
 -- ---- keys
 module _ (any : Bool) (keys : List ℕ) (key i : ℕ) where
@@ -41,76 +43,202 @@ neither true b e = absurd (true≢false e)
 neither false b e = (refl, e)
 
 -- a property of the name has the name's key
-unnamed : (s name starts : List ℕ) → hasKey (map (keyAt s) starts) (numberAt 8 name 0) ≡ false → firstNamed s name starts ≡ length starts
+unnamed : (s name starts : List ℕ) → hasKey (map (keyAt s) starts) (keyOf name) ≡ false → firstNamed s name starts ≡ length starts
 unfolding hasKey firstNamed
 unnamed s name [] e = refl
 unnamed s name (at ∷ more) e =
-    let both = neither (eqb (keyAt s at) (numberAt 8 name 0)) (hasKey (map (keyAt s) more) (numberAt 8 name 0)) e in
+    let both = neither (eqb (keyAt s at) (keyOf name)) (hasKey (map (keyAt s) more) (keyOf name)) e in
     by-test (same (nameAt s at) name)
-    (λ t. absurd (true≢false (sym (eq-eqb _ _ (ap (λ n. numberAt 8 n 0) (same-eq (nameAt s at) name t))) ∙ both .0)))
+    (λ t. absurd (true≢false (sym (eq-eqb _ _ (ap keyOf (same-eq (nameAt s at) name t))) ∙ both .0)))
     (λ t. rw t (ap suc (unnamed s name more (both .1))))
 
-pub absent : (s name starts : List ℕ) {key : ℕ} {keys : List ℕ} → key ≡ numberAt 8 name 0 → keys ≡ map (keyAt s) starts →
+pub absent : (s name starts : List ℕ) {key : ℕ} {keys : List ℕ} → key ≡ keyOf name → keys ≡ map (keyAt s) starts →
     hasKey keys key ≡ false → has s starts name ≡ false
 absent s name starts {key} k ks e =
     let end = unnamed s name starts (ap (hasKey (map (keyAt s) starts)) (sym k) ∙ ap (λ l. hasKey l key) (sym ks) ∙ e) in
     le-ltb (firstNamed s name starts) (length starts) (omega arith)
 
+-- the key, eight letters at a time
+module _ (name : List ℕ) where
+  -- what is left of it from a place on, with the sum of the letters before
+  abbrev pub keyLeft : (sum i : ℕ) → ℕ
+  keyLeft sum i = keyFrom ((length name - i + 7) / 8) sum (drop i name)
+
+  module _ (sum i : ℕ) (h : i < length name) where
+    pub key-step : {eight twice next : ℕ} → eight ≡ numberAt 8 name i → twice ≡ (sum + sum) % 2 ^ 64 → next ≡ (twice + eight) % 2 ^ 64 →
+        keyLeft next (i + 8) ≡ keyLeft sum i
+    unfolding keyFrom numberAt
+    key-step {eight} {twice} {next} e t n =
+        let left = (length name - (i + 8) + 7) / 8 in
+        let more : (length name - i + 7) / 8 ≡ suc left = omega (arith, h) in
+        let letters : numberAt 8 (drop i name) 0 ≡ eight = sym e in
+        let summed : ((sum + sum) % 2 ^ 64 + numberAt 8 (drop i name) 0) % 2 ^ 64 ≡ next =
+        ap (λ m. ((sum + sum) % 2 ^ 64 + m) % 2 ^ 64) letters ∙ ap (λ m. (m + eight) % 2 ^ 64) (sym t) ∙ sym n in
+        sym (ap (λ k. keyFrom k sum (drop i name)) more ∙ ap (λ m. keyFrom left m (drop 8 (drop i name))) summed ∙ ap (keyFrom left next) (drop-drop 8 i name))
+
+  pub key-done : (sum i : ℕ) → length name ≤ i → sum ≡ keyLeft sum i
+  unfolding keyFrom
+  key-done sum i h =
+      let none : (length name - i + 7) / 8 ≡ 0 = omega (arith, h) in
+      sym (ap (λ k. keyFrom k sum (drop i name)) none)
+
+  pub key-start : keyLeft 0 0 ≡ keyOf name
+  unfolding keyOf
+  key-start = let whole : length name - 0 + 7 ≡ length name + 7 = omega arith in ap (λ n. keyFrom (n / 8) 0 name) whole
+
 -- ---- properties
-module _ (starts : List ℕ) (i : ℕ) (h : i < length starts) where
-  one-more : (f : ℕ → ℕ) → map f (take (i + 1) starts) ≡ map f (take i starts) ++ (f (getD starts i 0) ∷ [])
-  one-more f = rw (add-one i, take-suc starts i 0 h) (map-append f (take i starts) (getD starts i 0 ∷ []))
 
-  module _ (f : ℕ → ℕ) {v : ℕ} (e : v ≡ f (getD starts i 0)) where
-    keys-more : (keys : List ℕ) → i < length keys → take i keys ≡ map f (take i starts) →
-        take (i + 1) (set keys i v) ≡ map f (take (i + 1) starts)
-    keys-more keys k t =
-        ap (λ n. take n (set keys i v)) (add-one i) ∙ take-suc-set keys i v k ∙ rw (t, e) (sym (one-more f))
+-- those that come from a place on, after those before
+module _ (ls : List Line) (s : List ℕ) where
+  -- of those that are all right none is left out
+  pub all-right : (before starts : List ℕ) → typed ls s before starts .number ≡ 0 → rightlyTyped ls s before starts ≡ starts
+  unfolding typed rightlyTyped
+  all-right before [] e = refl
+  all-right before (at ∷ more) e =
+      by-test (isMistyped ls s before at)
+      (λ t. absurd (thirteen (rw t at e)))
+      (λ t. rw t (ap (λ l. at ∷ l) (all-right (before ++ (at ∷ [])) more (rw t at e))))
+    where
+      thirteen : suc 12 ≡ 0 → ⊥
+      thirteen q = omega (arith, q)
 
--- what those from a place on say, after those before
-abbrev typedFrom : List Line → (s starts : List ℕ) (i : ℕ) → Refusal
-typedFrom ls s starts i = typed ls s (take i starts) (drop i starts)
+pub first-of : (l ns : List ℕ) (n : ℕ) → n ≡ length ns → n ≤ length l → take n (sets l 0 ns) ≡ ns
+first-of l ns n e h = rw (e, sets-eq ns l 0 (omega (arith, e, h))) (take-append-seam ns (drop (0 + length ns) l))
 
--- those before i are right, and their keys and numbers are noted
-pub record Noted (ls : List Line) (s starts old numbers keys : List ℕ) (i : ℕ) : Type 0 where
-  pub within : i ≤ length starts
-  pub sized : length keys ≡ 64
-  pub keyed : take i keys ≡ map (keyAt s) (take i starts)
-  pub noted : numbers ≡ sets old 0 (map (lineNumber ls s) (take i starts))
-  pub passes : typedFrom ls s starts i ≡ typed ls s [] starts
+map-same : (l : List ℕ) → map (λ x. x) l ≡ l
+map-same [] = refl
+map-same (x ∷ l) = ap (λ m. x ∷ m) (map-same l)
 
-module _ {ls : List Line} {s starts old numbers keys : List ℕ} {i : ℕ} (o : Noted ls s starts old numbers keys i) where
-  pub as-long : length numbers ≡ length old
-  as-long = ap length (o .noted) ∙ length-sets old 0 (map (lineNumber ls s) (take i starts))
+-- the first `count` properties are judged one after the other; those before i are right, and noted
+pub record Noting (ls : List Line) (s : List ℕ) (count : ℕ) (starts₀ numbers₀ keys₀ starts₁ numbers₁ keys₁ : List ℕ) (at i : ℕ) : Type 0 where
+  pub within : i ≤ count
+  pub inside : at ≤ length s
+  pub left : drop i (skim s count 0) ≡ skim s (count - i) at
+  pub starts : starts₁ ≡ sets starts₀ 0 (map (λ x. x) (take i (skim s count 0)))
+  pub numbers : numbers₁ ≡ sets numbers₀ 0 (map (lineNumber ls s) (take i (skim s count 0)))
+  pub keys : keys₁ ≡ sets keys₀ 0 (map (keyAt s) (take i (skim s count 0)))
+  pub passes : typed ls s (take i (skim s count 0)) (drop i (skim s count 0)) ≡ typed ls s [] (skim s count 0)
+  pub rights : take i (skim s count 0) ++ rightlyTyped ls s (take i (skim s count 0)) (drop i (skim s count 0)) ≡ rightlyTyped ls s [] (skim s count 0)
 
-  pub all-noted : length starts ≤ i → (noRefusal ≡ typed ls s [] starts) × (numbers ≡ sets old 0 (map (lineNumber ls s) starts))
-  unfolding typed
+pub noting : (ls : List Line) (s : List ℕ) (count : ℕ) (a b c : List ℕ) → Noting ls s count a b c a b c 0 0
+noting ls s count a b c = record { within = omega arith; inside = omega arith; left = let whole : count ≡ count - 0 = omega arith in ap (λ k. skim s k 0) whole; starts = refl; numbers = refl; keys = refl; passes = refl; rights = refl }
+
+module _ {ls : List Line} {s : List ℕ} {count : ℕ} {starts₀ numbers₀ keys₀ starts₁ numbers₁ keys₁ : List ℕ} {at i : ℕ}
+    (o : Noting ls s count starts₀ numbers₀ keys₀ starts₁ numbers₁ keys₁ at i) where
+  abbrev all : List ℕ
+  all = skim s count 0
+
+  abbrev done : List ℕ
+  done = take i all
+
+  -- the buffers keep their lengths
+  pub starts-long : length starts₁ ≡ length starts₀
+  starts-long = ap length (o .starts) ∙ length-sets starts₀ 0 (map (λ x. x) done)
+
+  pub numbers-long : length numbers₁ ≡ length numbers₀
+  numbers-long = ap length (o .numbers) ∙ length-sets numbers₀ 0 (map (lineNumber ls s) done)
+
+  pub keys-long : length keys₁ ≡ length keys₀
+  keys-long = ap length (o .keys) ∙ length-sets keys₀ 0 (map (keyAt s) done)
+
+  many : length done ≡ i
+  many = length-take-le i all (omega (arith, o .within, length-skim s count 0))
+
+  -- the keys before are those of the properties before
+  pub before-are : i ≤ length starts₀ → take i starts₁ ≡ done
+  before-are h = ap (take i) (o .starts ∙ ap (sets starts₀ 0) (map-same done)) ∙ first-of starts₀ done i (sym many) h
+
+  pub keys-are : i ≤ length starts₀ → i ≤ length keys₀ → take i keys₁ ≡ map (keyAt s) (take i starts₁)
+  keys-are h k =
+      ap (take i) (o .keys) ∙ first-of keys₀ (map (keyAt s) done) i (sym (length-map done (keyAt s) ∙ many)) k ∙ ap (map (keyAt s)) (sym (before-are h))
+
+  -- what is noted where all are right, or where one is not
+  noted-as : (l : List ℕ) → l ≡ done → rightlyTyped ls s [] all ≡ l → Noted ls s all starts₀ numbers₀ keys₀ starts₁ numbers₁ keys₁
+  noted-as l e r = record {
+    starts = o .starts ∙ ap (sets starts₀ 0) (map-same done ∙ sym e ∙ sym r);
+    numbers = o .numbers ∙ ap (λ l. sets numbers₀ 0 (map (lineNumber ls s) l)) (sym e ∙ sym r);
+    keys = o .keys ∙ ap (λ l. sets keys₀ 0 (map (keyAt s) l)) (sym e ∙ sym r);
+  }
+
+  pub all-noted : count ≤ i → (noRefusal ≡ typed ls s [] all) × Noted ls s all starts₀ numbers₀ keys₀ starts₁ numbers₁ keys₁
+  unfolding typed rightlyTyped
   all-noted h =
-      (rw (drop-of-length-le starts {i = i} h) at (o .passes), o .noted ∙ ap (λ l. sets old 0 (map (lineNumber ls s) l)) (take-all i starts h))
+      let end : drop i all ≡ [] = drop-of-length-le all {i = i} (omega (arith, length-skim s count 0, h)) in
+      (rw end at (o .passes), noted-as done refl (sym (rw end at (o .rights)) ∙ append-nil done))
 
   -- the property at i, by what was found of its name
-  module _ (h : i < length starts) {name : List ℕ} (n : name ≡ nameAt s (getD starts i 0))
-      {k : ℕ} (f : k ≡ findIn ls name) {l : Line} (g : l ≡ getD ls k free) {r m : Bool} (er : r ≡ has s (take i starts) name)
-      (em : m ≡ misfits l (codeAt s (getD starts i 0)) (lengthAt s (getD starts i 0))) where
-    numbered : k ≡ lineNumber ls s (getD starts i 0)
-    numbered = rw (f, n)
+  module _ (h : i < count) where
+    here : drop i all ≡ at ∷ skim s (count - (i + 1)) (nextAt s at)
+    unfolding skim
+    here = let one : count - i ≡ suc (count - (i + 1)) = omega arith in o .left ∙ ap (λ k. skim s k at) one
 
-    mistyped : (r || m) ≡ isMistyped ls s (take i starts) (getD starts i 0)
-    mistyped = rw (er, em, g, n, numbered, found ls (nameAt s (getD starts i 0)))
+    inner : i < length all
+    inner = omega (arith, length-skim s count 0, h)
 
-    step : typedFrom ls s starts i ≡ cond (r || m) (refusal 13 (24 + getD starts i 0)) (typedFrom ls s starts (i + 1))
-    unfolding typed
-    step = rw (mistyped, drop-cons starts i 0 h, add-one i, take-suc starts i 0 h)
+    there : getD all i 0 ≡ at
+    there = ap (λ l. getD l 0 0) (sym (drop-cons all i 0 inner) ∙ here)
 
-    pub refused : (r || m) ≡ true → refusal 13 (24 + getD starts i 0) ≡ typed ls s [] starts
-    refused e = sym (rw e at step) ∙ o .passes
+    onward : drop (i + 1) all ≡ skim s (count - (i + 1)) (nextAt s at)
+    onward = ap (λ k. drop k all) (add-one i) ∙ ap (drop 1) (sym (drop-cons all i 0 inner) ∙ here)
 
-    pub passed : length starts ≤ 64 → {key : ℕ} → key ≡ numberAt 8 name 0 → (r || m) ≡ false →
-        Noted ls s starts old (set numbers i k) (set keys i key) (i + 1)
-    passed few {key} e t = record {
-      within = omega arith;
-      sized = length-set keys i key ∙ o .sized;
-      keyed = keys-more starts i h (keyAt s) (e ∙ ap (λ l. numberAt 8 l 0) n) keys (omega (arith, o .sized)) (o .keyed);
-      noted = sets-more (lineNumber ls s) starts i 0 h numbered old (o .noted);
-      passes = sym (rw t at step) ∙ o .passes;
-    }
+    longer : take (i + 1) all ≡ done ++ (at ∷ [])
+    longer = ap (λ k. take k all) (add-one i) ∙ take-suc all i 0 inner ∙ ap (λ x. done ++ (x ∷ [])) there
+
+    module _ {name : List ℕ} (n : name ≡ nameAt s at) {hd : PropertyHeader} (e : hd ≡ headerAt s at)
+        {k : ℕ} (f : k ≡ findIn ls name) {l : Line} (g : l ≡ getD ls k free) {r m : Bool} (er : r ≡ has s done name)
+        (em : m ≡ misfits l (hd .code) (hd .length)) where
+      numbered : k ≡ lineNumber ls s at
+      numbered = rw (f, n)
+
+      mistyped : (r || m) ≡ isMistyped ls s done at
+      mistyped =
+          let code : hd .code ≡ codeAt s at = ap (λ (h : PropertyHeader). h .code) e in
+          let len : hd .length ≡ lengthAt s at = ap (λ (h : PropertyHeader). h .length) e in
+          rw (er, em, code, len, g, n, numbered, found ls (nameAt s at))
+
+      step : typed ls s done (drop i all) ≡ cond (r || m) (refusal 13 (24 + at)) (typed ls s (take (i + 1) all) (drop (i + 1) all))
+      unfolding typed
+      step = rw (mistyped, here, longer, onward)
+
+      kept : rightlyTyped ls s done (drop i all) ≡ cond (r || m) [] (at ∷ rightlyTyped ls s (take (i + 1) all) (drop (i + 1) all))
+      unfolding rightlyTyped
+      kept = rw (mistyped, here, longer, onward)
+
+      pub refused : (r || m) ≡ true → (refusal 13 (24 + at) ≡ typed ls s [] all) × Noted ls s all starts₀ numbers₀ keys₀ starts₁ numbers₁ keys₁
+      refused t =
+          (sym (rw t at step) ∙ o .passes, noted-as done refl (sym (o .rights) ∙ ap (λ l. done ++ l) (rw t at kept) ∙ append-nil done))
+
+      pub passed : (r || m) ≡ false → {key next : ℕ} → key ≡ keyOf name → next ≡ nextAt s at → next ≤ length s →
+          Noting ls s count starts₀ numbers₀ keys₀ (set starts₁ i at) (set numbers₁ i k) (set keys₁ i key) next (i + 1)
+      passed t {key} {next} q x b = record {
+        within = omega arith;
+        inside = b;
+        left = onward ∙ ap (skim s (count - (i + 1))) (sym x);
+        starts = sets-more (λ x. x) all i 0 inner (sym there) starts₀ (o .starts);
+        numbers = sets-more (lineNumber ls s) all i 0 inner (numbered ∙ ap (lineNumber ls s) (sym there)) numbers₀ (o .numbers);
+        keys = sets-more (keyAt s) all i 0 inner (q ∙ ap keyOf n ∙ ap (keyAt s) (sym there)) keys₀ (o .keys);
+        passes = sym (rw t at step) ∙ o .passes;
+        rights =
+            ap (λ l. l ++ rightlyTyped ls s (take (i + 1) all) (drop (i + 1) all)) longer
+            ∙ append-assoc done (at ∷ []) (rightlyTyped ls s (take (i + 1) all) (drop (i + 1) all))
+            ∙ ap (λ l. done ++ l) (sym (rw t at kept)) ∙ o .rights;
+      }
+
+-- what is noted where none is refused: the first n numbers of the buffers
+module _ {ls : List Line} {s all starts₀ numbers₀ keys₀ starts₁ numbers₁ keys₁ : List ℕ}
+    (o : Noted ls s all starts₀ numbers₀ keys₀ starts₁ numbers₁ keys₁)
+    {v : Refusal} (e : v ≡ typed ls s [] all) (z : v .number ≡ 0) (n : ℕ) (k : n ≡ length all) where
+  right : rightlyTyped ls s [] all ≡ all
+  right = all-right ls s [] all (ap (λ (v : Refusal). v .number) (sym e) ∙ z)
+
+  pub starts-noted : n ≤ length starts₀ → take n starts₁ ≡ all
+  starts-noted h = ap (take n) (o .starts ∙ ap (sets starts₀ 0) right) ∙ first-of starts₀ all n k h
+
+  pub numbers-noted : n ≤ length numbers₀ → take n numbers₁ ≡ map (lineNumber ls s) all
+  numbers-noted h =
+      ap (take n) (o .numbers ∙ ap (λ l. sets numbers₀ 0 (map (lineNumber ls s) l)) right)
+      ∙ first-of numbers₀ (map (lineNumber ls s) all) n (k ∙ sym (length-map all (lineNumber ls s))) h
+
+pub noted-for : {ls : List Line} {s all all′ starts₀ numbers₀ keys₀ starts₁ numbers₁ keys₁ : List ℕ} → all ≡ all′ →
+    Noted ls s all starts₀ numbers₀ keys₀ starts₁ numbers₁ keys₁ → Noted ls s all′ starts₀ numbers₀ keys₀ starts₁ numbers₁ keys₁
+noted-for {ls} {s} {all} {all′} {starts₀} {numbers₀} {keys₀} {starts₁} {numbers₁} {keys₁} e o = subst (λ l. Noted ls s l starts₀ numbers₀ keys₀ starts₁ numbers₁ keys₁) e o

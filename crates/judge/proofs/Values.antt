@@ -25,12 +25,12 @@ use Rattle.judge.specs.declared.valued.Fault.{Fault}
 use Rattle.judge.specs.declared.valued.Fault.the-variants.{Right, Whole, Element}
 use Rattle.judge.specs.declared.valued.Kept.{Kept}
 use Rattle.judge.specs.declared.Judged.{Judged}
-use Rattle.judge.specs.Properties.{ruleAt, Beside, besideOf}
+use Rattle.judge.specs.Properties.{ruleAt, lineNumber, Beside, besideOf}
 use Rattle.judge.specs.Typed.{typed}
 use Rattle.judge.specs.Missing.{lacks}
 use Rattle.judge.specs.Valued.{faultOf, faultNumber, valued, heldFaces, nodeFaces, linkCount, nodeLinks}
 use Rattle.judge.specs.Judge.{verdictAt, refusedNode, acceptedNode, judgedBy, judgedAt, Bounded}
-use Rattle.judge.specs.Private.{lineNumber, keptBy, keptAt, valuedTo}
+use Rattle.judge.specs.Private.{keptBy, keptAt, valuedTo}
 use Rattle.judge.proofs.Counted.{degenerate-append}
 
 -- ---- the lines of some properties, by their numbers
@@ -116,9 +116,6 @@ module _ (ls : List Line) (s : List ℕ) (b : Beside) where
     ended h = rw (drop-of-length-le starts {i = i} h, add-zero f, add-zero d, add-zero n)
 
 -- ---- 13, then 14, then 15
-pub first-numbers : (l ns : List ℕ) (n : ℕ) → n ≡ length ns → n ≤ length l → take n (sets l 0 ns) ≡ ns
-first-numbers l ns n e h = rw (e, sets-eq ns l 0 (omega (arith, e, h))) (take-append-seam ns (drop (0 + length ns) l))
-
 module _ (kind : ℕ) (ls : List Line) (s starts : List ℕ) (bones : ℕ) where
   by-typed : (k : ℕ) (v w : Refusal) (fs : List Face) (n : ℕ) → (k ≡ 0 → ⊥) → v .number ≡ k →
       refusedNode (v .number) (v .place) ≡ judgedBy (refusedOr k v w) fs n

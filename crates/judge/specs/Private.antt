@@ -1,22 +1,22 @@
 -- What private functions promise each other; nothing here need be believed.
-use Prim.Native.Nat.{ℕ, _≤_}
-use mathlib.Core.Bool.{Bool, false, _||_}
-use mathlib.Core.List.{List, [], _∷_}
-use lib.Dec.{eqb}
+use Prim.Native.Nat.{ℕ, suc, _≤_}
+use mathlib.Core.Path.{_≡_}
+use mathlib.Core.Bool.{Bool, false, cond, _||_}
+use mathlib.Core.List.{List, [], _∷_, map}
+use lib.Dec.{eqb, ltb}
 use lib.ListN.{length, getD}
-use Rattle.le.specs.Le.{numberAt}
-use Rattle.props.specs.Step.{nameAt}
+use lib.Seq.{sets}
 use Rattle.faces.specs.declared.Face.{Face}
 use Rattle.faces.specs.Faces.{degenerate}
 use Rattle.rules.specs.Table.{Held, Line}
 use Rattle.rules.specs.Packing.{typesFrom}
-use Rattle.rules.specs.Rules.{findIn}
 use Rattle.judge.specs.declared.Judged.{Judged}
 use Rattle.judge.specs.declared.valued.Fault.{Fault}
 use Rattle.judge.specs.declared.valued.Fault.the-variants.{Right, Whole, Element}
 use Rattle.judge.specs.declared.valued.Kept.{Kept}
 use Rattle.judge.specs.declared.valued.Measures.{Measures}
-use Rattle.judge.specs.Properties.{Beside}
+use Rattle.judge.specs.Properties.{lineNumber, Beside}
+use Rattle.judge.specs.Typed.{rightlyTyped, keyAt}
 use Rattle.judge.specs.Valued.{faultOf, heldFaces, valued, nodeFaces, nodeLinks}
 use Rattle.judge.specs.Judge.{judgedBy}
 
@@ -24,13 +24,13 @@ use Rattle.judge.specs.Judge.{judgedBy}
 abbrev pub StartsWithin : (s starts : List ℕ) → Type 0
 StartsWithin s starts = (i : ℕ) → getD starts i 0 ≤ length s
 
--- where the line of the property at a place stands among some lines
-abbrev pub lineNumber : List Line → (s : List ℕ) (at : ℕ) → ℕ
-lineNumber ls s at = findIn ls (nameAt s at)
+-- the first place of a number among some; how many there are where it is none of them
+unfoldable pub firstNumber : List ℕ → (k : ℕ) → ℕ
+firstNumber [] k = 0
+firstNumber (n ∷ ns) k = cond (eqb n k) 0 (suc (firstNumber ns k))
 
--- the first eight letters of its name, as one number
-abbrev pub keyAt : (s : List ℕ) (at : ℕ) → ℕ
-keyAt s at = numberAt 8 (nameAt s at) 0
+abbrev pub hasNumber : List ℕ → (k : ℕ) → Bool
+hasNumber ns k = ltb (firstNumber ns k) (length ns)
 
 unfoldable pub hasKey : List ℕ → (key : ℕ) → Bool
 hasKey [] key = false
@@ -59,3 +59,9 @@ keptAt h s at b = keptBy (faultOf h s at b) (heldFaces h s at)
 -- 15 of some properties, with what they count
 unfoldable pub valuedTo : List Line → (s : List ℕ) → Beside → (starts : List ℕ) → Judged
 valuedTo ls s b starts = judgedBy (valued ls s b starts) (nodeFaces ls s starts) (nodeLinks ls s starts)
+
+-- what 13 notes of the properties that it passes: where they start, their lines and their keys
+pub record Noted (ls : List Line) (s all starts₀ numbers₀ keys₀ starts₁ numbers₁ keys₁ : List ℕ) : Type 0 where
+  pub starts : starts₁ ≡ sets starts₀ 0 (rightlyTyped ls s [] all)
+  pub numbers : numbers₁ ≡ sets numbers₀ 0 (map (lineNumber ls s) (rightlyTyped ls s [] all))
+  pub keys : keys₁ ≡ sets keys₀ 0 (map (keyAt s) (rightlyTyped ls s [] all))

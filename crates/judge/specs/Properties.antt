@@ -12,11 +12,15 @@ use Rattle.faces.specs.Faces.{widthOf}
 use Rattle.base.specs.Letters.{letters}
 use Rattle.props.specs.Types.{float, v4}
 use Rattle.rules.specs.Table.{Types, only, N, anyType, Line}
-use Rattle.rules.specs.Rules.{ruleIn, isText}
+use Rattle.rules.specs.Rules.{ruleIn, findIn, isText}
 
 -- the line of the property at a place, among some lines
 abbrev pub ruleAt : List Line → (s : List ℕ) (at : ℕ) → Line
 ruleAt ls s at = ruleIn ls (nameAt s at)
+
+-- where that line stands among them; their number where none is
+abbrev pub lineNumber : List Line → (s : List ℕ) (at : ℕ) → ℕ
+lineNumber ls s at = findIn ls (nameAt s at)
 
 -- its data, and what follows it
 abbrev pub restAt : (s : List ℕ) (at : ℕ) → List ℕ

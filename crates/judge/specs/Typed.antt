@@ -1,9 +1,11 @@
 -- 13: "name twice on a node; listed name with another type or length", at the property. The lines of the node's kind are ls, its body
 -- is s. A place is an offset from the node's header: 24 is the first byte of its body.
-use Prim.Native.Nat.{ℕ, _+_}
+use Prim.Native.Nat.{ℕ, zero, suc, _+_, _/_, _%_, _^_}
 use mathlib.Core.Bool.{Bool, cond, _||_}
 use mathlib.Core.List.{List, [], _∷_, _++_}
+use lib.ListN.{length, drop}
 use Rattle.base.specs.declared.Refusal.{Refusal}
+use Rattle.le.specs.Le.{numberAt}
 use Rattle.base.specs.Refusals.{refusal, noRefusal}
 use Rattle.props.specs.Step.{codeAt, lengthAt, nameAt}
 use Rattle.rules.specs.Table.{Line}
@@ -21,3 +23,21 @@ isMistyped ls s before at = repeats s before at || misfits (ruleAt ls s at) (cod
 unfoldable pub typed : List Line → (s before starts : List ℕ) → Refusal
 typed ls s before [] = noRefusal
 typed ls s before (at ∷ more) = cond (isMistyped ls s before at) (refusal 13 (24 + at)) (typed ls s (before ++ (at ∷ [])) more)
+
+-- ---- what is noted of the properties on the way
+
+-- those before the first that is refused
+unfoldable pub rightlyTyped : List Line → (s before starts : List ℕ) → List ℕ
+rightlyTyped ls s before [] = []
+rightlyTyped ls s before (at ∷ more) = cond (isMistyped ls s before at) [] (at ∷ rightlyTyped ls s (before ++ (at ∷ [])) more)
+
+-- a number that equal names share: of k numbers of eight letters, each is added to twice the sum of those before, at 64 bits
+unfoldable pub keyFrom : (k sum : ℕ) → List ℕ → ℕ
+keyFrom zero sum name = sum
+keyFrom (suc k) sum name = keyFrom k (((sum + sum) % 2 ^ 64 + numberAt 8 name 0) % 2 ^ 64) (drop 8 name)
+
+unfoldable pub keyOf : List ℕ → ℕ
+keyOf name = keyFrom ((length name + 7) / 8) 0 name
+
+abbrev pub keyAt : (s : List ℕ) (at : ℕ) → ℕ
+keyAt s at = keyOf (nameAt s at)

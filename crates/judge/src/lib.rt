@@ -1,19 +1,21 @@
 // The rules of properties on one node: refusals 13, 14 and 15, the node's faces and its links.
 ghost use mathlib.Core.Path.{_≡_};
 ghost use Prim.Native.Nat.{_≤_};
+ghost use mathlib.Core.List.{[], map};
 ghost use lib.ListN.{length};
+ghost use lib.Seq.{sets};
 ghost use Rattle.base.specs.Limits.{mostProperties};
+ghost use Rattle.body.specs.Body.{skim, skimmed};
 ghost use Rattle.rules.specs.Packing.{linesFrom};
-ghost use Rattle.judge.specs.Properties.{has};
-ghost use Rattle.judge.specs.Judge.{refusedNode, judgedAt, judged, Bounded};
-ghost use Rattle.judge.specs.Private.{StartsWithin};
+ghost use Rattle.judge.specs.Properties.{has, lineNumber};
+ghost use Rattle.judge.specs.Typed.{keyAt, rightlyTyped};
+ghost use Rattle.judge.specs.Judge.{refusedNode, judgedAt, Bounded};
+ghost use Rattle.judge.specs.Private.{Noted};
 
 mod missing;
+mod places;
 mod typed;
 pub mod valued;
-
-// Room for the places of a node's properties.
-const PLACES: usize = base::MOST_PROPERTIES as usize;
 
 // Whether one of some properties has a name.
 fn has(body: &[u8], starts: &[usize], name: &[u8]) -> bool
@@ -44,40 +46,70 @@ fn refused_node(number: u32, place: usize) -> Judged
     }
 }
 
-// 13, then 14, then 15 of the properties that start at some places of the body.
-fn judge_at(
+// 13, then 14, then 15 of `count` properties.
+fn judge_first(
     kind: u32,
     lines: &[rules::Columns],
+    count: usize,
     body: &[u8],
-    starts: &[usize],
     bones: u32,
+    starts: &mut [usize],
+    numbers: &mut [usize],
+    keys: &mut [u64],
 ) -> Judged
-    requires { ⌜ (length (now starts) ≤ mostProperties) × StartsWithin (now body) (now starts) ⌝ }
-    ensures result { λ r. ⌜ r ≡ judgedAt kind (linesFrom (now (lines .entry))) (now (body .entry)) (now (starts .entry)) bones ⌝ }
+    requires { ⌜ (count ≤ mostProperties) × (length (now starts) ≡ mostProperties) × (length (now numbers) ≡ mostProperties) × (length (now keys) ≡ mostProperties) ⌝ }
+    ensures result { λ r. ⌜ r
+        ≡ judgedAt kind (linesFrom (now (lines .entry))) (now (body .entry)) (skim (now (body .entry)) count 0) bones ⌝ }
+    ensures noted { λ r. ⌜ Noted (linesFrom (now (lines .entry))) (now (body .entry)) (skim (now (body .entry)) count 0)
+        (now (starts .entry)) (now (numbers .entry)) (now (keys .entry)) (now (starts .exit)) (now (numbers .exit)) (now (keys .exit)) ⌝ }
     ensures bounds { λ r. ⌜ Bounded r (length (now (body .entry))) ⌝ }
 {
-    let mut numbers = [0usize; PLACES];
-    let v = typed::typed(lines, body, starts, &mut numbers);
+    let v = typed::typed(lines, body, count, starts, numbers, keys);
     if v.number != 0 {
         return refused_node(v.number, v.place);
     }
-    if missing::lacks(kind, lines, body, starts) {
+    if missing::lacks(kind, lines, body, &starts[..count], &numbers[..count]) {
         return refused_node(14, 0);
     }
-    let n = starts.len();
-    valued::valued(kind, lines, body, starts, &numbers[..n], bones)
+    valued::valued(
+        kind,
+        lines,
+        body,
+        &starts[..count],
+        &numbers[..count],
+        bones,
+    )
 }
 
-// Judges a node by its kind, its property count, its body and the number of Bones beside it. Judged are the properties that
-// a walk over that count passes: all, of a body that is exactly that many, and none where they are over 64.
-pub fn judge(kind: u32, count: u32, body: &[u8], bones: u32) -> Judged
-    ensures result { λ r. ⌜ r ≡ judged kind count (now (body .entry)) bones ⌝ }
+// Judges a node by its kind, the lines of its kind, its property count, its body and the number of Bones beside it. Its properties
+// are found by their headers alone, as the walk has judged these: at most 64, none where the count is over that. Noted are, of
+// those before the first that 13 refuses, where each starts, where its line stands among the lines, and its name's key.
+pub fn judge(
+    kind: u32,
+    lines: &[rules::Columns],
+    count: u32,
+    body: &[u8],
+    bones: u32,
+    starts: &mut [usize; 64],
+    numbers: &mut [usize; 64],
+    keys: &mut [u64; 64],
+) -> Judged
+    ensures result { λ r. ⌜ r
+        ≡ judgedAt kind (linesFrom (now (lines .entry))) (now (body .entry)) (skimmed (now (body .entry)) count) bones ⌝ }
+    ensures starts { λ r. ⌜ now (starts .exit)
+        ≡ sets (now (starts .entry)) 0 (rightlyTyped (linesFrom (now (lines .entry))) (now (body .entry)) [] (skimmed (now (body .entry)) count)) ⌝ }
+    ensures numbers { λ r. ⌜ now (numbers .exit)
+        ≡ sets (now (numbers .entry)) 0 (map (lineNumber (linesFrom (now (lines .entry))) (now (body .entry)))
+        (rightlyTyped (linesFrom (now (lines .entry))) (now (body .entry)) [] (skimmed (now (body .entry)) count))) ⌝ }
+    ensures keys { λ r. ⌜ now (keys .exit)
+        ≡ sets (now (keys .entry)) 0 (map (keyAt (now (body .entry)))
+        (rightlyTyped (linesFrom (now (lines .entry))) (now (body .entry)) [] (skimmed (now (body .entry)) count))) ⌝ }
     ensures bounds { λ r. ⌜ Bounded r (length (now (body .entry))) ⌝ }
 {
-    let index = body::index_of(body, count);
-    let starts = index.starts;
-    let n = index.count;
-    let mut lines = [[0u32; 12]; 14];
-    let m = rules::put_lines(kind, &mut lines);
-    judge_at(kind, &lines[..m], body, &starts[..n], bones)
+    let n = if base::MOST_PROPERTIES < count {
+        0
+    } else {
+        count as usize
+    };
+    judge_first(kind, lines, n, body, bones, starts, numbers, keys)
 }

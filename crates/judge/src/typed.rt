@@ -3,15 +3,12 @@ ghost use mathlib.Core.Path.{_≡_};
 ghost use Prim.Native.Nat.{_+_, _≤_};
 ghost use mathlib.Core.List.{[], map};
 ghost use lib.ListN.{length};
-ghost use lib.Seq.{sets};
 ghost use Rattle.base.specs.Limits.{mostProperties};
-ghost use Rattle.le.specs.Le.{numberAt};
-ghost use Rattle.props.specs.Step.{codeAt, lengthAt};
-ghost use Rattle.rules.specs.Packing.{lineOf, linesFrom};
-ghost use Rattle.rules.specs.Rules.{misfits};
+ghost use Rattle.body.specs.Body.{skim};
+ghost use Rattle.rules.specs.Packing.{linesFrom};
 ghost use Rattle.judge.specs.Properties.{has};
-ghost use Rattle.judge.specs.Typed.{typed};
-ghost use Rattle.judge.specs.Private.{StartsWithin, lineNumber, keyAt, hasKey};
+ghost use Rattle.judge.specs.Typed.{typed, keyOf, keyAt};
+ghost use Rattle.judge.specs.Private.{hasKey, Noted};
 
 // Whether a number is among some. It has no early way out, so that it is compiled to a few wide comparisons.
 fn has_key(keys: &[u64], key: u64) -> bool
@@ -26,9 +23,25 @@ fn has_key(keys: &[u64], key: u64) -> bool
     any
 }
 
-// Whether one of some properties has a name. Few names share their first eight letters.
+// A number that equal names share: their letters in numbers of eight, each added to twice the sum of those before. Few other
+// names share it.
+fn key_of(name: &[u8]) -> u64
+    ensures { λ r. ⌜ r ≡ keyOf (now (name .entry)) ⌝ }
+{
+    let n = name.len();
+    let mut key: u64 = 0;
+    let mut i: usize = 0;
+    while i < n {
+        let eight = le::u64_at(name, i);
+        key = std::num::wrapping_add_u64(std::num::wrapping_add_u64(key, key), eight);
+        i += 8;
+    }
+    key
+}
+
+// Whether one of some properties has a name. Few names share a key.
 fn is_before(body: &[u8], starts: &[usize], keys: &[u64], name: &[u8], key: u64) -> bool
-    requires { ⌜ (key ≡ numberAt 8 (now name) 0) × (now keys ≡ map (keyAt (now body)) (now starts)) ⌝ }
+    requires { ⌜ (key ≡ keyOf (now name)) × (now keys ≡ map (keyAt (now body)) (now starts)) ⌝ }
     ensures { λ r. ⌜ r ≡ has (now (body .entry)) (now (starts .entry)) (now (name .entry)) ⌝ }
 {
     if !has_key(keys, key) {
@@ -37,43 +50,39 @@ fn is_before(body: &[u8], starts: &[usize], keys: &[u64], name: &[u8], key: u64)
     crate::has(body, starts, name)
 }
 
-fn misfit(e: rules::Entry, body: &[u8], at: usize) -> bool
-    ensures { λ r. ⌜ r ≡ misfits (lineOf e) (codeAt (now (body .entry)) at) (lengthAt (now (body .entry)) at) ⌝ }
-{
-    let code = props::code_at(body, at);
-    let elements = props::length_at(body, at);
-    rules::misfits(e, code, elements)
-}
-
-// The first property whose name came before, or which has another type or length than its line says. It notes where each
-// property's line stands among the lines of the kind.
+// The first of `count` properties whose name came before, or which has another type or length than its line says. Noted are,
+// of those before it, where each starts, where its line stands among the lines of the kind, and its key.
 pub(crate) fn typed(
     lines: &[rules::Columns],
     body: &[u8],
-    starts: &[usize],
+    count: usize,
+    starts: &mut [usize],
     numbers: &mut [usize],
+    keys: &mut [u64],
 ) -> base::Refusal
-    requires { ⌜ (length (now starts) ≤ mostProperties) × (length (now starts) ≤ length (now numbers)) × StartsWithin (now body) (now starts) ⌝ }
-    ensures result { λ r. ⌜ r ≡ typed (linesFrom (now (lines .entry))) (now (body .entry)) [] (now (starts .entry)) ⌝ }
-    ensures numbers { λ r. ⌜ (r .number ≡ 0 → now (numbers .exit)
-        ≡ sets (now (numbers .entry)) 0 (map (lineNumber (linesFrom (now (lines .entry))) (now (body .entry))) (now (starts .entry)))) ⌝ }
+    requires { ⌜ (count ≤ mostProperties) × (mostProperties ≤ length (now starts)) × (mostProperties ≤ length (now numbers)) × (mostProperties ≤ length (now keys)) ⌝ }
+    ensures result { λ r. ⌜ r ≡ typed (linesFrom (now (lines .entry))) (now (body .entry)) [] (skim (now (body .entry)) count 0) ⌝ }
+    ensures noted { λ r. ⌜ Noted (linesFrom (now (lines .entry))) (now (body .entry)) (skim (now (body .entry)) count 0)
+        (now (starts .entry)) (now (numbers .entry)) (now (keys .entry)) (now (starts .exit)) (now (numbers .exit)) (now (keys .exit)) ⌝ }
     ensures place { λ r. ⌜ r .place ≤ 24 + length (now (body .entry)) ⌝ }
 {
-    let mut keys = [0u64; crate::PLACES];
+    let mut at: usize = 0;
     let mut i: usize = 0;
-    while i < starts.len() {
-        let at = starts[i];
+    while i < count {
+        let h = props::header_at(body, at);
         let name = props::name_at(body, at);
-        let key = le::u64_at(name, 0);
+        let key = key_of(name);
         let k = rules::line_named(lines, name);
         let repeats = is_before(body, &starts[..i], &keys[..i], name, key);
-        let misfits = misfit(rules::line_in(lines, k), body, at);
+        let misfits = rules::misfits(rules::line_in(lines, k), h.code, h.length);
         if repeats | misfits {
             let place = 24 + at;
             return base::Refusal { number: 13, place };
         }
-        keys[i] = key;
+        starts[i] = at;
         numbers[i] = k;
+        keys[i] = key;
+        at = body::next_at(body, at);
         i += 1;
     }
     base::Refusal {

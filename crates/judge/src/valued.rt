@@ -1,16 +1,18 @@
 // 15: any other property rule broken; and what the properties count.
 use crate::Judged;
+use crate::places;
 ghost use mathlib.Core.Path.{_≡_};
 ghost use Prim.Native.Nat.{_+_, _≤_, _<_};
 ghost use mathlib.Core.List.{map};
 ghost use lib.ListN.{length};
 ghost use Rattle.base.specs.Limits.{mostProperties};
 ghost use Rattle.le.specs.Le.{numberAt};
+ghost use Rattle.faces.specs.Faces.{widthOf};
 ghost use Rattle.rules.specs.Packing.{typesFrom, lineOf, linesFrom};
-ghost use Rattle.judge.specs.Properties.{restAt, valueAt, lengthOf, valueOf, typesOf, besideOf};
+ghost use Rattle.judge.specs.Properties.{lineNumber, restAt, lengthOf, valueOf, typesOf, besideOf};
 ghost use Rattle.judge.specs.Valued.{whole, sole, signed, parentOk, faultOf, facesAt, faceFault, linkCount};
 ghost use Rattle.judge.specs.Judge.{Bounded};
-ghost use Rattle.judge.specs.Private.{StartsWithin, lineNumber, besideFrom, keptBy, keptAt, valuedTo};
+ghost use Rattle.judge.specs.Private.{StartsWithin, besideFrom, keptBy, keptAt, valuedTo};
 
 // Types, as a line has them.
 const FLOAT: u32 = props::FLOAT as u32;
@@ -28,11 +30,11 @@ struct Measures {
     bones: u32,
 }
 
-// The first value of the property at a place.
-fn value_at(body: &[u8], at: usize) -> u32
-    ensures { λ r. ⌜ r ≡ valueAt (now (body .entry)) at ⌝ }
+// The first value of the property at a place, whose type is known.
+fn value_at(body: &[u8], at: usize, code: u16) -> u32
+    ensures { λ r. ⌜ r ≡ numberAt (widthOf code) (restAt (now (body .entry)) at) 0 ⌝ }
 {
-    let width = faces::width_of(props::code_at(body, at));
+    let width = faces::width_of(code);
     le::number_at(props::rest_at(body, at), 0, width)
 }
 
@@ -42,16 +44,24 @@ struct Named {
     value: u32,
 }
 
-fn read_named(body: &[u8], starts: &[usize], name: &[u8]) -> Named
+fn read_named(
+    lines: &[rules::Columns],
+    body: &[u8],
+    starts: &[usize],
+    numbers: &[usize],
+    name: &[u8],
+) -> Named
+    requires { ⌜ now numbers ≡ map (lineNumber (linesFrom (now lines)) (now body)) (now starts) ⌝ }
     ensures length { λ r. ⌜ r .length ≡ lengthOf (now (body .entry)) (now (starts .entry)) (now (name .entry)) ⌝ }
     ensures value { λ r. ⌜ r .value ≡ valueOf (now (body .entry)) (now (starts .entry)) (now (name .entry)) ⌝ }
 {
-    let i = body::first_named(body, starts, name);
+    let i = places::place_named(lines, body, starts, numbers, name);
     if i < starts.len() {
         let at = starts[i];
+        let header = props::header_at(body, at);
         return Named {
-            length: props::length_at(body, at),
-            value: value_at(body, at),
+            length: header.length,
+            value: value_at(body, at, header.code),
         };
     }
     Named {
@@ -61,10 +71,11 @@ fn read_named(body: &[u8], starts: &[usize], name: &[u8]) -> Named
 }
 
 // The types that kp wants of kv: v4 for rq, N for vb, else f.
-fn types_of(body: &[u8], starts: &[usize]) -> u32
+fn types_of(lines: &[rules::Columns], body: &[u8], starts: &[usize], numbers: &[usize]) -> u32
+    requires { ⌜ now numbers ≡ map (lineNumber (linesFrom (now lines)) (now body)) (now starts) ⌝ }
     ensures { λ r. ⌜ typesFrom r ≡ typesOf (now (body .entry)) (now (starts .entry)) ⌝ }
 {
-    let i = body::first_named(body, starts, b"kp");
+    let i = places::place_named(lines, body, starts, numbers, b"kp");
     if starts.len() <= i {
         return FLOAT;
     }
@@ -78,7 +89,15 @@ fn types_of(body: &[u8], starts: &[usize]) -> u32
     FLOAT
 }
 
-fn measures_of(kind: u32, body: &[u8], starts: &[usize], bones: u32) -> Measures
+fn measures_of(
+    kind: u32,
+    lines: &[rules::Columns],
+    body: &[u8],
+    starts: &[usize],
+    numbers: &[usize],
+    bones: u32,
+) -> Measures
+    requires { ⌜ now numbers ≡ map (lineNumber (linesFrom (now lines)) (now body)) (now starts) ⌝ }
     ensures { λ r. ⌜ besideFrom r ≡ besideOf kind (now (body .entry)) (now (starts .entry)) bones ⌝ }
 {
     let mut vertices: u32 = 0;
@@ -87,13 +106,13 @@ fn measures_of(kind: u32, body: &[u8], starts: &[usize], bones: u32) -> Measures
     let mut keys: u32 = 0;
     let mut types: u32 = rules::columns::ANY_TYPE;
     if kind == kinds::MESH {
-        vertices = read_named(body, starts, b"vp").length;
-        weights = read_named(body, starts, b"mi").value as u64 * vertices as u64;
+        vertices = read_named(lines, body, starts, numbers, b"vp").length;
+        weights = read_named(lines, body, starts, numbers, b"mi").value as u64 * vertices as u64;
     } else if kind == kinds::BLEND_SHAPE {
-        indices = read_named(body, starts, b"vi").length;
+        indices = read_named(lines, body, starts, numbers, b"vi").length;
     } else if kind == kinds::CURVE {
-        keys = read_named(body, starts, b"kb").length;
-        types = types_of(body, starts);
+        keys = read_named(lines, body, starts, numbers, b"kb").length;
+        types = types_of(lines, body, starts, numbers);
     }
     Measures {
         vertices,
@@ -143,16 +162,18 @@ fn fault_of(e: rules::Entry, body: &[u8], at: usize, m: Measures) -> Fault
     ensures { λ r. ⌜ r ≡ faultOf (lineOf e .held) (now (body .entry)) at (besideFrom m) ⌝ }
 {
     let held = e.held;
-    let elements = props::length_at(body, at);
+    if (held == 0) | (held == rules::columns::LINK) {
+        return Fault::Right;
+    }
+    let header = props::header_at(body, at);
+    let elements = header.length;
     match held {
-        rules::columns::FLAG => sole(value_at(body, at) <= 1),
+        rules::columns::FLAG => sole(value_at(body, at, header.code) <= 1),
         rules::columns::ONE_OF => whole(rules::one_of(e.set, props::rest_at(body, at))),
         rules::columns::VERTICES => whole(elements == m.vertices),
         rules::columns::WEIGHTS => whole(elements as u64 == m.weights),
         rules::columns::INDICES => whole(elements == m.indices),
-        rules::columns::KEYS => whole(
-            (elements == m.keys) & rules::takes(m.types, props::code_at(body, at)),
-        ),
+        rules::columns::KEYS => whole((elements == m.keys) & rules::takes(m.types, header.code)),
         rules::columns::BONE_NUMBER => sole(is_bone(body, at, m.bones)),
         _ => Fault::Right,
     }
@@ -178,13 +199,14 @@ fn broken(fault: Fault) -> Kept
 fn faces_at(body: &[u8], at: usize, vertices: u32) -> Kept
     ensures { λ r. ⌜ r ≡ keptBy (faceFault (now (body .entry)) at vertices) (facesAt (now (body .entry)) at) ⌝ }
 {
-    let elements = props::length_at(body, at);
+    let header = props::header_at(body, at);
+    let elements = header.length;
     if elements % 3 != 0 {
         return broken(Fault::Whole);
     }
     let s = faces::scan(
         props::rest_at(body, at),
-        props::code_at(body, at),
+        header.code,
         elements / 3,
         vertices,
     );
@@ -237,7 +259,7 @@ pub(crate) fn valued(
         (besideOf kind (now (body .entry)) (now (starts .entry)) bones) (now (starts .entry)) ⌝ }
     ensures bounds { λ r. ⌜ Bounded r (length (now (body .entry))) ⌝ }
 {
-    let m = measures_of(kind, body, starts, bones);
+    let m = measures_of(kind, lines, body, starts, numbers, bones);
     let mut faces: u64 = 0;
     let mut degenerate: u64 = 0;
     let mut links: u32 = 0;

@@ -1,83 +1,43 @@
--- `judge::judge`: the places of the index are those of the walk, within the body and at most 64; the lines are the kind's.
-use Prim.Native.Nat.{ℕ, _≤_}
-use mathlib.Core.Path.{_≡_, sym, ap, _∙_}
-use lib.ListN.{length, take, replicate}
-use lib.Seq.{length-take-le}
-use Rattle.body.proofs.Places.{properties-few, starts-within, starts-taken, starts-room}
-use Rattle.body.specs.Body.{properties}
+-- `judge::judge`: the properties that are found by their headers, at most 64.
+use Prim.Native.Nat.{_≤_}
+use native.Mathlib.Omega.{arith}
+use mathlib.Core.Path.{_≡_, ap, _∙_}
+use mathlib.Core.Logic.{⊎-elim}
+use Rattle.body.specs.Body.{skim, skimmed}
+use Rattle.body.proofs.Skimmed.{skim-none, skim-all}
 use Rattle.rules.specs.Packing.{linesFrom}
-use Rattle.rules.specs.Rules.{linesOf}
-use Rattle.rules.proofs.Laws.{lines-room, lines-taken}
-use Rattle.judge.specs.Judge.{judgedAt, judged}
+use Rattle.judge.specs.Judge.{judgedAt}
+use Rattle.judge.proofs.Typing.{noted-for}
 use borrow.Author.Needs.{needs}
 use Rattle.judge.proofs.judge.Statement.{statement}
 use Rattle.judge.proofs.judge.Tie as tie
 
-index-of-requires : tie.Need-index-of-requires
-index-of-requires c κs = search needs
+-- at most 64 properties
+module _ (c : tie.Joined1) where
+  abbrev start : tie.Start
+  start = c .before .before
 
-room : (c : tie.After-index-of) → c .index-of .result .count ≤ length (c .index-of .result .starts)
-room c = let a = c .before .before .args in starts-room (a .body .now) (a .count) (c .index-of .ensures .0) (c .index-of .ensures .1)
+  few : c .if1 .n ≤ 64
+  few = ⊎-elim (λ w. omega (arith, w .1)) (λ w. omega (arith, w .0 .left, w .1)) (c .if1 .came)
 
-slice-aggregate-put-lines : tie.Need-slice-aggregate-put-lines
-slice-aggregate-put-lines c = search needs
+  taken : skim (start .args .body .now) (c .if1 .n) 0 ≡ skimmed (start .args .body .now) (start .args .count)
+  taken =
+      let s = start .args .body .now in
+      let k = start .args .count in
+      ⊎-elim (λ w. skim-none s k (c .if1 .n) (w .0 .taken) (w .1)) (λ w. skim-all s k (c .if1 .n) (w .0 .left) (w .1)) (c .if1 .came)
 
-put-lines-requires : tie.Need-put-lines-requires
-put-lines-requires c κs = search needs
-
--- the lines of the kind
-module _ (c : tie.After-put-lines) where
-  abbrev kind : ℕ
-  kind = c .before .before .before .before .before .args .kind
-
-  lines-fit : c .put-lines .result ≤ length (c .put-lines .last .1 .0)
-  lines-fit = let p = c .put-lines .ensures in lines-room kind (replicate 14 (replicate 12 0)) (p .1 .1) (p .0) (p .1 .0)
-
-  lines-are : linesFrom (take (c .put-lines .result) (c .put-lines .last .1 .0)) ≡ linesOf kind
-  lines-are = let p = c .put-lines .ensures in lines-taken kind (replicate 14 (replicate 12 0)) (p .1 .1) (p .0) (p .1 .0)
-
-array-share-prefix-lines : tie.Need-array-share-prefix-lines
-array-share-prefix-lines c = lines-fit (c .before)
-
-slice-aggregate-judge-at : tie.Need-slice-aggregate-judge-at
-slice-aggregate-judge-at c = sym (length-take-le _ _ (lines-fit (c .before .before)))
-
-array-share-prefix-starts : tie.Need-array-share-prefix-starts
-array-share-prefix-starts c = room (c .before .before .before .before .before)
-
-slice-aggregate-judge-at-2 : tie.Need-slice-aggregate-judge-at-2
-slice-aggregate-judge-at-2 c = sym (length-take-le _ _ (room (c .before .before .before .before .before .before)))
-
-judge-at-requires : tie.Need-judge-at-requires
-judge-at-requires c κs =
-    let x = c .before .before .before .before .before .before in
-    let a = x .before .before .args in
-    rw (starts-taken (a .body .now) (a .count) (x .index-of .ensures .0))
-    (properties-few (a .body .now) (a .count), starts-within (a .body .now) (a .count))
+judge-first-requires : tie.Need-judge-first-requires
+judge-first-requires c κs = (few (c .before .before .before), omega arith, omega arith, omega arith)
 
 returns : tie.Need-returns
-unfolding judged
 returns c =
-    let p = c .before .before .before .before in
-    let x = p .before .before .before in
-    let a = x .before .before .args in (
-      c .judge-at .ensures .0
-          ∙ ap (λ starts. judgedAt (a .kind) (linesFrom (take (p .put-lines .result) (p .put-lines .last .1 .0))) (a .body .now) starts (a .bones))
-          (starts-taken (a .body .now) (a .count) (x .index-of .ensures .0))
-          ∙ ap (λ ls. judgedAt (a .kind) ls (a .body .now) (properties (a .body .now) (a .count) .starts) (a .bones)) (lines-are p),
-      c .judge-at .ensures .1,
+    let j = c .before .before .before .before in
+    let a = start j .args in
+    let x = c .judge-first .ensures in
+    let noted = noted-for (taken j) (x .1 .0) in (
+      x .0 ∙ ap (λ l. judgedAt (a .kind) (linesFrom (a .lines .now)) (a .body .now) l (a .bones)) (taken j),
+      (noted .starts, (noted .numbers, (noted .keys, x .1 .1))),
     )
 
 pub judge-spec : {M : Type 1} → statement M
-judge-spec =
-    tie.close
-    (tie.spec
-    index-of-requires
-    slice-aggregate-put-lines
-    put-lines-requires
-    array-share-prefix-lines
-    slice-aggregate-judge-at
-    array-share-prefix-starts
-    slice-aggregate-judge-at-2
-    judge-at-requires
-    returns)
+judge-spec = tie.close (tie.spec judge-first-requires returns)

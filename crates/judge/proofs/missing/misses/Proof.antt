@@ -6,33 +6,30 @@ use mathlib.Core.Bool.{Bool, _||_}
 use lib.ListN.{length, drop, length-map}
 use borrow.Author.Needs.{needs}
 use Rattle.rules.specs.Packing.{lineFrom, linesFrom}
-use Rattle.judge.specs.Missing.{isMissing, misses}
+use Rattle.judge.specs.Missing.{misses}
 use Rattle.judge.proofs.Presence.{next, ended}
 use Rattle.judge.proofs.missing.misses.Statement.{statement}
 use Rattle.judge.proofs.missing.misses.Tie as tie
 
 abbrev Inv-loop : tie.InvT-loop
-Inv-loop lines body starts k₀ k = (k ≤ length lines) × (misses (drop k (linesFrom lines)) body starts ≡ misses (linesFrom lines) body starts)
+Inv-loop lines body starts numbers k₀ k = (k ≤ length lines) × (misses (drop k (linesFrom lines)) body starts ≡ misses (linesFrom lines) body starts)
 
 abbrev μ-loop : tie.MeasureT-loop
-μ-loop lines body starts k₀ k = length lines - k
+μ-loop lines body starts numbers k₀ k = length lines - k
 
 loop-holds : tie.Need-loop-holds Inv-loop μ-loop
 loop-holds c = (omega arith, refl)
 
-line-in-requires : tie.Need-line-in-requires Inv-loop μ-loop
-line-in-requires c κs = search needs
-
 is-missing-requires : tie.Need-is-missing-requires Inv-loop μ-loop
-is-missing-requires c κs = search needs
+is-missing-requires c κs = (c .loop-test .taken, c .before .before .before .before .before .pre)
 
 -- what a line and those after it say
 module _ (c : tie.After-is-missing Inv-loop μ-loop) where
   abbrev head : tie.At-loop Inv-loop μ-loop
-  head = c .before .before .before
+  head = c .before .before
 
   abbrev start : tie.Start Inv-loop μ-loop
-  start = head .before .before .before
+  start = head .before .before .before .before
 
   abbrev others : Bool
   others = misses (drop (head .loop .k + 1) (linesFrom (start .args .lines .now))) (start .args .body .now) (start .args .starts .now)
@@ -41,8 +38,8 @@ module _ (c : tie.After-is-missing Inv-loop μ-loop) where
   says e =
       let a = start .args in
       let ls = linesFrom (a .lines .now) in
-      let line = sym e ∙ c .is-missing .ensures ∙ ap (λ l. isMissing l (a .body .now) (a .starts .now)) (c .before .line-in .ensures .1) in
-      let inside : head .loop .k < length ls = omega (arith, length-map (a .lines .now) lineFrom, c .before .before .loop-test .taken) in
+      let line = sym e ∙ c .is-missing .ensures in
+      let inside : head .loop .k < length ls = omega (arith, length-map (a .lines .now) lineFrom, c .before .loop-test .taken) in
       ap (λ b. b || others) line ∙ sym (next (a .body .now) (a .starts .now) ls (head .loop .k) inside) ∙ head .loop .inv .1
 
 returns : tie.Need-returns Inv-loop μ-loop
@@ -60,7 +57,7 @@ loop-again c = (omega arith, says (c .before) (c .if1 .left))
 returns-2 : tie.Need-returns-2 Inv-loop μ-loop
 returns-2 c =
     let l = c .before in
-    let a = l .before .before .before .args in
+    let a = l .before .before .before .before .args in
     sym (ended (a .body .now) (a .starts .now) (linesFrom (a .lines .now)) (l .loop .k) (omega (arith, length-map (a .lines .now) lineFrom, c .loop-test .left)))
     ∙ l .loop .inv .1
 
@@ -71,7 +68,6 @@ misses-spec =
     Inv-loop
     μ-loop
     loop-holds
-    line-in-requires
     is-missing-requires
     returns
     add-k

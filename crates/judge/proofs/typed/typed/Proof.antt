@@ -1,122 +1,169 @@
 -- `judge::typed::typed`: what the properties from i on say, after those before, is what all say.
-use Prim.Native.Nat.{_-_, _≤_}
+use Prim.Native.Nat.{_*_, _-_, _≤_, _<_}
 use native.Mathlib.Omega.{arith}
-use mathlib.Core.Path.{refl, sym}
-use lib.ListN.{length}
+use mathlib.Core.Path.{_≡_, sym, ap, _∙_}
+use lib.ListN.{length, take}
 use lib.Seq.{length-take-le}
+use mir.Val.{Fits}
+use mir.Syntax.{w64}
 use borrow.Author.Needs.{needs}
 use Rattle.rules.specs.Packing.{linesFrom}
-use Rattle.judge.proofs.Typing.{Noted, as-long, all-noted, refused, passed}
+use Rattle.judge.specs.Properties.{has}
+use Rattle.judge.proofs.Typing.{Noting, noting, starts-long, numbers-long, keys-long, before-are, keys-are, all-noted, refused, passed}
 use Rattle.judge.proofs.typed.typed.Statement.{statement}
 use Rattle.judge.proofs.typed.typed.Tie as tie
 
 abbrev Inv-loop : tie.InvT-loop
-Inv-loop lines body starts numbers₀ keys₀ i₀ numbers keys i = Noted (linesFrom lines) body starts numbers₀ numbers keys i
+Inv-loop lines body count starts₀ numbers₀ keys₀ at₀ i₀ starts numbers keys at i = Noting (linesFrom lines) body count starts₀ numbers₀ keys₀ starts numbers keys at i
 
 abbrev μ-loop : tie.MeasureT-loop
-μ-loop lines body starts numbers₀ keys₀ i₀ numbers keys i = length starts - i
+μ-loop lines body count starts₀ numbers₀ keys₀ at₀ i₀ starts numbers keys at i = count - i
 
 loop-holds : tie.Need-loop-holds Inv-loop μ-loop
-loop-holds c = record { within = omega arith; sized = refl; keyed = refl; noted = refl; passes = refl }
+loop-holds c = noting _ _ _ _ _ _
 
-mul-at : tie.Need-mul-at Inv-loop μ-loop
-mul-at c = search needs
-
-shared-slice-read-at : tie.Need-shared-slice-read-at Inv-loop μ-loop
-shared-slice-read-at c = search needs
+header-at-requires : tie.Need-header-at-requires Inv-loop μ-loop
+header-at-requires c κs = search needs
 
 name-at-requires : tie.Need-name-at-requires Inv-loop μ-loop
 name-at-requires c κs = search needs
 
-u64-at-requires : tie.Need-u64-at-requires Inv-loop μ-loop
-u64-at-requires c κs = search needs
+key-of-requires : tie.Need-key-of-requires Inv-loop μ-loop
+key-of-requires c κs = search needs
 
 line-named-requires : tie.Need-line-named-requires Inv-loop μ-loop
 line-named-requires c κs = search needs
 
+-- the head of the loop, from the tests of a turn
+module _ (l : tie.At-loop Inv-loop μ-loop) where
+  abbrev start : tie.Start Inv-loop μ-loop
+  start = l .before .before .before .before .before
+
+  room : l .loop .i ≤ start .args .count → (l .loop .i ≤ length (l .loop .starts)) × (l .loop .i ≤ length (l .loop .numbers)) × (l .loop .i ≤ length (l .loop .keys))
+  room h =
+      let p = start .pre in
+      let o = l .loop .inv in
+      (omega (arith, h, p, starts-long o), omega (arith, h, p, numbers-long o), omega (arith, h, p, keys-long o))
+
+  -- a place of a buffer is a place in memory
+  bounded : l .loop .i < start .args .count → Fits w64 (l .loop .i * 8)
+  bounded h = omega (arith, h, start .pre .0)
+
+slice-reshare-prefix-is-before : tie.Need-slice-reshare-prefix-is-before Inv-loop μ-loop
+slice-reshare-prefix-is-before c = let l = c .before .before .before .before .before in room l (l .loop .inv .within) .0
+
 slice-aggregate-is-before : tie.Need-slice-aggregate-is-before Inv-loop μ-loop
 slice-aggregate-is-before c =
     let l = c .before .before .before .before .before .before in
-    sym (length-take-le _ _ (l .loop .inv .within))
+    sym (length-take-le _ _ (room l (l .loop .inv .within) .0))
 
-array-share-prefix-keys : tie.Need-array-share-prefix-keys Inv-loop μ-loop
-array-share-prefix-keys c = omega arith
+slice-reshare-prefix-is-before-2 : tie.Need-slice-reshare-prefix-is-before-2 Inv-loop μ-loop
+slice-reshare-prefix-is-before-2 c = let l = c .before .before .before .before .before .before in room l (l .loop .inv .within) .2
 
 slice-aggregate-is-before-2 : tie.Need-slice-aggregate-is-before-2 Inv-loop μ-loop
 slice-aggregate-is-before-2 c =
     let l = c .before .before .before .before .before .before .before in
-    let fits : l .loop .i ≤ length (l .loop .keys) = omega arith in
-    sym (length-take-le _ _ fits)
+    sym (length-take-le _ _ (room l (l .loop .inv .within) .2))
 
 is-before-requires : tie.Need-is-before-requires Inv-loop μ-loop
 is-before-requires c κs =
-    let u = c .before .before .before in
-    (u .u64-at .ensures, u .before .before .before .before .loop .inv .keyed)
+    let ko = c .before .before .before in
+    let l = ko .before .before .before .before in
+    let p = start l .pre in
+    let o = l .loop .inv in
+    (ko .key-of .ensures, keys-are o (omega (arith, o .within, p)) (omega (arith, o .within, p)))
 
 line-in-requires : tie.Need-line-in-requires Inv-loop μ-loop
 line-in-requires c κs = search needs
 
-misfit-requires : tie.Need-misfit-requires Inv-loop μ-loop
-misfit-requires c κs = search needs
+misfits-requires : tie.Need-misfits-requires Inv-loop μ-loop
+misfits-requires c κs = search needs
 
 add-place : tie.Need-add-place Inv-loop μ-loop
 add-place c =
     let l = c .before .before .before .before .before .before .before .before .before .before .before in
-    omega (arith, l .before .before .before .before .pre .2 (l .loop .i))
+    omega (arith, l .loop .inv .inside)
 
 same-length : tie.Need-same-length Inv-loop μ-loop
-same-length c =
-    as-long (c .before .before .before .before .before .before .before .before .before .before .before .loop .inv)
+same-length c = starts-long (c .before .before .before .before .before .before .before .before .before .before .before .loop .inv)
+
+same-length-2 : tie.Need-same-length-2 Inv-loop μ-loop
+same-length-2 c = numbers-long (c .before .before .before .before .before .before .before .before .before .before .before .loop .inv)
+
+same-length-3 : tie.Need-same-length-3 Inv-loop μ-loop
+same-length-3 c = keys-long (c .before .before .before .before .before .before .before .before .before .before .before .loop .inv)
 
 returns : tie.Need-returns Inv-loop μ-loop
 returns c =
     let m = c .before in
-    let i = m .before in
-    let f = i .before .before .before .before in
-    let n = f .before .before in
-    let l = n .before .before .before in (
-      refused (l .loop .inv) (omega arith) (n .name-at .ensures) (f .line-named .ensures) (i .line-in .ensures .1)
-          (i .before .is-before .ensures) (m .misfit .ensures) (c .if1 .taken),
-      (λ z. absurd (omega (arith, z)), omega (arith, l .before .before .before .before .pre .2 (l .loop .i))),
-    )
+    let li = m .before in
+    let ib = li .before in
+    let ln = ib .before .before .before in
+    let na = ln .before .before in
+    let ha = na .before in
+    let l = ha .before .before in
+    let o = l .loop .inv in
+    let before : ib .is-before .result ≡ has (start l .args .body .now) (take (l .loop .i) _) (na .name-at .result .now) =
+    ib .is-before .ensures ∙ ap (λ d. has (start l .args .body .now) d (na .name-at .result .now)) (before-are o (omega (arith, o .within, start l .pre))) in
+    let r = refused o (omega (arith, ha .before .loop-test .taken)) (na .name-at .ensures) (ha .header-at .ensures) (ln .line-named .ensures) (li .line-in .ensures .1)
+    before (m .misfits .ensures) (c .if1 .taken) in
+    (r .0, (r .1, omega (arith, o .inside)))
 
-mul-keys : tie.Need-mul-keys Inv-loop μ-loop
-mul-keys c = search needs
+mul-starts : tie.Need-mul-starts Inv-loop μ-loop
+mul-starts c = bounded (c .before .before .before .before .before .before .before .before .before .before .before) (c .before .before .before .before .before .before .before .before .before .before .loop-test .taken)
 
-array-write-keys : tie.Need-array-write-keys Inv-loop μ-loop
-array-write-keys c = omega arith
+slice-write-starts : tie.Need-slice-write-starts Inv-loop μ-loop
+slice-write-starts c = let l = c .before .before .before .before .before .before .before .before .before .before .before in omega (arith, starts-long (l .loop .inv), start l .pre, c .before .before .before .before .before .before .before .before .before .before .loop-test .taken)
 
 mul-numbers : tie.Need-mul-numbers Inv-loop μ-loop
-mul-numbers c = omega arith
+mul-numbers c = bounded (c .before .before .before .before .before .before .before .before .before .before .before) (c .before .before .before .before .before .before .before .before .before .before .loop-test .taken)
 
 slice-write-numbers : tie.Need-slice-write-numbers Inv-loop μ-loop
-slice-write-numbers c =
-    omega (arith, as-long (c .before .before .before .before .before .before .before .before .before .before .before .loop .inv))
+slice-write-numbers c = let l = c .before .before .before .before .before .before .before .before .before .before .before in omega (arith, numbers-long (l .loop .inv), start l .pre, c .before .before .before .before .before .before .before .before .before .before .loop-test .taken)
+
+mul-keys : tie.Need-mul-keys Inv-loop μ-loop
+mul-keys c = bounded (c .before .before .before .before .before .before .before .before .before .before .before) (c .before .before .before .before .before .before .before .before .before .before .loop-test .taken)
+
+slice-write-keys : tie.Need-slice-write-keys Inv-loop μ-loop
+slice-write-keys c = let l = c .before .before .before .before .before .before .before .before .before .before .before in omega (arith, keys-long (l .loop .inv), start l .pre, c .before .before .before .before .before .before .before .before .before .before .loop-test .taken)
+
+next-at-requires : tie.Need-next-at-requires Inv-loop μ-loop
+next-at-requires c κs = search needs
 
 add-i : tie.Need-add-i Inv-loop μ-loop
-add-i c = omega arith
+add-i c = omega (arith, start (c .before .before .before .before .before .before .before .before .before .before .before .before) .pre .0, c .before .before .before .before .before .before .before .before .before .before .before .loop-test .taken)
 
 loop-less : tie.Need-loop-less Inv-loop μ-loop
 loop-less c = omega arith
 
 loop-again : tie.Need-loop-again Inv-loop μ-loop
 loop-again c =
-    let m = c .before in
-    let i = m .before in
-    let f = i .before .before .before .before in
-    let n = f .before .before in
-    let l = n .before .before .before in
-    passed (l .loop .inv) (omega arith) (n .name-at .ensures) (f .line-named .ensures) (i .line-in .ensures .1)
-    (i .before .is-before .ensures) (m .misfit .ensures)
-    (l .before .before .before .before .pre .0) (f .before .u64-at .ensures) (c .if1 .left)
+    let m = c .before .before in
+    let li = m .before in
+    let ib = li .before in
+    let ln = ib .before .before .before in
+    let na = ln .before .before in
+    let ha = na .before in
+    let l = ha .before .before in
+    let o = l .loop .inv in
+    let before : ib .is-before .result ≡ has (start l .args .body .now) (take (l .loop .i) _) (na .name-at .result .now) =
+    ib .is-before .ensures ∙ ap (λ d. has (start l .args .body .now) d (na .name-at .result .now)) (before-are o (omega (arith, o .within, start l .pre))) in
+    passed o (omega (arith, ha .before .loop-test .taken)) (na .name-at .ensures) (ha .header-at .ensures) (ln .line-named .ensures) (li .line-in .ensures .1)
+    before (m .misfits .ensures) (c .before .if1 .left) (ln .before .key-of .ensures) (c .next-at .ensures .0) (c .next-at .ensures .1)
 
-same-length-2 : tie.Need-same-length-2 Inv-loop μ-loop
-same-length-2 c = as-long (c .before .loop .inv)
+same-length-4 : tie.Need-same-length-4 Inv-loop μ-loop
+same-length-4 c = starts-long (c .before .loop .inv)
+
+same-length-5 : tie.Need-same-length-5 Inv-loop μ-loop
+same-length-5 c = numbers-long (c .before .loop .inv)
+
+same-length-6 : tie.Need-same-length-6 Inv-loop μ-loop
+same-length-6 c = keys-long (c .before .loop .inv)
 
 returns-2 : tie.Need-returns-2 Inv-loop μ-loop
 returns-2 c =
-    let all = all-noted (c .before .loop .inv) (omega arith) in
-    (all .0, (λ z. all .1, omega arith))
+    let all = all-noted (c .before .loop .inv) (omega (arith, c .loop-test .left)) in
+    (all .0, (all .1, omega arith))
 
 pub typed-spec : {M : Type 1} → statement M
 typed-spec =
@@ -125,26 +172,33 @@ typed-spec =
     Inv-loop
     μ-loop
     loop-holds
-    mul-at
-    shared-slice-read-at
+    header-at-requires
     name-at-requires
-    u64-at-requires
+    key-of-requires
     line-named-requires
+    slice-reshare-prefix-is-before
     slice-aggregate-is-before
-    array-share-prefix-keys
+    slice-reshare-prefix-is-before-2
     slice-aggregate-is-before-2
     is-before-requires
     line-in-requires
-    misfit-requires
+    misfits-requires
     add-place
     same-length
+    same-length-2
+    same-length-3
     returns
-    mul-keys
-    array-write-keys
+    mul-starts
+    slice-write-starts
     mul-numbers
     slice-write-numbers
+    mul-keys
+    slice-write-keys
+    next-at-requires
     add-i
     loop-less
     loop-again
-    same-length-2
+    same-length-4
+    same-length-5
+    same-length-6
     returns-2)

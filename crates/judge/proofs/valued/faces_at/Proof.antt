@@ -1,5 +1,5 @@
 -- `judge::valued::faces_at`: a length that three does not divide, or what the scan gives.
-use mathlib.Core.Path.{_≡_, _∙_}
+use mathlib.Core.Path.{_≡_, ap, _∙_}
 use Rattle.faces.specs.declared.Values.{Values}
 use Rattle.judge.specs.declared.valued.Kept.{Kept}
 use Rattle.judge.specs.Valued.{facesAt, faceFault}
@@ -9,8 +9,8 @@ use borrow.Author.Needs.{needs}
 use Rattle.judge.proofs.valued.faces_at.Statement.{statement}
 use Rattle.judge.proofs.valued.faces_at.Tie as tie
 
-length-at-requires : tie.Need-length-at-requires
-length-at-requires c κs = search needs
+header-at-requires : tie.Need-header-at-requires
+header-at-requires c κs = search needs
 
 broken-requires : tie.Need-broken-requires
 broken-requires c κs = search needs
@@ -19,13 +19,10 @@ returns : tie.Need-returns
 returns c =
     let l = c .before .before in
     let a = l .before .before .args in
-    c .broken .ensures ∙ faces-cut (a .body .now) (a .at) (a .vertices) (l .length-at .ensures) (c .before .if1 .taken)
+    c .broken .ensures ∙ faces-cut (a .body .now) (a .at) (a .vertices) (ap (λ h. h .length) (l .header-at .ensures)) (c .before .if1 .taken)
 
 rest-at-requires : tie.Need-rest-at-requires
 rest-at-requires c κs = search needs
-
-code-at-requires : tie.Need-code-at-requires
-code-at-requires c κs = search needs
 
 scan-requires : tie.Need-scan-requires
 scan-requires c κs = search needs
@@ -33,17 +30,18 @@ scan-requires c κs = search needs
 -- what the scan gives is what is kept
 module _ (c : tie.After-scan) where
   abbrev start : tie.Start
-  start = c .before .before .before .before .before .before
+  start = c .before .before .before .before .before
 
   abbrev all : Kept
   all = let a = start .args in keptBy (faceFault (a .body .now) (a .at) (a .vertices)) (facesAt (a .body .now) (a .at))
 
   kept : {v : Values} → c .scan .result .values ≡ v → keptOf v (c .scan .result) ≡ all
   kept u =
-      let r = c .before .before in
+      let r = c .before in
+      let e = r .before .before .header-at .ensures in
       let a = start .args in
-      faces-kept (a .body .now) (a .at) (a .vertices) (r .before .before .length-at .ensures) (r .before .if1 .left)
-      (c .before .code-at .ensures) (r .rest-at .ensures) (c .scan .ensures .0) u
+      faces-kept (a .body .now) (a .at) (a .vertices) (ap (λ h. h .length) e) (r .before .if1 .left)
+      (ap (λ h. h .code) e) (r .rest-at .ensures) (c .scan .ensures .0) u
 
 enum-told : tie.Need-enum-told
 enum-told c = search needs
@@ -66,11 +64,10 @@ pub faces-at-spec : {M : Type 1} → statement M
 faces-at-spec =
     tie.close
     (tie.spec
-    length-at-requires
+    header-at-requires
     broken-requires
     returns
     rest-at-requires
-    code-at-requires
     scan-requires
     enum-told
     enum-known-values

@@ -11,13 +11,13 @@ slice-aggregate-read-named : tie.Need-slice-aggregate-read-named
 slice-aggregate-read-named c = search needs
 
 read-named-requires : tie.Need-read-named-requires
-read-named-requires c κs = search needs
+read-named-requires c κs = c .before .before .before .before .before .pre
 
 slice-aggregate-read-named-2 : tie.Need-slice-aggregate-read-named-2
 slice-aggregate-read-named-2 c = search needs
 
 read-named-requires-2 : tie.Need-read-named-requires-2
-read-named-requires-2 c κs = search needs
+read-named-requires-2 c κs = c .before .before .before .before .before .before .before .pre
 
 cast-weights : tie.Need-cast-weights
 cast-weights c = search needs
@@ -32,16 +32,16 @@ slice-aggregate-read-named-3 : tie.Need-slice-aggregate-read-named-3
 slice-aggregate-read-named-3 c = search needs
 
 read-named-requires-3 : tie.Need-read-named-requires-3
-read-named-requires-3 c κs = search needs
+read-named-requires-3 c κs = c .before .before .before .before .before .before .pre
 
 slice-aggregate-read-named-4 : tie.Need-slice-aggregate-read-named-4
 slice-aggregate-read-named-4 c = search needs
 
 read-named-requires-4 : tie.Need-read-named-requires-4
-read-named-requires-4 c κs = search needs
+read-named-requires-4 c κs = c .before .before .before .before .before .before .before .pre
 
 types-of-requires : tie.Need-types-of-requires
-types-of-requires c κs = search needs
+types-of-requires c κs = c .before .before .before .before .before .before .before .before .pre
 
 returns : tie.Need-returns
 unfolding besideOf letters

@@ -7,15 +7,15 @@ use borrow.Author.Needs.{needs}
 use Rattle.judge.proofs.valued.types_of.Statement.{statement}
 use Rattle.judge.proofs.valued.types_of.Tie as tie
 
-slice-aggregate-first-named : tie.Need-slice-aggregate-first-named
-slice-aggregate-first-named c = search needs
+slice-aggregate-place-named : tie.Need-slice-aggregate-place-named
+slice-aggregate-place-named c = search needs
 
-first-named-requires : tie.Need-first-named-requires
-first-named-requires c κs = search needs
+place-named-requires : tie.Need-place-named-requires
+place-named-requires c κs = c .before .before .before .before .pre
 
 returns : tie.Need-returns
 unfolding typesOf letters
-returns c = rw (← c .before .first-named .ensures .0, le-ltb _ _ (c .if1 .taken))
+returns c = rw (← c .before .place-named .ensures .0, le-ltb _ _ (c .if1 .taken))
 
 mul-rest-at : tie.Need-mul-rest-at
 mul-rest-at c = search needs
@@ -34,12 +34,12 @@ is-text-requires c κs = search needs
 
 -- what the string at that place wants is what is sought
 wanted : (c : tie.After-rest-at) →
-    let a = c .before .before .before .before .before .before .before .args in
+    let a = c .before .before .before .before .before .before .before .before .args in
     typesOf (a .body .now) (a .starts .now) ≡ wantedTypes (c .rest-at .result .now)
 unfolding typesOf letters
 wanted c =
     let t = c .before .before in
-    rw (← t .before .first-named .ensures .0, lt-ltb _ _ (t .if1 .left)) (ap wantedTypes (sym (c .rest-at .ensures)))
+    rw (← t .before .place-named .ensures .0, lt-ltb _ _ (t .if1 .left)) (ap wantedTypes (sym (c .rest-at .ensures)))
 
 returns-2 : tie.Need-returns-2
 unfolding letters
@@ -71,8 +71,8 @@ pub types-of-spec : {M : Type 1} → statement M
 types-of-spec =
     tie.close
     (tie.spec
-    slice-aggregate-first-named
-    first-named-requires
+    slice-aggregate-place-named
+    place-named-requires
     returns
     mul-rest-at
     shared-slice-read-rest-at

@@ -2,14 +2,10 @@
 use native.Mathlib.Nat.{min-eq-left}
 use mathlib.Core.Path.{ap, _∙_}
 use Rattle.le.specs.Le.{numberAt}
-use Rattle.props.specs.Step.{codeAt}
 use Rattle.faces.specs.Faces.{widthOf}
 use borrow.Author.Needs.{needs}
 use Rattle.judge.proofs.valued.value_at.Statement.{statement}
 use Rattle.judge.proofs.valued.value_at.Tie as tie
-
-code-at-requires : tie.Need-code-at-requires
-code-at-requires c κs = search needs
 
 width-of-requires : tie.Need-width-of-requires
 width-of-requires c κs = search needs
@@ -23,13 +19,12 @@ number-at-requires c κs = search needs
 returns : tie.Need-returns
 returns c =
     let w = c .before .before in
-    let a = w .before .before .before .args in
+    let a = w .before .before .args in
     c .number-at .ensures
     ∙ ap (λ n. numberAt n (c .before .rest-at .result .now) 0) (min-eq-left (w .width-of .ensures .1) ∙ w .width-of .ensures .0)
-    ∙ ap (λ n. numberAt (widthOf n) (c .before .rest-at .result .now) 0) (w .before .code-at .ensures)
-    ∙ ap (λ d. numberAt (widthOf (codeAt (a .body .now) (a .at))) d 0) (c .before .rest-at .ensures)
+    ∙ ap (λ d. numberAt (widthOf (a .code)) d 0) (c .before .rest-at .ensures)
 
 pub value-at-spec : {M : Type 1} → statement M
 value-at-spec =
     tie.close
-    (tie.spec code-at-requires width-of-requires rest-at-requires number-at-requires returns)
+    (tie.spec width-of-requires rest-at-requires number-at-requires returns)
