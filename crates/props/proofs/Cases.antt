@@ -158,9 +158,9 @@ type-first : (t : Bool) → Refused (cond t 11 10) ≡ cond t (Refused 11) (Refu
 type-first true = refl
 type-first false = refl
 
-type-alike : (t : Bool) (step : Step) → step ≡ Refused 11 → Refused 11 ≡ cond t (Refused 11) step
-type-alike true step e = refl
-type-alike false step e = sym e
+type-alike : (t : Bool) → Refused 11 ≡ cond t (Refused 11) (Refused 11)
+type-alike true = refl
+type-alike false = refl
 
 module _ (s : List ℕ) (at : ℕ) where
   abbrev type : Bool
@@ -173,7 +173,7 @@ module _ (s : List ℕ) (at : ℕ) where
   module _ (header : 8 ≤ length s - at) where
     pub size-wrong : sizeOk (sizeAt s at) ≡ false → Refused 11 ≡ stepAt s at
     unfolding stepAt
-    size-wrong e = rw (le-ltb _ _ header, e) (type-alike type (Refused 11) refl)
+    size-wrong e = rw (le-ltb _ _ header, e) (type-alike type)
 
     module _ (sized : sizeOk (sizeAt s at) ≡ true) where
       pub name-unfit : length s - at < 8 + sizeAt s at → Refused (nameOut (codeAt s at)) ≡ stepAt s at
@@ -183,7 +183,7 @@ module _ (s : List ℕ) (at : ℕ) where
       module _ (room : 8 + sizeAt s at ≤ length s - at) where
         pub bytes-wrong : bytesOk (nameAt s at) ≡ false → Refused 11 ≡ stepAt s at
         unfolding stepAt
-        bytes-wrong e = rw (le-ltb _ _ header, sized, le-ltb _ _ room, e) (type-alike type (Refused 11) refl)
+        bytes-wrong e = rw (le-ltb _ _ header, sized, le-ltb _ _ room, e) (type-alike type)
 
         pub by-extent : bytesOk (nameAt s at) ≡ true →
             past at (startAt s at) (dataOf (elementSize (codeAt s at)) (lengthAt s at) (drop (startAt s at) s)) ≡ stepAt s at

@@ -9,7 +9,7 @@ use Rattle.props.specs.declared.Size.the-variants.{Bytes, Text, NoSuch}
 use Rattle.props.specs.declared.Step.{Step}
 use Rattle.props.specs.declared.Step.the-variants.{Past, Refused}
 use Rattle.props.specs.Types.{elementSize}
-use Rattle.props.specs.Step.{toZero, stepAt, dataAt, nameAt}
+use Rattle.props.specs.Step.{toZero, stepAt, headerAt, dataAt, nameAt}
 
 -- b h i l f d v2 v3 v4 s, by their letters; and v2 with its letters exchanged
 types : map elementSize (98 ∷ 104 ∷ 105 ∷ 108 ∷ 102 ∷ 100 ∷ 0x7632 ∷ 0x7633 ∷ 0x7634 ∷ 115 ∷ 0x3276 ∷ [])
@@ -78,3 +78,8 @@ parts : (dataAt face 0 ≡ 9) × (nameAt face 0 ≡ 102 ∷ []) × (dataAt (head
     × (nameAt (header 0x62 3 0 ++ (102 ∷ [])) 0 ≡ 102 ∷ [])
 unfolding val numberAt dataAt nameAt
 parts = (refl, refl, refl, refl)
+
+-- the header of the property after a byte, and of one that is cut in its array length
+heads : (headerAt (7 ∷ face) 1 ≡ record { code = 0x62; size = 1; length = 3 }) × (headerAt (take 4 face) 0 ≡ record { code = 0x62; size = 1; length = 0 })
+unfolding val numberAt
+heads = (refl, refl)
