@@ -13,7 +13,7 @@ use Rattle.base.proofs.Tests.{by-test}
 use Rattle.le.specs.Le.{numberAt}
 use Rattle.faces.specs.declared.Face.{Face}
 use Rattle.faces.specs.declared.Values.{Values}
-use Rattle.faces.specs.declared.Values.the-variants.{Below, NotBelow}
+use Rattle.faces.specs.declared.Values.the-variants.{NotBelow}
 use Rattle.faces.specs.declared.Tally.{Tally}
 use Rattle.faces.specs.Private.{faceAt, isOutside, anyOutside, tallyOf, withFace, scanFrom}
 use Rattle.faces.specs.Faces.{facesIn, below, isDegenerate, degenerate, countedBy}
