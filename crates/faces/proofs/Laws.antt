@@ -7,21 +7,35 @@ use mathlib.Core.Bool.{true, false}
 use mathlib.Core.List.{List, [], _∷_}
 use lib.ListN.{length, take, drop}
 use lib.Seq.{take-take, drop-drop}
-use borrow.Author.Tests.{lt-ltb, le-ltb}
+use borrow.Author.Tests.{lt-ltb, le-ltb, ne-eqb}
 use Rattle.le.specs.Le.{numberAt}
+use Rattle.props.specs.Types.{byte, short}
 use Rattle.faces.specs.declared.Face.{Face}
 use Rattle.faces.specs.declared.Values.{Values}
 use Rattle.faces.specs.declared.Values.the-variants.{Below, NotBelow}
-use Rattle.faces.specs.Private.{faceAt}
-use Rattle.faces.specs.Faces.{facesIn, below, isDegenerate, degenerate, countedBy, scanOf}
+use Rattle.faces.specs.Private.{faceAt, scanFrom}
+use Rattle.faces.specs.Faces.{widthOf, facesIn, below, isDegenerate, degenerate, countedBy, scanOf}
 
 -- the numbers read of a width of at most four are a face
 pub face-read : (w : ℕ) (bs : List ℕ) (at : ℕ) {x y z : ℕ} → w ≤ 4 → x ≡ numberAt (min w 4) bs at → y ≡ numberAt (min w 4) bs (at + w)
     → z ≡ numberAt (min w 4) bs (at + 2 * w) → record { a = x; b = y; c = z } ≡ faceAt w bs at
 face-read w bs at h x y z = rw (x, y, z, min-eq-left h)
 
+-- ---- the width of each type
+pub width-byte : (code : ℕ) → code ≡ byte → widthOf code ≡ 1
+unfolding widthOf
+width-byte code e = ap widthOf e
+
+pub width-short : (code : ℕ) → code ≡ short → widthOf code ≡ 2
+unfolding widthOf
+width-short code e = ap widthOf e
+
+pub width-other : (code : ℕ) → (code ≡ byte → ⊥) → (code ≡ short → ⊥) → widthOf code ≡ 4
+unfolding widthOf
+width-other code b s = simp (ne-eqb _ _ b, ne-eqb _ _ s)
+
 -- ---- a face in a part that begins at its place
-take-part : (w k n : ℕ) (l : List ℕ) → k + w ≤ n → take w (drop k (take n l)) ≡ take w (drop k l)
+pub take-part : (w k n : ℕ) (l : List ℕ) → k + w ≤ n → take w (drop k (take n l)) ≡ take w (drop k l)
 take-part w zero n l h = take-take w n l (omega arith)
 take-part w (suc k) zero l h = absurd (omega arith)
 take-part w (suc k) (suc n) [] h = refl
@@ -100,12 +114,14 @@ unfolding degenerate
 count-none d e = rw e (omega arith)
 
 -- ---- what the faces say: from the values that are all below, or from the first that is not
-module _ (v : ℕ) (fs : List Face) where
-  pub scan-past : {k : ℕ} → below v 0 fs ≡ NotBelow k → countedBy (NotBelow k) [] ≡ scanOf v fs
-  unfolding scanOf
+module _ (v k : ℕ) (fs : List Face) where
+  pub scan-past : {j : ℕ} → below v k fs ≡ NotBelow j → countedBy (NotBelow j) [] ≡ scanFrom v k fs
   scan-past e = ap {A = Values} (λ r. countedBy r fs) (sym e)
 
-  pub scan-below : {n d : ℕ} → below v 0 fs ≡ Below → n ≡ length fs → d ≡ degenerate fs
-      → record { values = Below; faces = record { 0 = n }; degenerate = d } ≡ scanOf v fs
-  unfolding scanOf
+  pub scan-below : {n d : ℕ} → below v k fs ≡ Below → n ≡ length fs → d ≡ degenerate fs
+      → record { values = Below; faces = record { 0 = n }; degenerate = d } ≡ scanFrom v k fs
   scan-below e n d = rw (n, d) (ap {A = Values} (λ r. countedBy r fs) (sym e))
+
+pub scan-whole : (v : ℕ) (fs : List Face) → scanFrom v 0 fs ≡ scanOf v fs
+unfolding scanOf
+scan-whole v fs = refl

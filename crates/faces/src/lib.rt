@@ -1,10 +1,12 @@
 // The faces of a mesh: whether each of their values is a vertex, how many faces there are, and how many are degenerate.
 ghost use mathlib.Core.Path.{_≡_};
-ghost use Prim.Native.Nat.{_≤_, _*_};
-ghost use Rattle.faces.specs.Private.{faceAt};
-ghost use Rattle.faces.specs.Faces.{widthOf, facesIn, isDegenerate, countedBy, scanOf, scanNumbers};
-ghost use Rattle.faces.specs.declared.Values.the-variants.{NotBelow};
+ghost use Prim.Native.Nat.{_+_, _*_, _≤_, _<_};
+ghost use mathlib.Core.Bool.{cond};
 ghost use mathlib.Core.List.{[]};
+ghost use lib.ListN.{length};
+ghost use Rattle.faces.specs.Private.{faceAt, isOutside, withFace, tallyOf, scanFrom};
+ghost use Rattle.faces.specs.Faces.{widthOf, facesIn, isDegenerate, countedBy, scanOf, scanNumbers};
+ghost use Rattle.faces.specs.declared.Values.the-variants.{Below, NotBelow};
 
 // A number of faces. It has a type of its own, so that own bytes are never added to it.
 pub struct Faces(pub u64);
@@ -41,8 +43,8 @@ pub fn width_of(code: u16) -> u32
     }
 }
 
-// The face at a place, value by value.
-fn values_at(bytes: &[u8], at: usize, width: u32) -> Face
+// The face at a place.
+fn face_at(bytes: &[u8], at: usize, width: u32) -> Face
     requires { ⌜ (width ≤ 4) × (at ≤ 12 * 4294967296) ⌝ }
     ensures { λ r. ⌜ r ≡ faceAt width (now (bytes .entry)) at ⌝ }
 {
@@ -53,25 +55,6 @@ fn values_at(bytes: &[u8], at: usize, width: u32) -> Face
     let b = le::number_at(bytes, second, width);
     let c = le::number_at(bytes, third, width);
     Face { a, b, c }
-}
-
-// The face at a place. Where 12 bytes are there it reads from a part of just 12, by a constant width, so that it is
-// compiled to three loads.
-fn face_at(bytes: &[u8], at: usize, width: u32) -> Face
-    requires { ⌜ (width ≤ 4) × (at ≤ 12 * 4294967296) ⌝ }
-    ensures { λ r. ⌜ r ≡ faceAt width (now (bytes .entry)) at ⌝ }
-{
-    let end = at + 12;
-    if bytes.len() < end {
-        return values_at(bytes, at, width);
-    }
-    let part = &bytes[at..end];
-    match width {
-        1 => values_at(part, 0, 1),
-        2 => values_at(part, 0, 2),
-        4 => values_at(part, 0, 4),
-        _ => values_at(bytes, at, width),
-    }
 }
 
 fn is_degenerate(f: Face) -> bool
@@ -90,17 +73,30 @@ fn refused_value(k: u64) -> Scanned
     }
 }
 
-// Passes over `count` faces once.
-pub fn scan(bytes: &[u8], code: u16, count: u32, vertices: u32) -> Scanned
-    ensures result { λ r. ⌜ r ≡ scanOf vertices (facesIn (widthOf code) count (now (bytes .entry))) ⌝ }
-    ensures numbers { λ r. ⌜ scanNumbers r ≡ scanNumbers (scanOf vertices (facesIn (widthOf code) count (now (bytes .entry)))) ⌝ }
+// No value is past the limit.
+fn all_below(proper: u64, degenerate: u64) -> Scanned
+    requires { ⌜ proper + degenerate < 4294967296 ⌝ }
+    ensures { λ r. ⌜ r ≡ record { values = Below; faces = record { 0 = proper + degenerate }; degenerate = degenerate } ⌝ }
+{
+    let faces = proper + degenerate;
+    Scanned {
+        values: Values::Below,
+        faces: Faces(faces),
+        degenerate,
+    }
+}
+
+// Passes over `count` faces one by one, wherever their bytes end, the values counted from `start` on.
+fn scan_each(bytes: &[u8], code: u16, count: u32, vertices: u32, start: u64) -> Scanned
+    requires { ⌜ start ≤ 12 * 4294967296 ⌝ }
+    ensures { λ r. ⌜ r ≡ scanFrom vertices start (facesIn (widthOf code) count (now (bytes .entry))) ⌝ }
 {
     let width = width_of(code);
     let step = 3 * width as usize;
     let mut proper: u64 = 0;
     let mut degenerate: u64 = 0;
     let mut at: usize = 0;
-    let mut done: u64 = 0;
+    let mut done = start;
     let mut left = count;
     while 0 < left {
         let f = face_at(bytes, at, width);
@@ -122,10 +118,161 @@ pub fn scan(bytes: &[u8], code: u16, count: u32, vertices: u32) -> Scanned
         done += 3;
         left -= 1;
     }
-    let faces = proper + degenerate;
-    Scanned {
-        values: Values::Below,
-        faces: Faces(faces),
+    all_below(proper, degenerate)
+}
+
+// Whether a value of some faces is past the limit, and how many of them are degenerate.
+struct Tally {
+    outside: bool,
+    degenerate: u32,
+}
+
+fn is_outside(f: Face, vertices: u32) -> bool
+    ensures { λ r. ⌜ r ≡ isOutside vertices f ⌝ }
+{
+    (vertices <= f.a) | (vertices <= f.b) | (vertices <= f.c)
+}
+
+fn one(b: bool) -> u32
+    ensures { λ r. ⌜ (r ≡ cond b 1 0) × (r ≤ 1) ⌝ }
+{
+    if b { 1 } else { 0 }
+}
+
+// One face more, without a branch.
+fn with_face(t: Tally, f: Face, vertices: u32) -> Tally
+    requires { ⌜ t .degenerate ≤ 1024 ⌝ }
+    ensures { λ r. ⌜ r ≡ withFace vertices t f ⌝ }
+{
+    let outside = t.outside | is_outside(f, vertices);
+    let degenerate = t.degenerate + one(is_degenerate(f));
+    Tally {
+        outside,
         degenerate,
     }
+}
+
+// The faces of each width have a loop of their own, which reads parts of a constant length by a constant width and has no
+// branch, so that it is compiled to vector instructions.
+fn tally_b(bytes: &[u8], n: usize, vertices: u32) -> Tally
+    requires { ⌜ (n ≤ 1024) × (n * 3 ≤ length (now bytes)) ⌝ }
+    ensures { λ r. ⌜ r ≡ tallyOf vertices (facesIn 1 n (now (bytes .entry))) ⌝ }
+{
+    let mut t = Tally {
+        outside: false,
+        degenerate: 0,
+    };
+    let mut i: usize = 0;
+    while i < n {
+        let at = 3 * i;
+        let end = at + 3;
+        let part = &bytes[at..end];
+        let f = face_at(part, 0, 1);
+        t = with_face(t, f, vertices);
+        i += 1;
+    }
+    t
+}
+
+fn tally_h(bytes: &[u8], n: usize, vertices: u32) -> Tally
+    requires { ⌜ (n ≤ 1024) × (n * 6 ≤ length (now bytes)) ⌝ }
+    ensures { λ r. ⌜ r ≡ tallyOf vertices (facesIn 2 n (now (bytes .entry))) ⌝ }
+{
+    let mut t = Tally {
+        outside: false,
+        degenerate: 0,
+    };
+    let mut i: usize = 0;
+    while i < n {
+        let at = 6 * i;
+        let end = at + 6;
+        let part = &bytes[at..end];
+        let f = face_at(part, 0, 2);
+        t = with_face(t, f, vertices);
+        i += 1;
+    }
+    t
+}
+
+fn tally_i(bytes: &[u8], n: usize, vertices: u32) -> Tally
+    requires { ⌜ (n ≤ 1024) × (n * 12 ≤ length (now bytes)) ⌝ }
+    ensures { λ r. ⌜ r ≡ tallyOf vertices (facesIn 4 n (now (bytes .entry))) ⌝ }
+{
+    let mut t = Tally {
+        outside: false,
+        degenerate: 0,
+    };
+    let mut i: usize = 0;
+    while i < n {
+        let at = 12 * i;
+        let end = at + 12;
+        let part = &bytes[at..end];
+        let f = face_at(part, 0, 4);
+        t = with_face(t, f, vertices);
+        i += 1;
+    }
+    t
+}
+
+// The tally of `n` faces, all there.
+fn tally_of(bytes: &[u8], code: u16, n: u32, vertices: u32) -> Tally
+    requires { ⌜ (n ≤ 1024) × (n * (3 * widthOf code) ≤ length (now bytes)) ⌝ }
+    ensures { λ r. ⌜ r ≡ tallyOf vertices (facesIn (widthOf code) n (now (bytes .entry))) ⌝ }
+{
+    let faces = n as usize;
+    match code {
+        props::BYTE => tally_b(bytes, faces, vertices),
+        props::SHORT => tally_h(bytes, faces, vertices),
+        _ => tally_i(bytes, faces, vertices),
+    }
+}
+
+// How many of the faces that are left are in the next block.
+fn block_of(left: u32) -> u32
+    requires { ⌜ 0 < left ⌝ }
+    ensures { λ r. ⌜ (0 < r) × (r ≤ left) × (r ≤ 1024) ⌝ }
+{
+    if left < 1024 { left } else { 1024 }
+}
+
+// Passes over `count` faces, all there, by blocks; a block with a value past the limit is passed over again, one by one.
+fn scan_blocks(bytes: &[u8], code: u16, count: u32, vertices: u32) -> Scanned
+    requires { ⌜ count * (3 * widthOf code) ≤ length (now bytes) ⌝ }
+    ensures { λ r. ⌜ r ≡ scanOf vertices (facesIn (widthOf code) count (now (bytes .entry))) ⌝ }
+{
+    let step = 3 * width_of(code) as usize;
+    let mut proper: u64 = 0;
+    let mut degenerate: u64 = 0;
+    let mut at: usize = 0;
+    let mut done: u64 = 0;
+    let mut left = count;
+    while 0 < left {
+        let n = block_of(left);
+        let end = at + n as usize * step;
+        let block = &bytes[at..end];
+        let t = tally_of(block, code, n, vertices);
+        if t.outside {
+            return scan_each(block, code, n, vertices, done);
+        }
+        let equal = t.degenerate;
+        proper += (n - equal) as u64;
+        degenerate += equal as u64;
+        at = end;
+        done += 3 * n as u64;
+        left -= n;
+    }
+    all_below(proper, degenerate)
+}
+
+// Passes over `count` faces once.
+pub fn scan(bytes: &[u8], code: u16, count: u32, vertices: u32) -> Scanned
+    ensures result { λ r. ⌜ r ≡ scanOf vertices (facesIn (widthOf code) count (now (bytes .entry))) ⌝ }
+    ensures numbers { λ r. ⌜ scanNumbers r ≡ scanNumbers (scanOf vertices (facesIn (widthOf code) count (now (bytes .entry)))) ⌝ }
+{
+    let step = 3 * width_of(code) as usize;
+    let size = count as usize * step;
+    if bytes.len() < size {
+        return scan_each(bytes, code, count, vertices, 0);
+    }
+    scan_blocks(bytes, code, count, vertices)
 }
