@@ -1,6 +1,7 @@
 // The kinds of nodes: which are known, and which may stand under which.
 ghost use mathlib.Core.Path.{_≡_};
-ghost use Rattle.kinds.specs.Kinds.{parentsOf, isKnown, standsAtTop, standsUnder, mayStand};
+ghost use Rattle.kinds.specs.Kinds.{parentsOf, isListed, isKnown, mayStand, standingOf};
+ghost use Rattle.kinds.specs.Private.{isNone, isKind, hasKnown, standsBy};
 
 // The sixteen known kinds.
 pub const ROOT: u32 = 0x746F6F72;
@@ -57,16 +58,22 @@ fn parents_of(kind: u32) -> Parents
     }
 }
 
-// Whether a kind is one of the sixteen.
-pub fn known(kind: u32) -> bool
-    ensures { λ r. ⌜ r ≡ isKnown kind ⌝ }
+fn is_listed(parents: Parents) -> bool
+    ensures { λ r. ⌜ r ≡ isListed parents ⌝ }
 {
-    match parents_of(kind) {
+    match parents {
         Parents::Top => true,
         Parents::Under(_) => true,
         Parents::UnderEither(_, _) => true,
         Parents::Unknown => false,
     }
+}
+
+// Whether a kind is one of the sixteen.
+pub fn known(kind: u32) -> bool
+    ensures { λ r. ⌜ r ≡ isKnown kind ⌝ }
+{
+    is_listed(parents_of(kind))
 }
 
 // The kind of the node around a node, or that there is none: the node is at the top.
@@ -75,25 +82,42 @@ pub enum Parent {
     Kind(u32),
 }
 
-fn stands_at_top(kind: u32) -> bool
-    ensures { λ r. ⌜ r ≡ standsAtTop kind ⌝ }
+fn is_none(parent: Parent) -> bool
+    ensures { λ r. ⌜ r ≡ isNone parent ⌝ }
 {
-    match parents_of(kind) {
-        Parents::Top => true,
-        Parents::Under(_) => false,
-        Parents::UnderEither(_, _) => false,
-        Parents::Unknown => false,
+    match parent {
+        Parent::None => true,
+        Parent::Kind(_) => false,
     }
 }
 
-fn stands_under(parent: u32, kind: u32) -> bool
-    ensures { λ r. ⌜ r ≡ standsUnder parent kind ⌝ }
+fn is_kind(parent: Parent, kind: u32) -> bool
+    ensures { λ r. ⌜ r ≡ isKind parent kind ⌝ }
 {
-    match parents_of(kind) {
-        Parents::Top => false,
-        Parents::Under(only) => parent == only,
-        Parents::UnderEither(first, second) => (parent == first) | (parent == second),
-        Parents::Unknown => known(parent),
+    match parent {
+        Parent::None => false,
+        Parent::Kind(own) => own == kind,
+    }
+}
+
+fn is_known(parent: Parent) -> bool
+    ensures { λ r. ⌜ r ≡ hasKnown parent ⌝ }
+{
+    match parent {
+        Parent::None => false,
+        Parent::Kind(own) => known(own),
+    }
+}
+
+// Whether a kind with these parents may stand there.
+fn stands(parent: Parent, parents: Parents) -> bool
+    ensures { λ r. ⌜ r ≡ standsBy parent parents ⌝ }
+{
+    match parents {
+        Parents::Top => is_none(parent),
+        Parents::Under(only) => is_kind(parent, only),
+        Parents::UnderEither(first, second) => is_kind(parent, first) | is_kind(parent, second),
+        Parents::Unknown => is_known(parent),
     }
 }
 
@@ -101,8 +125,33 @@ fn stands_under(parent: u32, kind: u32) -> bool
 pub fn may_stand(parent: Parent, kind: u32) -> bool
     ensures { λ r. ⌜ r ≡ mayStand parent kind ⌝ }
 {
-    match parent {
-        Parent::None => stands_at_top(kind),
-        Parent::Kind(k) => stands_under(k, kind),
+    stands(parent, parents_of(kind))
+}
+
+// How a node stands in its place: it may not, or it may, of a known kind or an unknown one.
+pub enum Standing {
+    Barred,
+    Known,
+    Unknown,
+}
+
+// How a node of this kind stands there: both questions by one look at its kind.
+pub fn standing_of(parent: Parent, kind: u32) -> Standing
+    ensures { λ r. ⌜ r ≡ standingOf parent kind ⌝ }
+{
+    let parents = parents_of(kind);
+    let may = stands(parent, parents);
+    if is_listed(parents) {
+        if may {
+            Standing::Known
+        } else {
+            Standing::Barred
+        }
+    } else {
+        if may {
+            Standing::Unknown
+        } else {
+            Standing::Barred
+        }
     }
 }

@@ -115,7 +115,11 @@ pub limited-is : Limited
 unfolding limited
 limited-is s = (λ h. rw (le-ltb 16777216 (length s) h), λ h. rw (lt-ltb 16777216 (length s) h))
 
--- ---- the cases of a node with this header
+-- ---- the cases of a node: no header, or this one
+pub node-short : (parent : Parent) (above depth at row : ℕ) (bs : List ℕ) → length bs < 24 → nodeAt parent above depth at row bs ≡ refusedWalk 5 at
+unfolding nodeAt
+node-short parent above depth at row bs = no-header (suc (length bs)) parent above depth at row bs
+
 module _ (parent : Parent) (above depth at row : ℕ) (bs : List ℕ) {h : Header} (is : headerAt bs ≡ h) where
   pub node-refused : {n : ℕ} → nodeRefusal h (length bs) parent row depth ≡ n → (n ≡ 0 → ⊥) → nodeAt parent above depth at row bs ≡ refusedWalk n at
   unfolding nodeAt node

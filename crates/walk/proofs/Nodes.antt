@@ -1,10 +1,12 @@
 -- What the walk over one node promises, in each of its cases, from what was read of it.
-use Prim.Native.Nat.{ℕ, _+_, _-_, _≤_}
+use Prim.Native.Nat.{ℕ, _+_, _-_, _<_, _≤_}
 use native.Mathlib.Omega.{arith}
 use mathlib.Core.Path.{_≡_, ap, sym, _∙_}
 use mathlib.Core.Bool.{true, false}
-use mathlib.Core.List.{List}
-use lib.ListN.{length, length-take, length-drop}
+use mathlib.Core.List.{List, _++_}
+use lib.ListN.{length, take, drop, length-take, length-drop, take-append-drop}
+use lib.Seq.{length-take-le, take-append-le, drop-append-le}
+use Rattle.le.specs.Le.{numberAt}
 use Rattle.le.proofs.Laws.{rest, rest-drop, length-rest}
 use Rattle.kinds.specs.declared.Parent.{Parent}
 use Rattle.kinds.specs.declared.Parent.the-variants.{Kind}
@@ -16,10 +18,10 @@ use Rattle.body.proofs.Places.{properties-end}
 use Rattle.walk.specs.declared.Header.{Header}
 use Rattle.walk.specs.declared.Reached.{Reached}
 use Rattle.walk.specs.Walk.{headerAt, nodeRefusal, rowOfHeader, inside, nodeAt, childrenAt}
-use Rattle.walk.specs.Private.{Came}
-use Rattle.walk.proofs.Laws.{node-refused, node-unknown, node-bad, node-passed}
+use Rattle.walk.specs.Private.{leftOver, Came}
+use Rattle.walk.proofs.Laws.{node-short, node-refused, node-unknown, node-bad, node-passed}
 use Rattle.walk.proofs.Cases.{Right, passes}
-use Rattle.walk.proofs.Steps.{stops, puts, then}
+use Rattle.walk.proofs.Steps.{stops, puts, then, none-left}
 
 -- the bytes after a node's header: its properties end within them, and its children have what is left
 module _ (h : Header) (bs : List ℕ) where
@@ -31,6 +33,32 @@ module _ (h : Header) (bs : List ℕ) where
 
   pub body-end : {p : Passed} → p ≡ endOf (properties (inside h bs) (h .properties)) → p .at ≤ length (inside h bs)
   body-end e = omega (arith, ap (λ q. q .at) e, properties-end (inside h bs) (h .properties))
+
+-- the first 24 bytes have the header
+numberAt-front : (w : ℕ) (front more : List ℕ) (k : ℕ) → k + w ≤ length front → numberAt w (front ++ more) k ≡ numberAt w front k
+unfolding numberAt
+numberAt-front w front more k h =
+    rw (drop-append-le k front more (omega arith), take-append-le w (drop k front) more (simp length-drop (omega arith)))
+
+header-of : (front more : List ℕ) → 24 ≤ length front → headerAt (front ++ more) ≡ headerAt front
+unfolding headerAt
+header-of front more h =
+    rw (
+      numberAt-front 4 front more 0 (omega arith),
+      numberAt-front 4 front more 4 (omega arith),
+      numberAt-front 4 front more 8 (omega arith),
+      numberAt-front 4 front more 12 (omega arith),
+      numberAt-front 4 front more 16 (omega arith),
+      numberAt-front 4 front more 20 (omega arith),
+    )
+
+pub header-front : (bs : List ℕ) → 24 ≤ length bs → headerAt (take 24 bs) ≡ headerAt bs
+header-front bs l = sym (header-of (take 24 bs) (drop 24 bs) (omega (arith, length-take-le 24 bs l))) ∙ ap headerAt (take-append-drop 24 bs)
+
+-- it has no header
+pub no-room : (parent : Parent) (above depth at row : ℕ) (bs t : List ℕ) → length bs < 24 → row ≤ 1024
+    → Came (record { number = 5; at = at; rows = row }) (nodeAt parent above depth at row bs) at row bs t t
+no-room parent above depth at row bs t short few = stops (node-short parent above depth at row bs short) few (omega arith) (omega arith)
 
 module _ (parent : Parent) (above depth at row : ℕ) (bs t : List ℕ) {h : Header} (is : h ≡ headerAt bs) where
   -- its header is refused
@@ -72,3 +100,10 @@ module _ (parent : Parent) (above depth at row : ℕ) (bs t : List ℕ) {h : Hea
           let ended = ap (λ q. q .at) e in
           rw (whole, ← ended) (then (puts put (found .few) (omega arith) (omega (arith, end))) (rw (rest-drop (inside h bs) (p .at)) at c)
           (omega (arith, end, found .within, length-drop (p .at) (inside h bs), length-inside h bs (found .within))))
+
+      -- its row, and no child
+      pub childless : p .number ≡ 0 → h .children ≡ 0 → {t′ : List ℕ} → t′ ≡ withRow t row (rowOfHeader h above (at + 24) (at + 24 + p .at))
+          → {n : ℕ} → n ≡ leftOver (length (inside h bs) - p .at)
+          → Came (record { number = n; at = at + 24 + p .at; rows = row + 1 }) (nodeAt parent above depth at row bs) at row bs t t′
+      childless z none put e =
+          with-children z put (rw none (none-left (Kind (h .kind)) row (depth + 1) (e ∙ ap leftOver (sym (length-rest (inside h bs) (p .at)))) (omega (arith, found .few))))

@@ -7,6 +7,9 @@ use mathlib.Core.Path.{_≡_, refl, sym, ap, _∙_}
 use mathlib.Core.List.{List, [], _∷_, _++_, append-assoc}
 use lib.ListN.{length, drop, length-append, length-drop}
 use lib.Seq.{drop-drop}
+use lib.Dec.{ltb}
+use borrow.Author.Tests.{ltb-true, ltb-false}
+use Rattle.base.proofs.Tests.{by-test}
 use Rattle.le.proofs.Laws.{rest, rest-drop}
 use Rattle.kinds.specs.declared.Parent.{Parent}
 use Rattle.table.specs.declared.Row.{Row}
@@ -14,7 +17,7 @@ use Rattle.table.specs.Table.{withRow, putRows}
 use Rattle.table.proofs.Rows.{putRows-append, length-putRows}
 use Rattle.walk.specs.declared.Reached.{Reached}
 use Rattle.walk.specs.Walk.{Walked, refusedWalk, walkedTo, afterRows, nodeAt, childrenAt}
-use Rattle.walk.specs.Private.{Came}
+use Rattle.walk.specs.Private.{leftOver, Came}
 use Rattle.walk.proofs.Laws.{list-over, list-done, list-refused, list-next}
 
 -- it ends with no row of its own
@@ -58,6 +61,14 @@ then {q} {r} {v} {w} {at} {row} {bs} {cs} {t} {u} {t′} first second fit = reco
   within = omega (arith, second .within);
 }
 
+-- no node is left to walk
+pub none-left : (parent : Parent) (above depth : ℕ) {at row n : ℕ} {bs t : List ℕ} → n ≡ leftOver (length bs) → row ≤ 1024
+    → Came (record { number = n; at = at; rows = row }) (childrenAt parent above depth 0 at row bs) at row bs t t
+none-left parent above depth {at} {row} {n} {bs} e few =
+    rw e (by-test (ltb 0 (length bs))
+    (λ q. rw q (stops (list-over parent above depth at row bs (ltb-true _ _ q)) few (omega arith) (omega arith)))
+    (λ q. rw q (stops (list-done parent above depth at row bs (ltb-false _ _ q)) few (omega arith) (omega arith))))
+
 -- the table keeps its length
 pub came-length : {r : Reached} {w : Walked} {at row : ℕ} {bs t t′ : List ℕ} → Came r w at row bs t t′ → length t′ ≡ length t
 came-length c = ap length (c .table) ∙ length-putRows _ _ _
@@ -82,21 +93,12 @@ module _ {parent : Parent} {above depth count start row : ℕ} {bs t u : List �
   from : {r : Reached} {w : Walked} {t′ : List ℕ} → Came r w at rows (drop (at - start) bs) u t′ → Came r (afterRows (g .put) w) start row bs t t′
   from c = then (g .came) c (simp length-drop (omega (arith, g .came .onward, g .came .within)))
 
-  -- none is left, and bytes are
-  pub left-over : left ≤ 0 → at - start < length bs
-      → Came (record { number = 12; at = at; rows = rows }) (childrenAt parent above depth count start row bs) start row bs t u
-  left-over none l =
+  -- none is left
+  pub all-walked : left ≤ 0 → {n : ℕ} → n ≡ leftOver (length bs - (at - start))
+      → Came (record { number = n; at = at; rows = rows }) (childrenAt parent above depth count start row bs) start row bs t u
+  all-walked none e =
       let zero : left ≡ 0 = omega arith in
-      let bytes : 0 < length (drop (at - start) bs) = simp length-drop (omega arith) in
-      rw (g .whole, zero) (from (stops (list-over parent above depth at rows (drop (at - start) bs) bytes) (g .came .few) (omega arith) (omega arith)))
-
-  -- none is left, and no byte
-  pub all-done : left ≤ 0 → length bs ≤ at - start
-      → Came (record { number = 0; at = at; rows = rows }) (childrenAt parent above depth count start row bs) start row bs t u
-  all-done none l =
-      let zero : left ≡ 0 = omega arith in
-      let bytes : length (drop (at - start) bs) ≤ 0 = simp length-drop (omega arith) in
-      rw (g .whole, zero) (from (stops (list-done parent above depth at rows (drop (at - start) bs) bytes) (g .came .few) (omega arith) (omega arith)))
+      rw (g .whole, zero) (from (none-left parent above depth (e ∙ ap leftOver (sym (length-drop (at - start) bs))) (g .came .few)))
 
   -- a node is walked
   module _ {r : Reached} {t′ : List ℕ} (more : 0 < left) (c : Came r (nodeAt parent above depth at rows (rest bs (at - start))) at rows (rest bs (at - start)) u t′) where

@@ -1,12 +1,44 @@
 -- What private functions promise each other; nothing here need be believed.
 use mathlib.Core.Path.{_≡_}
+use mathlib.Core.Bool.{Bool, true, false, cond, _&&_}
 use Prim.Native.Nat.{ℕ, _+_, _≤_}
 use mathlib.Core.List.{List}
+use lib.Dec.{leb, ltb}
 use lib.ListN.{length}
-use Rattle.base.specs.Limits.{mostRows}
+use Rattle.base.specs.Limits.{mostProperties, mostRows}
+use Rattle.kinds.specs.declared.Standing.{Standing}
+use Rattle.kinds.specs.declared.Standing.the-variants.{Barred, Known, Unknown}
 use Rattle.table.specs.Table.{putRows}
+use Rattle.walk.specs.declared.Header.{Header}
 use Rattle.walk.specs.declared.Reached.{Reached}
-use Rattle.walk.specs.Walk.{Walked}
+use Rattle.walk.specs.Walk.{Walked, illSized}
+
+-- ---- the refusal of a header, from how its node stands
+abbrev pub isBarred : Standing → Bool
+isBarred Barred = true
+isBarred Known = false
+isBarred Unknown = false
+
+abbrev pub knownThere : Standing → Bool
+knownThere Barred = false
+knownThere Known = true
+knownThere Unknown = false
+
+abbrev pub tooManyThere : Standing → (count : ℕ) → Bool
+tooManyThere s count = knownThere s && ltb mostProperties count
+
+unfoldable pub refusalThere : Header → (room : ℕ) → Standing → (row depth : ℕ) → ℕ
+refusalThere h room s row depth =
+    cond (illSized (h .size) room) 5
+    (cond (isBarred s) 6
+    (cond (leb mostRows row) 7
+    (cond (ltb 8 depth) 8
+    (cond (tooManyThere s (h .properties)) 9 0))))
+
+-- ---- walks
+-- 12 where bytes are left after the last node, else 0
+abbrev pub leftOver : ℕ → ℕ
+leftOver left = cond (ltb 0 left) 12 0
 
 -- from a place and a row on it came to w in these bytes, and the table t became t′
 pub record Came (r : Reached) (w : Walked) (at row : ℕ) (bs t t′ : List ℕ) : Type 0 where

@@ -3,8 +3,10 @@ ghost use mathlib.Core.Path.{_≡_};
 ghost use Prim.Native.Nat.{_+_, _≤_};
 ghost use lib.ListN.{length};
 ghost use Rattle.base.specs.Limits.{mostBytes, mostRows};
-ghost use Rattle.walk.specs.Walk.{headerAt, illSized, tooMany, nodeRefusal, rowOfHeader, nodeAt, childrenAt, isCast, limited, refusedAnswer, answer, tableWalked};
-ghost use Rattle.walk.specs.Private.{Came};
+ghost use Rattle.table.specs.Table.{withRow};
+ghost use Rattle.body.specs.Body.{properties, endOf};
+ghost use Rattle.walk.specs.Walk.{headerAt, illSized, rowOfHeader, nodeAt, childrenAt, isCast, limited, refusedAnswer, answer, tableWalked};
+ghost use Rattle.walk.specs.Private.{isBarred, knownThere, tooManyThere, refusalThere, leftOver, Came};
 
 // The numbers of a node's header, the hash in its halves.
 pub struct Header {
@@ -43,26 +45,46 @@ fn ill_sized(size: u32, room: usize) -> bool
     (room < 24) | (size < 24) | (room < size as usize)
 }
 
-fn too_many(kind: u32, properties: u32) -> bool
-    ensures { λ r. ⌜ r ≡ tooMany kind properties ⌝ }
+fn is_barred(standing: kinds::Standing) -> bool
+    ensures { λ r. ⌜ r ≡ isBarred standing ⌝ }
 {
-    kinds::known(kind) & (base::MOST_PROPERTIES < properties)
+    match standing {
+        kinds::Standing::Barred => true,
+        kinds::Standing::Known => false,
+        kinds::Standing::Unknown => false,
+    }
+}
+
+fn is_known(standing: kinds::Standing) -> bool
+    ensures { λ r. ⌜ r ≡ knownThere standing ⌝ }
+{
+    match standing {
+        kinds::Standing::Barred => false,
+        kinds::Standing::Known => true,
+        kinds::Standing::Unknown => false,
+    }
+}
+
+fn too_many(standing: kinds::Standing, properties: u32) -> bool
+    ensures { λ r. ⌜ r ≡ tooManyThere standing properties ⌝ }
+{
+    is_known(standing) & (base::MOST_PROPERTIES < properties)
 }
 
 // What a node's header is refused with, 5 to 9, where `room` bytes are left from it on: 0 for nothing.
-pub fn node_refusal(
+fn node_refusal(
     header: Header,
     room: usize,
-    parent: kinds::Parent,
+    standing: kinds::Standing,
     row: usize,
     depth: u32,
 ) -> u32
-    ensures { λ r. ⌜ r ≡ nodeRefusal header room parent row depth ⌝ }
+    ensures { λ r. ⌜ r ≡ refusalThere header room standing row depth ⌝ }
 {
     if ill_sized(header.size, room) {
         return 5;
     }
-    if !kinds::may_stand(parent, header.kind) {
+    if is_barred(standing) {
         return 6;
     }
     if base::MOST_ROWS <= row {
@@ -71,10 +93,27 @@ pub fn node_refusal(
     if 8 < depth {
         return 8;
     }
-    if too_many(header.kind, header.properties) {
+    if too_many(standing, header.properties) {
         return 9;
     }
     0
+}
+
+// Where the properties of a node end; without any, the body is not looked at.
+fn pass_properties(inside: &[u8], count: u32) -> body::Passed
+    ensures { λ r. ⌜ r ≡ endOf (properties (now (inside .entry)) count) ⌝ }
+{
+    if count == 0 {
+        return body::Passed { number: 0, at: 0 };
+    }
+    body::pass(inside, count)
+}
+
+// What bytes after the last of some nodes are refused with: 0 for nothing, where none are left.
+fn left_over(left: usize) -> u32
+    ensures { λ r. ⌜ r ≡ leftOver left ⌝ }
+{
+    if 0 < left { 12 } else { 0 }
 }
 
 // Where a walk came to: with number 0 just past what it walked, with another at what it is refused for; and how many rows
@@ -101,6 +140,14 @@ fn row_of(h: Header, above: u32, start: u32, end: u32) -> table::Row
     }
 }
 
+// Puts a node's row into the table.
+fn put_node(table: &mut [u32], row: usize, h: Header, above: u32, start: usize, end: usize)
+    requires { ⌜ (start ≤ mostBytes) × (end ≤ mostBytes) ⌝ }
+    ensures { λ _. ⌜ now (table .exit) ≡ withRow (now (table .entry)) row (rowOfHeader h above start end) ⌝ }
+{
+    table::put_row(table, row, row_of(h, above, start as u32, end as u32));
+}
+
 // The node at the start of `bytes`, which end with what encloses it. Its place is `at`, its row `row`.
 fn walk_node(
     bytes: &[u8],
@@ -117,8 +164,16 @@ fn walk_node(
         at row (now (bytes .entry)) (now (table .entry)) (now (table .exit)) ⌝ }
 {
     let room = bytes.len();
-    let h = header_at(bytes);
-    let number = node_refusal(h, room, parent, row, depth);
+    if room < 24 {
+        return Reached {
+            number: 5,
+            at,
+            rows: row,
+        };
+    }
+    let h = header_at(&bytes[..24]);
+    let standing = kinds::standing_of(parent, h.kind);
+    let number = node_refusal(h, room, standing, row, depth);
     if number != 0 {
         return Reached {
             number,
@@ -126,20 +181,20 @@ fn walk_node(
             rows: row,
         };
     }
+    let size = h.size as usize;
     let start = at + 24;
     let rows = row + 1;
-    if !kinds::known(h.kind) {
-        let end = at + h.size as usize;
-        table::put_row(table, row, row_of(h, above, start as u32, end as u32));
+    if !is_known(standing) {
+        let end = at + size;
+        put_node(table, row, h, above, start, end);
         return Reached {
             number: 0,
             at: end,
             rows,
         };
     }
-    let size = h.size as usize;
     let inside = &bytes[24..size];
-    let p = body::pass(inside, h.properties);
+    let p = pass_properties(inside, h.properties);
     let number = p.number;
     let passed = p.at;
     let end = start + passed;
@@ -150,7 +205,15 @@ fn walk_node(
             rows: row,
         };
     }
-    table::put_row(table, row, row_of(h, above, start as u32, end as u32));
+    put_node(table, row, h, above, start, end);
+    if h.children == 0 {
+        let number = left_over(inside.len() - passed);
+        return Reached {
+            number,
+            at: end,
+            rows,
+        };
+    }
     walk_children(
         &inside[passed..],
         table,
@@ -192,18 +255,8 @@ fn walk_children(
         rows = w.rows;
         left -= 1;
     }
-    if at - start < bytes.len() {
-        return Reached {
-            number: 12,
-            at,
-            rows,
-        };
-    }
-    Reached {
-        number: 0,
-        at,
-        rows,
-    }
+    let number = left_over(bytes.len() - (at - start));
+    Reached { number, at, rows }
 }
 
 // What a walk over a file answers: number 0, how many nodes it has, and its flags; or the refusal's number and place.

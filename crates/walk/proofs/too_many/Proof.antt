@@ -3,11 +3,11 @@ use borrow.Author.Needs.{needs}
 use Rattle.walk.proofs.too_many.Statement.{statement}
 use Rattle.walk.proofs.too_many.Tie as tie
 
-known-requires : tie.Need-known-requires
-known-requires c κs = search needs
+is-known-requires : tie.Need-is-known-requires
+is-known-requires c κs = search needs
 
 returns : tie.Need-returns
-returns c = rw (c .known .ensures)
+returns c = rw (c .is-known .ensures)
 
 pub too-many-spec : {M : Type 1} → statement M
-too-many-spec = tie.close (tie.spec known-requires returns)
+too-many-spec = tie.close (tie.spec is-known-requires returns)

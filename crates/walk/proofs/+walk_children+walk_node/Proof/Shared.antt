@@ -3,12 +3,13 @@ use Prim.Native.Nat.{ℕ, _<_, _+_, _*_}
 use lib.ListN.{length}
 use borrow.Fn.Kinds.{In}
 use borrow.Fn.PlainCycle.{Measures, is, falls, and}
-use Rattle.body.proofs.pass.Reads as pass-reads
-use Rattle.kinds.proofs.known.Reads as known-reads
-use Rattle.table.proofs.put_row.Reads as put-row-reads
+use Rattle.kinds.proofs.standing_of.Reads as standing-of-reads
 use Rattle.walk.proofs.header_at.Reads as header-at-reads
+use Rattle.walk.proofs.is_known.Reads as is-known-reads
+use Rattle.walk.proofs.left_over.Reads as left-over-reads
 use Rattle.walk.proofs.node_refusal.Reads as node-refusal-reads
-use Rattle.walk.proofs.row_of.Reads as row-of-reads
+use Rattle.walk.proofs.pass_properties.Reads as pass-properties-reads
+use Rattle.walk.proofs.put_node.Reads as put-node-reads
 use Rattle.walk.proofs.walk_children.Reads as walk-children
 use Rattle.walk.proofs.walk_children.Kinds as walk-children-kinds
 use Rattle.walk.proofs.+walk_children+walk_node.Lts-walk_children as walk-children-lts
@@ -42,22 +43,24 @@ walk-node-below t =
     and 2 walk-node-kinds.ps (falls 2 walk-node-kinds.ps _<_ μ-walk-node t) walk-node.Pre
 
 abbrev pub walk-children-calls : ℕ → walk-children-lts.Claims
-walk-children-calls t = (walk-node-below t, walk-node.Post)
+walk-children-calls t = (walk-node-below t, walk-node.Post, left-over-reads.Asked, left-over-reads.Learnt)
 
 abbrev pub walk-node-calls : ℕ → walk-node-lts.Claims
 walk-node-calls t = (
   header-at-reads.Asked,
   header-at-reads.Learnt,
+  standing-of-reads.Asked,
+  standing-of-reads.Learnt,
   node-refusal-reads.Asked,
   node-refusal-reads.Learnt,
-  known-reads.Asked,
-  known-reads.Learnt,
-  row-of-reads.Asked,
-  row-of-reads.Learnt,
-  put-row-reads.Asked,
-  put-row-reads.Learnt,
-  pass-reads.Asked,
-  pass-reads.Learnt,
+  is-known-reads.Asked,
+  is-known-reads.Learnt,
+  put-node-reads.Asked,
+  put-node-reads.Learnt,
+  pass-properties-reads.Asked,
+  pass-properties-reads.Learnt,
+  left-over-reads.Asked,
+  left-over-reads.Learnt,
   walk-children-below t,
   walk-children.Post,
 )

@@ -3,7 +3,7 @@ use Prim.Native.Nat.{ℕ}
 use native.Mathlib.Omega.{arith}
 use mathlib.Core.Path.{_∙_}
 use borrow.Author.Needs.{needs}
-use Rattle.walk.proofs.Steps.{Going, going, turn, turn-refused, left-over, all-done, came-length}
+use Rattle.walk.proofs.Steps.{Going, going, turn, turn-refused, all-walked, came-length}
 use Rattle.walk.proofs.walk_children.Reads as walk-children
 use Rattle.walk.proofs.+walk_children+walk_node.Lts-walk_children as walk-children-lts
 use Rattle.walk.proofs.+walk_children+walk_node.Proof.Shared.{walk-children-at, walk-children-calls}
@@ -56,20 +56,20 @@ loop-again t c =
     let i = m .before .before .before in
     turn (i .before .loop .inv) (i .loop-test .taken) (m .walk-node .ensures) (c .if1 .left)
 
-sub-if2 : (t : ℕ) → walk-children-lts.Need-sub-if2 (walk-children-calls t) (walk-children-at t) walk-children.Post Inv-loop μ-loop
-sub-if2 t c = search needs
+sub-left-over : (t : ℕ) → walk-children-lts.Need-sub-left-over (walk-children-calls t) (walk-children-at t) walk-children.Post Inv-loop μ-loop
+sub-left-over t c = search needs
+
+sub-left-over-2 : (t : ℕ) → walk-children-lts.Need-sub-left-over-2 (walk-children-calls t) (walk-children-at t) walk-children.Post Inv-loop μ-loop
+sub-left-over-2 t c = search needs
+
+left-over-requires : (t : ℕ) → walk-children-lts.Need-left-over-requires (walk-children-calls t) (walk-children-at t) walk-children.Post Inv-loop μ-loop
+left-over-requires t c κs = search needs
 
 same-length-2 : (t : ℕ) → walk-children-lts.Need-same-length-2 (walk-children-calls t) (walk-children-at t) walk-children.Post Inv-loop μ-loop
 same-length-2 t c = came-length (c .before .before .loop .inv .came)
 
 returns-2 : (t : ℕ) → walk-children-lts.Need-returns-2 (walk-children-calls t) (walk-children-at t) walk-children.Post Inv-loop μ-loop
-returns-2 t c = left-over (c .before .before .loop .inv) (c .before .loop-test .left) (c .if2 .taken)
-
-same-length-3 : (t : ℕ) → walk-children-lts.Need-same-length-3 (walk-children-calls t) (walk-children-at t) walk-children.Post Inv-loop μ-loop
-same-length-3 t c = came-length (c .before .before .loop .inv .came)
-
-returns-3 : (t : ℕ) → walk-children-lts.Need-returns-3 (walk-children-calls t) (walk-children-at t) walk-children.Post Inv-loop μ-loop
-returns-3 t c = all-done (c .before .before .loop .inv) (c .before .loop-test .left) (c .if2 .left)
+returns-2 t c = all-walked (c .before .before .loop .inv) (c .before .loop-test .left) (c .left-over .ensures)
 
 pub closed : {M : Type 1} (t : ℕ) → walk-children-lts.Closed (walk-children-calls t) (walk-children-at t) walk-children.Post M
 closed t =
@@ -90,8 +90,8 @@ closed t =
     (sub-left t)
     (loop-less t)
     (loop-again t)
-    (sub-if2 t)
+    (sub-left-over t)
+    (sub-left-over-2 t)
+    (left-over-requires t)
     (same-length-2 t)
     (returns-2 t)
-    (same-length-3 t)
-    (returns-3 t)
