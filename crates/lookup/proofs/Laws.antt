@@ -1,92 +1,118 @@
--- The search in a body by its index; and what it finds lies within.
+-- The search in a body, a property at a time; and what it finds lies within.
 use mathlib.Core.Path.{_≡_, refl, sym, ap, _∙_}
-use mathlib.Core.Bool.{Bool, true, false, cond, not}
+use mathlib.Core.Bool.{Bool, true, false, cond, _&&_, not}
 use mathlib.Core.List.{List, [], _∷_}
-use Prim.Native.Nat.{ℕ, _+_, _<_, _≤_}
+use Prim.Native.Nat.{ℕ, suc, _+_, _-_, _<_, _≤_}
 use native.Mathlib.Numerals.{add-one}
 use native.Mathlib.Omega.{arith}
 use lib.Dec.{eqb}
-use lib.ListN.{length, getD, take, replicate, List·getD-append}
-use lib.Seq.{getD-append-seam, length-sets, length-take-le}
-use borrow.Author.Tests.{eq-eqb, ne-eqb, eqb-false}
-use Rattle.props.specs.Step.{dataAt}
-use Rattle.body.specs.declared.Index.{Index}
-use Rattle.body.specs.Body.{properties, exactly, places, indexOf, firstNamed}
-use Rattle.body.proofs.Laws.{first-most}
-use Rattle.body.proofs.Places.{properties-few, properties-places, properties-data, index-places, index-starts}
+use lib.ListN.{length, getD, List·getD-append}
+use borrow.Author.Tests.{eq-eqb, ne-eqb, eqb-true, eqb-false}
+use Rattle.base.proofs.Tests.{by-test}
+use Rattle.le.proofs.Laws.{rest}
+use Rattle.names.specs.Names.{same}
+use Rattle.props.specs.declared.Cursor.{Cursor}
+use Rattle.props.specs.declared.Offsets.{Offsets}
+use Rattle.props.specs.declared.Step.the-variants.{Past}
+use Rattle.props.specs.declared.Step.the-variants.{Refused as refusedStep}
+use Rattle.props.specs.Step.{stepAt, nameAt, dataAt}
+use Rattle.props.proofs.Within.{step-within}
+use Rattle.body.specs.Body.{PropertyWalk, stop, after, pass, properties, exactly, places, firstNamed}
+use Rattle.body.proofs.Laws.{passed, refused, first-most}
+use Rattle.body.proofs.Places.{pass-first, properties-places, properties-data}
+use Rattle.format.proofs.Properties.{step-told}
+use Rattle.lookup.specs.declared.Found.{Found}
 use Rattle.lookup.specs.declared.Found.the-variants.{At, Refused}
 use Rattle.lookup.specs.Lookup.{inBody, FoundWithin}
+use Rattle.lookup.proofs.Rest.{exactly-on}
 
-module _ (s name : List ℕ) (k : ℕ) where
-  -- ---- the cases of the definition
-  by-number : (properties s k .number ≡ 0 → ⊥) → Refused 42 ≡ inBody s k name
+-- ---- what a walk over properties answers of a name, as `inBody` says it of a body
+abbrev exactWalk : (s : List ℕ) → PropertyWalk → Bool
+exactWalk s w = eqb (w .number) 0 && eqb (w .at) (length s)
+
+unfoldable pub foundIn : (s name : List ℕ) → PropertyWalk → Found
+foundIn s name w =
+    let i = firstNamed s name (w .starts) in
+    cond (not (exactWalk s w)) (Refused 42)
+    (cond (eqb i (length (w .starts))) (Refused 43)
+    (At (dataAt s (getD (places w) i 0)) (getD (places w) (i + 1) 0)))
+
+eqb-suc : (i n : ℕ) → eqb (suc i) (suc n) ≡ eqb i n
+eqb-suc i n =
+    by-test (eqb i n)
+    (λ t. eq-eqb (suc i) (suc n) (omega (arith, eqb-true i n t)) ∙ sym t)
+    (λ t. ne-eqb (suc i) (suc n) (λ e. eqb-false i n t (omega (arith, e))) ∙ sym t)
+
+module _ (s name : List ℕ) where
+  pub body-found : (k : ℕ) → foundIn s name (properties s k) ≡ inBody s k name
+  unfolding inBody exactly foundIn
+  body-found k = refl
+
+  pub found-refused : (n at : ℕ) → (n ≡ 0 → ⊥) → Refused 42 ≡ foundIn s name (stop n at)
+  unfolding foundIn
+  found-refused n at h = rw (ne-eqb n 0 h)
+
+  pub found-short : (at : ℕ) → (at ≡ length s → ⊥) → Refused 42 ≡ foundIn s name (stop 0 at)
+  unfolding foundIn
+  found-short at h = rw (ne-eqb at (length s) h)
+
+  pub found-none : (at : ℕ) → at ≡ length s → Refused 43 ≡ foundIn s name (stop 0 at)
+  unfolding foundIn firstNamed
+  found-none at h = rw (eq-eqb at (length s) h)
+
+  module _ (at : ℕ) (w : PropertyWalk) where
+    pub found-later : same (nameAt s at) name ≡ false → foundIn s name (after at w) ≡ foundIn s name w
+    unfolding foundIn firstNamed
+    found-later e =
+        let i = firstNamed s name (w .starts) in
+        let next : suc i + 1 ≡ suc (i + 1) = omega arith in
+        rw (e, eqb-suc i (length (w .starts)), next)
+
+    found-here : same (nameAt s at) name ≡ true → foundIn s name (after at w) ≡ cond (not (exactWalk s w)) (Refused 42) (At (dataAt s at) (getD (places w) 0 0))
+    unfolding foundIn firstNamed
+    found-here e = rw (e, ne-eqb 0 (suc (length (w .starts))) (λ z. omega (arith, z)))
+
+-- ---- the same at a place of a body with properties left, by the step there
+module _ (s name : List ℕ) (k at : ℕ) (more : 0 < k) where
+  abbrev here : Found
+  here = foundIn s name (pass s k at)
+
+  pub turn-refused : {n : ℕ} → stepAt s at ≡ refusedStep n → Refused 42 ≡ here
+  turn-refused {n} e = found-refused s name n at (λ z. step-told s at (e ∙ ap refusedStep z)) ∙ ap (foundIn s name) (sym (refused s k at more e))
+
+  module _ {p : Offsets} {q : Cursor} (e : stepAt s at ≡ Past p q) where
+    past : foundIn s name (after at (pass s (k - 1) (q .at))) ≡ here
+    past = ap (foundIn s name) (sym (passed s k at more e))
+
+    pub turn-other : same (nameAt s at) name ≡ false → foundIn s name (pass s (k - 1) (q .at)) ≡ here
+    turn-other other = sym (found-later s name at (pass s (k - 1) (q .at)) other) ∙ past
+
+    module _ (most : k ≤ 64) (is : same (nameAt s at) name ≡ true) where
+      -- the rest is judged, and then it is this property
+      turn-here : cond (not (exactly (rest s (q .at)) (k - 1))) (Refused 42) (At (p .start) (q .at)) ≡ here
+      turn-here =
+          let lies = step-within s at e in
+          let judged = exactly-on s (q .at) (k - 1) (lies .2) (omega (arith, most)) in
+          rw (judged, ← lies .0) (ap (λ n. cond (not (exactWalk s (pass s (k - 1) (q .at)))) (Refused 42) (At (dataAt s at) n)) (sym (pass-first s (k - 1) (q .at)))
+          ∙ sym (found-here s name at (pass s (k - 1) (q .at)) is)
+          ∙ past)
+
+      pub turn-short : exactly (rest s (q .at)) (k - 1) ≡ false → Refused 42 ≡ here
+      turn-short f = ap (λ b. cond (not b) (Refused 42) (At (p .start) (q .at))) (sym f) ∙ turn-here
+
+      pub turn-found : exactly (rest s (q .at)) (k - 1) ≡ true → At (p .start) (q .at) ≡ here
+      turn-found f = ap (λ b. cond (not b) (Refused 42) (At (p .start) (q .at))) (sym f) ∙ turn-here
+
+-- ---- the cases of the definition
+module _ (s name : List ℕ) (k : ℕ) (right : properties s k .number ≡ 0) (whole : properties s k .at ≡ length s) where
+  pub by-none : firstNamed s name (properties s k .starts) ≡ length (properties s k .starts) → Refused 43 ≡ inBody s k name
   unfolding inBody exactly
-  by-number h = rw (ne-eqb _ _ h)
+  by-none e = rw (eq-eqb _ _ right, eq-eqb _ _ whole, eq-eqb _ _ e)
 
-  module _ (right : properties s k .number ≡ 0) where
-    by-end : (properties s k .at ≡ length s → ⊥) → Refused 42 ≡ inBody s k name
-    unfolding inBody exactly
-    by-end h = rw (eq-eqb _ _ right, ne-eqb _ _ h)
-
-    module _ (whole : properties s k .at ≡ length s) where
-      pub by-none : firstNamed s name (properties s k .starts) ≡ length (properties s k .starts) → Refused 43 ≡ inBody s k name
-      unfolding inBody exactly
-      by-none e = rw (eq-eqb _ _ right, eq-eqb _ _ whole, eq-eqb _ _ e)
-
-      pub by-first : (firstNamed s name (properties s k .starts) ≡ length (properties s k .starts) → ⊥) →
-          At (dataAt s (getD (places (properties s k)) (firstNamed s name (properties s k .starts)) 0)) (getD (places (properties s k)) (firstNamed s name (properties s k .starts) + 1) 0) ≡ inBody s k name
-      unfolding inBody exactly
-      by-first h = rw (eq-eqb _ _ right, eq-eqb _ _ whole, ne-eqb _ _ h)
-
-  -- ---- the same, of an index
-  module _ {r : Index} (e : r ≡ indexOf (properties s k)) where
-    pub wrong : (r .number ≡ 0 → ⊥) → Refused 42 ≡ inBody s k name
-    wrong h = by-number (λ z. h (ap (λ (x : Index). x .number) e ∙ z))
-
-    pub prefix : r .count ≤ 64 → r .count ≡ length (take (r .count) (r .starts))
-    prefix h =
-        let long : length (r .starts) ≡ 65 = ap (λ (x : Index). length (x .starts)) e ∙ length-sets (replicate 65 0) 0 (places (properties s k)) in
-        sym (length-take-le (r .count) (r .starts) (omega (arith, long, h)))
-
-    ended : getD (r .starts) (r .count) 0 ≡ properties s k .at
-    ended =
-        let w = properties s k in
-        ap (λ (x : Index). getD (x .starts) (x .count) 0) e
-        ∙ index-places w (properties-few s k) (length (w .starts)) (omega arith)
-        ∙ getD-append-seam (w .starts) (w .at) [] 0
-
-    module _ (right : r .number ≡ 0) where
-      right-walk : properties s k .number ≡ 0
-      right-walk = sym (ap (λ (x : Index). x .number) e) ∙ right
-
-      pub short : (getD (r .starts) (r .count) 0 ≡ length s → ⊥) → Refused 42 ≡ inBody s k name
-      short h = by-end right-walk (λ z. h (ended ∙ z))
-
-      module _ (whole : getD (r .starts) (r .count) 0 ≡ length s) {i : ℕ} (f : i ≡ firstNamed s name (take (r .count) (r .starts))) where
-        whole-walk : properties s k .at ≡ length s
-        whole-walk = sym ended ∙ whole
-
-        first : i ≡ firstNamed s name (properties s k .starts)
-        first =
-            f ∙ ap (λ (x : Index). firstNamed s name (take (x .count) (x .starts))) e
-            ∙ ap (firstNamed s name) (index-starts (properties s k) (properties-few s k))
-
-        count : r .count ≡ length (properties s k .starts)
-        count = ap (λ (x : Index). x .count) e
-
-        pub absent : i ≡ r .count → Refused 43 ≡ inBody s k name
-        absent z = by-none right-walk whole-walk (sym first ∙ z ∙ count)
-
-        pub there : (i ≡ r .count → ⊥) → At (dataAt s (getD (r .starts) i 0)) (getD (r .starts) (i + 1) 0) ≡ inBody s k name
-        there h =
-            let w = properties s k in
-            let few = properties-few s k in
-            let inside : i < length (w .starts) = omega (arith, first, count, first-most s name (w .starts)) in
-            let start : getD (r .starts) i 0 ≡ getD (places w) i 0
-            = ap (λ (x : Index). getD (x .starts) i 0) e ∙ index-places w few i (omega (arith, inside)) in
-            let next : getD (r .starts) (i + 1) 0 ≡ getD (places w) (i + 1) 0
-            = ap (λ (x : Index). getD (x .starts) (i + 1) 0) e ∙ index-places w few (i + 1) (omega (arith, inside)) in
-            rw (start, next, first) (by-first right-walk whole-walk (λ z. h (first ∙ z ∙ sym count)))
+  pub by-first : (firstNamed s name (properties s k .starts) ≡ length (properties s k .starts) → ⊥) →
+      At (dataAt s (getD (places (properties s k)) (firstNamed s name (properties s k .starts)) 0)) (getD (places (properties s k)) (firstNamed s name (properties s k .starts) + 1) 0) ≡ inBody s k name
+  unfolding inBody exactly
+  by-first h = rw (eq-eqb _ _ right, eq-eqb _ _ whole, ne-eqb _ _ h)
 
 -- ---- within
 module _ (s name : List ℕ) (k : ℕ) where

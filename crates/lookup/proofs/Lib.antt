@@ -1,3 +1,4 @@
+pub mod Rest
 pub mod Laws
 pub mod Rows
 pub mod Among

@@ -9,29 +9,41 @@ pub enum Found {
     Refused(u32),
 }
 
-// The property in a body that should be a given number of properties: 42 and 43.
+// The property in a body that should be a given number of properties: 42 and 43. One pass: the names are compared up to the
+// first that is the same, and what follows that property is judged without.
 fn in_body(body: &[u8], count: u32, name: &[u8]) -> Found
     ensures { λ r. ⌜ r ≡ inBody (now (body .entry)) count (now (name .entry)) ⌝ }
 {
-    let index = body::index_of(body, count);
-    let n = index.count;
-    let starts = index.starts;
-    if index.number != 0 {
+    if base::MOST_PROPERTIES < count {
         return Found::Refused(42);
     }
-    if starts[n] != body.len() {
+    let mut at: usize = 0;
+    let mut left = count;
+    while 0 < left {
+        let cursor = props::Cursor { at };
+        match cursor.step(body) {
+            props::Step::Past { offsets, next } => {
+                let from = offsets.name;
+                let start = offsets.start;
+                let end = next.at;
+                at = end;
+                left -= 1;
+                if names::same(&body[from..start], name) {
+                    if !body::exact(&body[end..], left) {
+                        return Found::Refused(42);
+                    }
+                    return Found::At { start, end };
+                }
+            }
+            props::Step::Refused(_) => {
+                return Found::Refused(42);
+            }
+        }
+    }
+    if at != body.len() {
         return Found::Refused(42);
     }
-    let i = body::first_named(body, &starts[..n], name);
-    if i == n {
-        return Found::Refused(43);
-    }
-    let at = starts[i];
-    let end = starts[i + 1];
-    Found::At {
-        start: props::data_at(body, at),
-        end,
-    }
+    Found::Refused(43)
 }
 
 // Finds the property of a row: 40 to 43.

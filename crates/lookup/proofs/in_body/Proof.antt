@@ -1,103 +1,174 @@
--- `lookup::in_body`: by the index of the body.
+-- `lookup::in_body`: what the rest answers is what the whole answers.
 use native.Mathlib.Omega.{arith}
-use mathlib.Core.Path.{_≡_, ap, _∙_}
-use Prim.Native.Nat.{_+_, _≤_}
-use lib.ListN.{length, length-take, take, getD}
-use Rattle.lookup.specs.declared.Found.the-variants.{At}
-use Rattle.lookup.proofs.Laws.{prefix, wrong, short, absent, there}
 use borrow.Author.Needs.{needs}
+use mathlib.Core.Path.{_≡_, sym, ap, _∙_}
+use mathlib.Core.Bool.{true}
+use mathlib.Core.List.{List}
+use Prim.Native.Nat.{ℕ, _≤_, _<_}
+use lib.ListN.{length}
+use borrow.Author.Tests.{not-true, not-false}
+use Rattle.names.specs.Names.{same}
+use Rattle.props.specs.declared.Step.the-variants.{Past}
+use Rattle.props.specs.Step.{stepAt, nameAt}
+use Rattle.body.specs.Body.{pass}
+use Rattle.body.proofs.Laws.{many, few, done}
+use Rattle.lookup.specs.Lookup.{inBody}
+use Rattle.lookup.proofs.Laws.{foundIn, body-found, found-refused, found-short, found-none, turn-refused, turn-other, turn-short, turn-found}
+use Rattle.lookup.proofs.Rest.{passed-within, passed-name}
 use Rattle.lookup.proofs.in_body.Statement.{statement}
 use Rattle.lookup.proofs.in_body.Tie as tie
 
--- the part of the array that holds the starts
-starts : (d : tie.After-index-of) → d .index-of .result .count ≡ length (take (d .index-of .result .count) (d .index-of .result .starts))
-starts d = let a = d .before .before .before .args in prefix (a .body .now) (a .name .now) (a .count) (d .index-of .ensures .0) (d .index-of .ensures .1)
+abbrev Inv-loop : tie.InvT-loop
+Inv-loop body count name at₀ left₀ at left = (left ≤ 64) × (foundIn body name (pass body left at) ≡ inBody body count name)
 
--- the property that was found is one of them, or none
-at-most : (c : tie.After-first-named) → c .first-named .result ≤ c .before .before .before .before .before .before .index-of .result .count
-at-most c = omega (arith, c .first-named .ensures .1, starts (c .before .before .before .before .before .before))
+abbrev μ-loop : tie.MeasureT-loop
+μ-loop body count name at₀ left₀ at left = left
 
-index-of-requires : tie.Need-index-of-requires
-index-of-requires c κs = search needs
+-- past a property
+module _ (d : tie.After-known-told Inv-loop μ-loop) where
+  abbrev loop : tie.At-loop Inv-loop μ-loop
+  loop = d .before .before .before .before .before
 
-returns : tie.Need-returns
+  abbrev body : List ℕ
+  body = loop .before .before .before .before .args .body .now
+
+  abbrev name : List ℕ
+  name = loop .before .before .before .before .args .name .now
+
+  more : 0 < loop .loop .left
+  more = d .before .before .before .before .loop-test .taken
+
+  stepped : stepAt body (loop .loop .at) ≡ Past (d .before .offsets .given .0 .0) (d .before .offsets .given .0 .1 .0)
+  stepped = sym (d .before .before .before .step .ensures .0) ∙ d .before .offsets .given .1
+
+  within : (d .before .offsets .given .0 .0 .name ≤ d .before .offsets .given .0 .0 .start)
+      × (d .before .offsets .given .0 .0 .start ≤ length body) × (d .before .offsets .given .0 .1 .0 .at ≤ length body)
+  within = passed-within body (loop .loop .at) stepped
+
+-- the name that was compared is the property's
+named : (c : tie.After-same Inv-loop μ-loop) → let d = c .before .before in same (nameAt (body d) (loop d .loop .at)) (name d) ≡ c .same .result
+named c =
+    let d = c .before .before in
+    ap (λ n. same n (name d)) (sym (passed-name (body d) (loop d .loop .at) (stepped d))) ∙ sym (c .same .ensures)
+
+returns : tie.Need-returns Inv-loop μ-loop
 returns c =
-    let d = c .before .before .before in
-    let a = d .before .before .before .args in
-    wrong (a .body .now) (a .name .now) (a .count) (d .index-of .ensures .0) (c .if1 .taken)
+    let a = c .before .before .before .args in
+    found-refused (a .body .now) (a .name .now) 9 0 (λ e. omega (arith, e)) ∙ ap (foundIn (a .body .now) (a .name .now)) (many (a .body .now) (a .count) (c .if1 .taken)) ∙ body-found (a .body .now) (a .name .now) (a .count)
 
-mul-if2 : tie.Need-mul-if2
-mul-if2 c = omega (arith, c .before .before .before .index-of .ensures .1)
+loop-holds : tie.Need-loop-holds Inv-loop μ-loop
+loop-holds c =
+    let a = c .before .before .before .args in
+    (c .if1 .left, ap (foundIn (a .body .now) (a .name .now)) (few (a .body .now) (a .count) (c .if1 .left)) ∙ body-found (a .body .now) (a .name .now) (a .count))
 
-array-read-if2 : tie.Need-array-read-if2
-array-read-if2 c = omega (arith, c .before .before .before .index-of .ensures .1)
+step-requires : tie.Need-step-requires Inv-loop μ-loop
+step-requires c κs = search needs
 
-returns-2 : tie.Need-returns-2
+enum-known-offsets : tie.Need-enum-known-offsets Inv-loop μ-loop
+enum-known-offsets c = search needs
+
+sub-left : tie.Need-sub-left Inv-loop μ-loop
+sub-left c = search needs
+
+sub-same : tie.Need-sub-same Inv-loop μ-loop
+sub-same c = within c .0
+
+part-same-start : tie.Need-part-same-start Inv-loop μ-loop
+part-same-start c = within c .0
+
+part-same-end : tie.Need-part-same-end Inv-loop μ-loop
+part-same-end c = within c .1
+
+same-requires : tie.Need-same-requires Inv-loop μ-loop
+same-requires c κs = search needs
+
+sub-exact : tie.Need-sub-exact Inv-loop μ-loop
+sub-exact c = within (c .before .before .before) .2
+
+part-exact-start : tie.Need-part-exact-start Inv-loop μ-loop
+part-exact-start c = within (c .before .before .before) .2
+
+part-exact-end : tie.Need-part-exact-end Inv-loop μ-loop
+part-exact-end c = omega arith
+
+exact-requires : tie.Need-exact-requires Inv-loop μ-loop
+exact-requires c κs = search needs
+
+-- the first property of the name
+module _ (c : tie.After-exact Inv-loop μ-loop) where
+  abbrev d : tie.After-known-told Inv-loop μ-loop
+  d = c .before .before .before .before .before
+
+  is : same (nameAt (body d) (loop d .loop .at)) (name d) ≡ true
+  is = named (c .before .before .before) ∙ c .before .before .if2 .taken
+
+returns-2 : tie.Need-returns-2 Inv-loop μ-loop
 returns-2 c =
-    let d = c .before .before .before .before in
-    let a = d .before .before .before .args in
-    short (a .body .now) (a .name .now) (a .count) (d .index-of .ensures .0) (c .before .if1 .left) (c .if2 .taken)
+    let e = d (c .before) in
+    let l = loop e in
+    turn-short (body e) (name e) (l .loop .left) (l .loop .at) (more e) (stepped e) (l .loop .inv .0) (is (c .before)) (sym (c .before .exact .ensures) ∙ not-true _ (c .if3 .taken)) ∙ l .loop .inv .1
 
-array-share-prefix-starts : tie.Need-array-share-prefix-starts
-array-share-prefix-starts c =
-    let d = c .before .before .before .before in
-    omega (arith, d .index-of .ensures .1, starts d, length-take (d .index-of .result .count) (d .index-of .result .starts))
-
-slice-aggregate-first-named : tie.Need-slice-aggregate-first-named
-slice-aggregate-first-named c = starts (c .before .before .before .before .before)
-
-first-named-requires : tie.Need-first-named-requires
-first-named-requires c κs = search needs
-
-returns-3 : tie.Need-returns-3
+returns-3 : tie.Need-returns-3 Inv-loop μ-loop
 returns-3 c =
-    let f = c .before in
-    let d = f .before .before .before .before .before .before in
-    let a = d .before .before .before .args in
-    absent (a .body .now) (a .name .now) (a .count) (d .index-of .ensures .0) (f .before .before .before .if1 .left) (f .before .before .if2 .left) (f .first-named .ensures .0) (c .if3 .taken)
+    let e = d (c .before) in
+    let l = loop e in
+    turn-found (body e) (name e) (l .loop .left) (l .loop .at) (more e) (stepped e) (l .loop .inv .0) (is (c .before)) (sym (c .before .exact .ensures) ∙ not-false _ (c .if3 .left)) ∙ l .loop .inv .1
 
-mul-at : tie.Need-mul-at
-mul-at c = omega (arith, at-most (c .before), c .before .before .before .before .before .before .before .index-of .ensures .1)
+loop-less : tie.Need-loop-less Inv-loop μ-loop
+loop-less c = omega arith
 
-array-read-at : tie.Need-array-read-at
-array-read-at c = omega (arith, at-most (c .before), c .before .before .before .before .before .before .before .index-of .ensures .1)
+loop-again : tie.Need-loop-again Inv-loop μ-loop
+loop-again c =
+    let d = c .before .before .before in
+    let l = loop d in
+    (omega arith, turn-other (body d) (name d) (l .loop .left) (l .loop .at) (more d) (stepped d) (named (c .before) ∙ c .if2 .left) ∙ l .loop .inv .1)
 
-add-end : tie.Need-add-end
-add-end c = omega (arith, at-most (c .before), c .before .before .before .before .before .before .before .index-of .ensures .1)
+enum-told : tie.Need-enum-told Inv-loop μ-loop
+enum-told c = search needs
 
-mul-end : tie.Need-mul-end
-mul-end c = omega (arith, at-most (c .before), c .before .before .before .before .before .before .before .index-of .ensures .1)
-
-array-read-end : tie.Need-array-read-end
-array-read-end c = omega (arith, at-most (c .before), c .before .before .before .before .before .before .before .index-of .ensures .1)
-
-data-at-requires : tie.Need-data-at-requires
-data-at-requires c κs = search needs
-
-returns-4 : tie.Need-returns-4
+returns-4 : tie.Need-returns-4 Inv-loop μ-loop
 returns-4 c =
-    let f = c .before .before in
-    let d = f .before .before .before .before .before .before in
-    let a = d .before .before .before .args in
-    ap (λ n. At n (getD (d .index-of .result .starts) (f .first-named .result + 1) 0)) (c .data-at .ensures .0) ∙ there (a .body .now) (a .name .now) (a .count) (d .index-of .ensures .0) (f .before .before .before .if1 .left) (f .before .before .if2 .left) (f .first-named .ensures .0) (c .before .if3 .left)
+    let d = c .before .before in
+    let l = d .before .before in
+    let a = l .before .before .before .before .args in
+    turn-refused (a .body .now) (a .name .now) (l .loop .left) (l .loop .at) (d .before .loop-test .taken) (sym (d .step .ensures .0) ∙ c .enum-told .given .1) ∙ l .loop .inv .1
+
+returns-5 : tie.Need-returns-5 Inv-loop μ-loop
+returns-5 c =
+    let l = c .before .before in
+    let a = l .before .before .before .before .args in
+    found-short (a .body .now) (a .name .now) (l .loop .at) (c .if4 .taken) ∙ ap (foundIn (a .body .now) (a .name .now)) (sym (done (a .body .now) (l .loop .left) (l .loop .at) (c .before .loop-test .left))) ∙ l .loop .inv .1
+
+returns-6 : tie.Need-returns-6 Inv-loop μ-loop
+returns-6 c =
+    let l = c .before .before in
+    let a = l .before .before .before .before .args in
+    found-none (a .body .now) (a .name .now) (l .loop .at) (c .if4 .left) ∙ ap (foundIn (a .body .now) (a .name .now)) (sym (done (a .body .now) (l .loop .left) (l .loop .at) (c .before .loop-test .left))) ∙ l .loop .inv .1
 
 pub in-body-spec : {M : Type 1} → statement M
 in-body-spec =
     tie.close
     (tie.spec
-    index-of-requires
+    Inv-loop
+    μ-loop
     returns
-    mul-if2
-    array-read-if2
+    loop-holds
+    step-requires
+    enum-known-offsets
+    sub-left
+    sub-same
+    part-same-start
+    part-same-end
+    same-requires
+    sub-exact
+    part-exact-start
+    part-exact-end
+    exact-requires
     returns-2
-    array-share-prefix-starts
-    slice-aggregate-first-named
-    first-named-requires
     returns-3
-    mul-at
-    array-read-at
-    add-end
-    mul-end
-    array-read-end
-    data-at-requires
-    returns-4)
+    loop-less
+    loop-again
+    enum-told
+    returns-4
+    returns-5
+    returns-6)
