@@ -36,11 +36,12 @@ at-lie all ls row start size s (at ∷ more) fits h =
     let ih = at-lie all ls row start size s more fits (h .1) in
     by-link (Each (Lies size)) (ruleAt ls s at .held) _ _ (λ to e. (omega (arith, h .0), ih)) (λ other. ih)
 
-pub links-lie : (s : List ℕ) (all : List Row) (size n i : ℕ) (rs : List Row) → Each (RowOk size n) rs → Each (Lies size) (linksFrom s all i rs)
+pub links-lie : (s : List ℕ) (all : List Row) (n i : ℕ) (rs : List Row) → Each (RowOk s n) rs → Each (Lies (length s)) (linksFrom s all i rs)
 unfolding linksFrom
-links-lie s all size n i [] h = tt
-links-lie s all size n i (r ∷ rs) h =
-    let ih = links-lie s all size n (suc i) rs (h .1) in
+links-lie s all n i [] h = tt
+links-lie s all n i (r ∷ rs) h =
+    let size = length s in
+    let ih = links-lie s all n (suc i) rs (h .1) in
     let body = bodyOf s r in
     let fits : r .start + length body ≤ size = omega (arith, body-length s r, h .0 .onward, h .0 .within) in
     let here = at-lie all (linesOf (r .kind)) i (r .start) size body (properties body (r .properties) .starts) fits (each-at (length body) (properties body (r .properties) .starts) (starts-within body (r .properties))) in

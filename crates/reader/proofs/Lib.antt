@@ -14,3 +14,4 @@ pub mod Accepted
 pub mod InStep
 pub mod NodeLinks
 pub mod Leaves
+pub mod Passing

@@ -44,10 +44,10 @@ abbrev pub onTop : (faces degenerate links : ℕ) → Ruled → Ruled
 onTop f d l u = record { number = u .number; place = u .place; faces = f + u .faces; degenerate = d + u .degenerate; links = l + u .links }
 
 -- a judgement's place lies after the node's header, and in the file
-pub row-place : (s t : List ℕ) (n i : ℕ) {r : Row} {j : Judged} → RowsOk (length s) t n → i < n → r ≡ rowAt t i → Bounded j (length (bodyOf s r))
+pub row-place : (s t : List ℕ) (n i : ℕ) {r : Row} {j : Judged} → RowsOk s t n → i < n → r ≡ rowAt t i → Bounded j (length (bodyOf s r))
     → (24 ≤ r .start + j .place) × (r .start + j .place ≤ 24 + length s)
 row-place s t n i {r} ok h e b =
-    let row : RowOk (length s) n r = rw e (ok i h) in
+    let row : RowOk s n r = rw e (ok i h) in
     let size = body-length s r in
     (omega (arith, row .first), omega (arith, b .place, size, row .onward, row .within))
 

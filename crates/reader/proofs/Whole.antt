@@ -25,7 +25,7 @@ use Rattle.format.specs.declared.OwnBytes.{OwnBytes}
 use Rattle.format.specs.Forest.{Forest, nodes, encode, count, fileHeader, fileOf}
 use Rattle.format.specs.Rows.{rows, rowsOf}
 use Rattle.base.specs.Lists.{Each}
-use Rattle.format.specs.Layout.{Placed}
+use Rattle.format.specs.Layout.{WellFormedFile, Placed}
 use Rattle.base.proofs.Lists.{each-both, each-map}
 use Rattle.format.proofs.Headers.{length-fileHeader}
 use Rattle.format.proofs.Rows.{length-rows}
@@ -38,9 +38,10 @@ use Rattle.walk.proofs.Sound.{sound}
 use Rattle.reader.specs.declared.Reading.{Reading}
 use Rattle.reader.specs.declared.Reading.the-variants.{Accepted, Refused}
 use Rattle.reader.specs.Reading.{bonesUnder, ruled, ownKnown, ownUnknown, checked, verdict, readingOf, tableLeft, tableAfter}
-use Rattle.reader.specs.Private.{RowOk, RowsOk, BonesCounted, leftIn}
+use Rattle.reader.specs.Private.{Passed, RowOk, RowsOk, BonesCounted, leftIn}
 use Rattle.reader.proofs.Bounds.{links-lie, resolved-lies}
 use Rattle.reader.proofs.Exactly.{short, checked-right}
+use Rattle.reader.proofs.Passing.{file-passed}
 
 -- ---- rows in a table
 each-get : (P : Row → Type 0) (rs : List Row) (d : Row) → Each P rs → (i : ℕ) → i < length rs → P (getD rs i d)
@@ -65,32 +66,33 @@ module _ (t : List ℕ) (rs : List Row) (room : hasRoom t ≡ true) (few : lengt
   pub put-rows : rowsAt (putRows (cleared t) 0 rs) 0 (length rs) ≡ rs
   put-rows = ap (λ u. rowsAt u 0 (length rs)) (filled-putRows t rs room few) ∙ rows-filled t rs room few
 
-  pub put-ok : (size : ℕ) → Each (RowOk size (length rs)) rs → RowsOk size (putRows (cleared t) 0 rs) (length rs)
-  put-ok size h i b = subst (RowOk size (length rs)) (sym (put-rowAt i b)) (each-get (RowOk size (length rs)) rs blank h i b)
+  pub put-ok : (s : List ℕ) → Each (RowOk s (length rs)) rs → RowsOk s (putRows (cleared t) 0 rs) (length rs)
+  put-ok s h i b = subst (RowOk s (length rs)) (sym (put-rowAt i b)) (each-get (RowOk s (length rs)) rs blank h i b)
 
 -- ---- the rows of a file that was walked
-row-ok : (size n : ℕ) (r : Row) → Lies 16 size r × BoneUnder n r → RowOk size n r
-row-ok size n r h = record { first = omega (arith, h .0 .0); onward = h .0 .1; within = h .0 .2; boneParent = h .1 }
+row-ok : (s : List ℕ) (n : ℕ) (r : Row) → (Lies 16 (length s) r × BoneUnder n r) × Passed s r → RowOk s n r
+row-ok s n r h = record { first = omega (arith, h .0 .0 .0); onward = h .0 .0 .1; within = h .0 .0 .2; boneParent = h .0 .1; passed = h .1 }
 
-rows-ok : (flags : ℕ) (f : Forest) → Placed None f → Each (RowOk (length (fileOf flags f)) (length (rowsOf f))) (rowsOf f)
+rows-ok : (s : List ℕ) (flags : ℕ) (f : Forest) → Placed None f → WellFormedFile flags f → s ≡ fileOf flags f → Each (RowOk s (length (rowsOf f))) (rowsOf f)
 unfolding fileOf
-rows-ok flags f placed =
-    let size : length (fileHeader (count f) flags ++ encode f) ≡ 16 + length (encode f)
-    = length-append (fileHeader (count f) flags) (encode f) ∙ ap (λ n. n + length (encode f)) (length-fileHeader (count f) flags) in
-    let each = each-both (Lies 16 (16 + length (encode f))) (BoneUnder (0 + nodes f)) (rowsOf f) .0 (rows-lie f noParent 0 16, bones-under f 0 16 placed) in
-    let all : Each (RowOk (16 + length (encode f)) (0 + nodes f)) (rowsOf f) = each-map (row-ok (16 + length (encode f)) (0 + nodes f)) (rowsOf f) each in
+rows-ok s flags f placed well e =
+    let size : length s ≡ 16 + length (encode f)
+    = ap length e ∙ length-append (fileHeader (count f) flags) (encode f) ∙ ap (λ n. n + length (encode f)) (length-fileHeader (count f) flags) in
     let n : length (rowsOf f) ≡ 0 + nodes f = length-rows f noParent 0 16 ∙ omega arith in
-    subst (λ k. Each (RowOk (length (fileHeader (count f) flags ++ encode f)) k) (rowsOf f)) (sym n)
-    (subst (λ k. Each (RowOk k (0 + nodes f)) (rowsOf f)) (sym size) all)
+    let lies : Each (Lies 16 (length s)) (rowsOf f) = subst (λ k. Each (Lies 16 k) (rowsOf f)) (sym size) (rows-lie f noParent 0 16) in
+    let under : Each (BoneUnder (length (rowsOf f))) (rowsOf f) = subst (λ k. Each (BoneUnder k) (rowsOf f)) (sym n) (bones-under f 0 16 placed) in
+    let m = length (rowsOf f) in
+    each-map (row-ok s m) (rowsOf f)
+    (each-both (λ r. Lies 16 (length s) r × BoneUnder m r) (Passed s) (rowsOf f) .0
+    (each-both (Lies 16 (length s)) (BoneUnder m) (rowsOf f) .0 (lies, under), file-passed s flags f well e))
 
-pub walked-ok : (s : List ℕ) → AreBytes s → limited s .number ≡ 0 → Each (RowOk (length s) (length (limited s .rows))) (limited s .rows)
+pub walked-ok : (s : List ℕ) → AreBytes s → limited s .number ≡ 0 → Each (RowOk s (length (limited s .rows))) (limited s .rows)
 walked-ok s bytes e =
     let lim = limited-is s .0 (short s e) in
     let walk = sound s bytes (ap (λ w. w .number) (sym lim) ∙ e) in
     let are : limited s .rows ≡ rowsOf (walk .forest) = ap (λ w. w .rows) lim ∙ walk .rows in
-    subst (λ rs. Each (RowOk (length s) (length rs)) rs) (sym are)
-    (subst (λ l. Each (RowOk (length l) (length (rowsOf (walk .forest)))) (rowsOf (walk .forest))) (sym (walk .holds .bytes))
-    (rows-ok (flagsOf s) (walk .forest) (walk .holds .placed)))
+    subst (λ rs. Each (RowOk s (length rs)) rs) (sym are)
+    (rows-ok s (flagsOf s) (walk .forest) (walk .holds .placed) (walk .holds .wellFormed) (walk .holds .bytes))
 
 -- ---- the stages after the walk
 module _ (s : List ℕ) (rs : List Row) where
@@ -102,9 +104,9 @@ module _ (s : List ℕ) (rs : List Row) where
   unfolding checked
   refused-links r h = rw r (sym (is-refused (linked s rs .number) _ _ h))
 
-  pub links-place : (size n : ℕ) → Each (RowOk size n) rs → linked s rs .place ≤ size
+  pub links-place : (n : ℕ) → Each (RowOk s n) rs → linked s rs .place ≤ length s
   unfolding linked
-  links-place size n h = resolved-lies 0 size (linksOf s rs) (links-lie s rs size n 0 rs h)
+  links-place n h = resolved-lies 0 (length s) (linksOf s rs) (links-lie s rs n 0 rs h)
 
   -- the account, from its numbers
   pub account-checked : ruled s rs rs .number ≡ 0 → linked s rs .number ≡ 0 → (n flags : ℕ) (known unknown : OwnBytes) (f d l : ℕ)
@@ -115,14 +117,14 @@ module _ (s : List ℕ) (rs : List Row) where
       let own : (x : OwnBytes) (m : ℕ) → x .0 ≡ m → x ≡ record { 0 = m } = λ x m p. ap (λ q. record { 0 = q }) p in
       rw (a, b, own known (ownKnown rs) c, own unknown (ownUnknown rs) e, g, h, i) (sym (checked-right s rs r l))
 
-pub table-ok : (size : ℕ) (t : List ℕ) (n : ℕ) → RowsOk size t n → Each (RowOk size n) (rowsAt t 0 n)
-table-ok size t n h = each-rows (RowOk size n) t 0 n (λ i b. (let z : i ≡ 0 + i = omega arith in subst (λ j. RowOk size n (rowAt t j)) z (h i b)))
+pub table-ok : (s t : List ℕ) (n : ℕ) → RowsOk s t n → Each (RowOk s n) (rowsAt t 0 n)
+table-ok s t n h = each-rows (RowOk s n) t 0 n (λ i b. (let z : i ≡ 0 + i = omega arith in subst (λ j. RowOk s n (rowAt t j)) z (h i b)))
 
 -- the Bones under each row of a table, counted for the first 1,024; under others there are none
-pub bones-counted : (size : ℕ) (t : List ℕ) (n : ℕ) → n ≤ 1024 → RowsOk size t n → (places : ℕ) → places ≡ 1024 → {bones : List ℕ}
+pub bones-counted : (s t : List ℕ) (n : ℕ) → n ≤ 1024 → RowsOk s t n → (places : ℕ) → places ≡ 1024 → {bones : List ℕ}
     → bones ≡ countsUnder (OfKind bone) (rowsAt t 0 (min n 1024)) places → BonesCounted bones (rowsAt t 0 n)
-bones-counted size t n few ok places here {bones} e p =
-    let past : 1024 ≤ p → (r : Row) → RowOk size n r → eqb (r .kind) bone ≡ true → r .parent ≡ p → ⊥
+bones-counted s t n few ok places here {bones} e p =
+    let past : 1024 ≤ p → (r : Row) → RowOk s n r → eqb (r .kind) bone ≡ true → r .parent ≡ p → ⊥
     = λ b r o k e. omega (arith, o .boneParent (eqb-true (r .kind) bone k)) in
     let rows = rowsAt t 0 (min n 1024) in
     by-test (ltb p 1024)
@@ -132,7 +134,7 @@ bones-counted size t n few ok places here {bones} e p =
     (λ b.
     let q = ltb-false p 1024 b in
     List·getD-eq-default bones 0 (omega (arith, q, here, ap length e, counts-length (OfKind bone) rows 0 places))
-    ∙ sym (counted-none (OfKind bone) (rowsAt t 0 n) p (each-map (past q) (rowsAt t 0 n) (table-ok size t n ok))))
+    ∙ sym (counted-none (OfKind bone) (rowsAt t 0 n) p (each-map (past q) (rowsAt t 0 n) (table-ok s t n ok))))
 
 -- ---- the reading
 module _ (s t : List ℕ) where

@@ -1,16 +1,19 @@
 // The reader: refusals 1 to 17 in order, the rows in the lent table, and the charges.
 ghost use mathlib.Core.Path.{_≡_};
 ghost use Prim.Native.Nat.{_≤_};
+ghost use mathlib.Core.List.{map};
 ghost use lib.ListN.{length, getD};
 ghost use Rattle.base.specs.Limits.{mostBytes, mostRows};
 ghost use Rattle.table.specs.Table.{cleared, rowsAt};
+ghost use Rattle.rules.specs.Table.{lines as allLines};
+ghost use Rattle.rules.specs.Packing.{columnsOf};
 ghost use Rattle.judge.specs.Judge.{Bounded};
 ghost use Rattle.format.specs.Rows.{bodyOf};
 ghost use Rattle.links.specs.Links.{linksOf, linked};
 ghost use Rattle.walk.specs.Walk.{flagsOf};
 ghost use Rattle.reader.specs.declared.Reading.the-variants.{Refused};
 ghost use Rattle.reader.specs.Reading.{judgedWith, ruled, ownKnown, ownUnknown, checked, readingOf, tableAfter, numbersOf, Small};
-ghost use Rattle.reader.specs.Private.{RowsOk, BonesCounted, leftIn};
+ghost use Rattle.reader.specs.Private.{Passed, RowsOk, BonesCounted, hasKind, leftIn};
 
 // What is answered of an accepted file: its nodes and flags; the own bytes of its known and of its unknown nodes; its
 // faces, and how many of them are degenerate; its links.
@@ -43,8 +46,17 @@ fn beside(bones: &[u32], parent: u32) -> u32
     0
 }
 
-// The rules of the node in a row. An unknown node has none.
-fn judge_row(file: &[u8], row: table::Row, bones: u32) -> judge::Judged
+// The rules of the node in a row, by all lines and with buffers for what is noted of its properties. An unknown node has none.
+fn judge_row(
+    file: &[u8],
+    row: table::Row,
+    bones: u32,
+    lines: &[rules::Columns],
+    starts: &mut [usize; 64],
+    numbers: &mut [usize; 64],
+    keys: &mut [u64; 64],
+) -> judge::Judged
+    requires { ⌜ (now lines ≡ map columnsOf allLines) × Passed (now file) row ⌝ }
     ensures { λ r. ⌜ (r ≡ judgedWith (now (file .entry)) row bones) × Bounded r (length (bodyOf (now (file .entry)) row)) ⌝ }
 {
     if !kinds::known(row.kind) {
@@ -57,7 +69,17 @@ fn judge_row(file: &[u8], row: table::Row, bones: u32) -> judge::Judged
         };
     }
     let body = format::body_of(file, row);
-    judge::judge(row.kind, row.properties, body, bones)
+    let own = rules::lines_of(lines, row.kind);
+    judge::judge(
+        row.kind,
+        own,
+        row.properties,
+        body,
+        bones,
+        starts,
+        numbers,
+        keys,
+    )
 }
 
 // What the rules of some rows give: number 0, or a refusal's number and place; and what was counted before it.
@@ -71,17 +93,29 @@ struct Ruled {
 
 // The rules, row by row.
 fn rules_of(file: &[u8], table: &[u32], nodes: usize, bones: &[u32]) -> Ruled
-    requires { ⌜ (nodes ≤ mostRows) × RowsOk (length (now file)) (now table) nodes × BonesCounted (now bones) (rowsAt (now table) 0 nodes) ⌝ }
+    requires { ⌜ (nodes ≤ mostRows) × RowsOk (now file) (now table) nodes × BonesCounted (now bones) (rowsAt (now table) 0 nodes) ⌝ }
     ensures result { λ r. ⌜ r ≡ ruled (now (file .entry)) (rowsAt (now (table .entry)) 0 nodes) (rowsAt (now (table .entry)) 0 nodes) ⌝ }
     ensures place { λ r. ⌜ r .place ≤ length (now (file .entry)) ⌝ }
 {
+    let lines = rules::table();
+    let mut starts = [0usize; 64];
+    let mut numbers = [0usize; 64];
+    let mut keys = [0u64; 64];
     let mut faces: u64 = 0;
     let mut degenerate: u64 = 0;
     let mut links: u32 = 0;
     let mut i: usize = 0;
     while i < nodes {
         let row = table::row_at(table, i);
-        let j = judge_row(file, row, beside(bones, row.parent));
+        let j = judge_row(
+            file,
+            row,
+            beside(bones, row.parent),
+            &lines,
+            &mut starts,
+            &mut numbers,
+            &mut keys,
+        );
         let start = row.start as usize;
         if j.number != 0 {
             let place = start + j.place - 24;
@@ -106,6 +140,44 @@ fn rules_of(file: &[u8], table: &[u32], nodes: usize, bones: &[u32]) -> Ruled
         degenerate,
         links,
     }
+}
+
+// Whether one of the first rows is of a kind.
+fn has_kind(table: &[u32], nodes: usize, kind: u32) -> bool
+    ensures { λ r. ⌜ r ≡ hasKind kind (rowsAt (now (table .entry)) 0 nodes) ⌝ }
+{
+    let mut i: usize = 0;
+    while i < nodes {
+        if table::row_at(table, i).kind == kind {
+            return true;
+        }
+        i += 1;
+    }
+    false
+}
+
+// The rules of rows of which some are Bones, which are counted first.
+fn rules_with_bones(file: &[u8], table: &[u32], nodes: usize) -> Ruled
+    requires { ⌜ (nodes ≤ mostRows) × RowsOk (now file) (now table) nodes ⌝ }
+    ensures result { λ r. ⌜ r ≡ ruled (now (file .entry)) (rowsAt (now (table .entry)) 0 nodes) (rowsAt (now (table .entry)) 0 nodes) ⌝ }
+    ensures place { λ r. ⌜ r .place ≤ length (now (file .entry)) ⌝ }
+{
+    let mut bones = [0u32; base::MOST_ROWS];
+    table::count_under(table, nodes, table::Which::OfKind(kinds::BONE), &mut bones);
+    rules_of(file, table, nodes, &bones)
+}
+
+// The rules of all rows. Without Bones none are counted, and none are beside a node.
+fn all_rules(file: &[u8], table: &[u32], nodes: usize) -> Ruled
+    requires { ⌜ (nodes ≤ mostRows) × RowsOk (now file) (now table) nodes ⌝ }
+    ensures result { λ r. ⌜ r ≡ ruled (now (file .entry)) (rowsAt (now (table .entry)) 0 nodes) (rowsAt (now (table .entry)) 0 nodes) ⌝ }
+    ensures place { λ r. ⌜ r .place ≤ length (now (file .entry)) ⌝ }
+{
+    if has_kind(table, nodes, kinds::BONE) {
+        return rules_with_bones(file, table, nodes);
+    }
+    let none = [0u32; 1];
+    rules_of(file, table, nodes, &none[..0])
 }
 
 // ---- 16 and 17
@@ -169,14 +241,12 @@ fn refuse_and_clear(number: u32, place: u32, rows: &mut [u32]) -> Reading
 
 // 13 to 17 of a file that was walked, its rows being the first of the table.
 fn checked(file: &[u8], table: &mut [u32], nodes: u32, flags: u32) -> Reading
-    requires { ⌜ (nodes ≤ mostRows) × RowsOk (length (now file)) (now table) nodes × (length (now file) ≤ mostBytes) × (flags ≡ flagsOf (now file)) ⌝ }
+    requires { ⌜ (nodes ≤ mostRows) × RowsOk (now file) (now table) nodes × (length (now file) ≤ mostBytes) × (flags ≡ flagsOf (now file)) ⌝ }
     ensures result { λ r. ⌜ r ≡ checked (now (file .entry)) (rowsAt (now (table .entry)) 0 nodes) ⌝ }
     ensures table { λ r. ⌜ now (table .exit) ≡ leftIn r (now (table .entry)) ⌝ }
 {
     let n = nodes as usize;
-    let mut bones = [0u32; base::MOST_ROWS];
-    table::count_under(table, n, table::Which::OfKind(kinds::BONE), &mut bones);
-    let rules = rules_of(file, table, n, &bones);
+    let rules = all_rules(file, table, n);
     if rules.number != 0 {
         return refuse_and_clear(rules.number, rules.place as u32, table);
     }

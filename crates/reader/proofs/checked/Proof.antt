@@ -17,22 +17,8 @@ use Rattle.reader.proofs.Whole.{bones-counted, table-ok, links-place, r
 use Rattle.reader.proofs.checked.Statement.{statement}
 use Rattle.reader.proofs.checked.Tie as tie
 
-slice-aggregate-count-under : tie.Need-slice-aggregate-count-under
-slice-aggregate-count-under c = search needs
-
-count-under-requires : tie.Need-count-under-requires
-count-under-requires c κs = search needs
-
-slice-aggregate-rules-of : tie.Need-slice-aggregate-rules-of
-slice-aggregate-rules-of c = search needs
-
-rules-of-requires : tie.Need-rules-of-requires
-rules-of-requires c κs =
-    let k = c .before .before .before in
-    let s = k .before .before .before .before .before in
-    let a = s .args in
-    let counted = bones-counted (length (a .file .now)) (a .table .now) (a .nodes) (s .pre .0) (s .pre .1) _ (length-replicate {A = ℕ} 1024 0) (k .count-under .ensures) in
-    (s .pre .0, s .pre .1, counted)
+all-rules-requires : tie.Need-all-rules-requires
+all-rules-requires c κs = search needs
 
 cast-refuse-and-clear : tie.Need-cast-refuse-and-clear
 cast-refuse-and-clear c = search needs
@@ -44,7 +30,7 @@ same-length : tie.Need-same-length
 same-length c = search needs
 
 -- at the rules' answer: the file, its rows, and that the rules are those of the rows
-module _ (c : tie.After-rules-of) where
+module _ (c : tie.After-all-rules) where
   abbrev start : tie.Start
   start = c .before .before .before .before .before .before .before .before .before
 
@@ -54,11 +40,11 @@ module _ (c : tie.After-rules-of) where
   abbrev rows : List Row
   rows = rowsAt (start .args .table .now) 0 (start .args .nodes)
 
-  rules : c .rules-of .result ≡ ruled file rows rows
-  rules = c .rules-of .ensures .0
+  rules : c .all-rules .result ≡ ruled file rows rows
+  rules = c .all-rules .ensures .0
 
   -- where the rules refuse nothing
-  right : c .rules-of .result .number ≡ 0 → ruled file rows rows .number ≡ 0
+  right : c .all-rules .result .number ≡ 0 → ruled file rows rows .number ≡ 0
   right e = ap (λ r. r .number) (sym rules) ∙ e
 
 returns : tie.Need-returns
@@ -76,7 +62,7 @@ links-of-requires c κs =
 
 -- at the links' answer
 module _ (c : tie.After-links-of) where
-  abbrev ruled-at : tie.After-rules-of
+  abbrev ruled-at : tie.After-all-rules
   ruled-at = c .before .before .before .before
 
   links : c .links-of .result ≡ linked (file ruled-at) (rows ruled-at)
@@ -90,8 +76,8 @@ cast-refuse-and-clear-2 c =
     let l = c .before .before .before in
     let s = start (ruled-at l) in
     let a = s .args in
-    let ok = table-ok (length (a .file .now)) (a .table .now) (a .nodes) (s .pre .1) in
-    omega (arith, ap (λ u. u .place) (links l), links-place (a .file .now) (rows (ruled-at l)) (length (a .file .now)) (a .nodes) ok, s .pre .2)
+    let ok = table-ok (a .file .now) (a .table .now) (a .nodes) (s .pre .1) in
+    omega (arith, ap (λ u. u .place) (links l), links-place (a .file .now) (rows (ruled-at l)) (a .nodes) ok, s .pre .2)
 
 refuse-and-clear-requires-2 : tie.Need-refuse-and-clear-requires-2
 refuse-and-clear-requires-2 c κs = search needs
@@ -132,10 +118,7 @@ pub checked-spec : {M : Type 1} → statement M
 checked-spec =
     tie.close
     (tie.spec
-    slice-aggregate-count-under
-    count-under-requires
-    slice-aggregate-rules-of
-    rules-of-requires
+    all-rules-requires
     cast-refuse-and-clear
     refuse-and-clear-requires
     same-length

@@ -80,11 +80,11 @@ module _ (c : tie.After-walk) where
     walked : (limited file .number ≡ 0) × (c .walk .result .nodes ≡ length rows) × (c .walk .result .flags ≡ flagsOf file)
     walked = walk-accepted file table (c .walk .ensures .0) e
 
-    rows-ok : RowsOk (length file) (c .walk .last .1 .0) (c .walk .result .nodes)
+    rows-ok : RowsOk file (c .walk .last .1 .0) (c .walk .result .nodes)
     rows-ok =
-        subst (λ u. RowsOk (length file) u (c .walk .result .nodes)) (sym put)
-        (subst (RowsOk (length file) (putRows (cleared table) 0 rows)) (sym (walked .1))
-        (put-ok table rows room few (length file) (walked-ok file bytes (walked .0))))
+        subst (λ u. RowsOk file u (c .walk .result .nodes)) (sym put)
+        (subst (RowsOk file (putRows (cleared table) 0 rows)) (sym (walked .1))
+        (put-ok table rows room few file (walked-ok file bytes (walked .0))))
 
     rows-there : rowsAt (c .walk .last .1 .0) 0 (c .walk .result .nodes) ≡ rows
     rows-there = ap (λ u. rowsAt u 0 (c .walk .result .nodes)) put ∙ ap (rowsAt (putRows (cleared table) 0 rows) 0) (walked .1) ∙ put-rows table rows room few
