@@ -14,7 +14,7 @@ use Rattle.rules.specs.Table.{Line, linkTo, lines}
 use Rattle.rules.proofs.Laws.{ruleOf, all, ruled}
 use Rattle.rules.specs.Rules.{ifLink}
 use Rattle.format.specs.Rows.{hashOf}
-use Rattle.links.specs.Private.{hashesOf, occurrences, Count, hashesFor, countIn}
+use Rattle.links.specs.Private.{hashesOf, occurrences, Same, Ascending, AllAscending, Count, hashesFor, countIn}
 use Rattle.links.specs.Links.{reached}
 
 pub reached-count : (kind hash i : ℕ) (rs : List Row) → length (reached kind hash i rs) ≡ occurrences hash (hashesOf kind rs)
@@ -48,12 +48,18 @@ module _ (kind : ℕ) (name : List ℕ) where
 pub record CountsReached (count : Count) (rows : List Row) : Type 0 where
   pub right : (kind : ℕ) (name : List ℕ) (to hash : ℕ) → ruleOf kind name .held ≡ linkTo to → count to hash ≡ min (length (reached to hash 0 rows)) 2
 
-abbrev Same : List ℕ → (kind : ℕ) → List Row → Type 0
-Same xs kind rows = (x : ℕ) → occurrences x xs ≡ occurrences x (hashesOf kind rows)
+pub ascending-for : (m e b f : List ℕ) (kind : ℕ) → AllAscending m e b f → Ascending (hashesFor m e b f kind)
+ascending-for m e b f kind h =
+    by-test (eqb kind material) (λ t. rw t (h .0))
+    (λ t. by-test (eqb kind mesh) (λ u. rw (t, u) (h .1))
+    (λ u. by-test (eqb kind bone) (λ v. rw (t, u, v) (h .2)) (λ v. rw (t, u, v) (h .3))))
 
-module _ (rows : List Row) (m e b f : List ℕ) (sm : Same m material rows) (se : Same e mesh rows) (sb : Same b bone rows)
-    (sf : Same f file rows) where
-  same-kind : (kind : ℕ) → isTarget kind ≡ true → Same (hashesFor m e b f kind) kind rows
+abbrev Hashes : List ℕ → (kind : ℕ) → List Row → Type 0
+Hashes xs kind rows = Same xs (hashesOf kind rows)
+
+module _ (rows : List Row) (m e b f : List ℕ) (sm : Hashes m material rows) (se : Hashes e mesh rows) (sb : Hashes b bone rows)
+    (sf : Hashes f file rows) where
+  same-kind : (kind : ℕ) → isTarget kind ≡ true → Hashes (hashesFor m e b f kind) kind rows
   same-kind kind h x =
       by-test (eqb kind material) (λ t. rw (t, eqb-true kind material t) (sm x))
       (λ t. by-test (eqb kind mesh) (λ u. rw (t, u, eqb-true kind mesh u) (se x))
