@@ -1,14 +1,14 @@
 -- `links::row_links`: the properties that the index tells of are those of the body, and the lines are the kind's.
 use Prim.Native.Nat.{_+_, _^_, _≤_, _<_}
 use native.Mathlib.Omega.{arith}
-use mathlib.Core.Path.{_≡_, sym, _∙_}
-use lib.ListN.{length, take, replicate}
+use mathlib.Core.Path.{_≡_, sym, ap, _∙_}
+use lib.ListN.{length}
 use lib.Seq.{length-take-le}
 use borrow.Author.Tests.{not-true, not-false}
 use Rattle.body.proofs.Places.{starts-room}
 use Rattle.rules.specs.Packing.{linesFrom}
-use Rattle.rules.specs.Rules.{linesOf}
-use Rattle.rules.proofs.Laws.{lines-room, lines-taken}
+use Rattle.rules.specs.Rules.{linesOf, rowsOf}
+use Rattle.rules.proofs.Together.{lines-lent}
 use Rattle.links.proofs.Turns.{index-few, index-within, row-unknown, row-known, body-fits}
 use borrow.Author.Needs.{needs}
 use Rattle.links.proofs.row_links.Statement.{statement}
@@ -32,16 +32,13 @@ room c = starts-room _ _ (c .index-of .ensures .0) (c .index-of .ensures .1)
 cast-start : tie.Need-cast-start
 cast-start c = search needs
 
-slice-aggregate-put-lines : tie.Need-slice-aggregate-put-lines
-slice-aggregate-put-lines c = search needs
-
-put-lines-requires : tie.Need-put-lines-requires
-put-lines-requires c κs = search needs
+lines-of-requires : tie.Need-lines-of-requires
+lines-of-requires c κs = search needs
 
 -- the lines of the row's kind
-module _ (c : tie.After-put-lines) where
+module _ (c : tie.After-lines-of) where
   abbrev indexed : tie.After-index-of
-  indexed = c .before .before .before .before
+  indexed = c .before .before .before
 
   abbrev bodied : tie.After-body-of
   bodied = indexed .before
@@ -49,40 +46,32 @@ module _ (c : tie.After-put-lines) where
   abbrev start : tie.Start
   start = bodied .before .before .before .before .before .before .before .before
 
-  lines-fit : c .put-lines .result ≤ length (c .put-lines .last .1 .0)
-  lines-fit = let p = c .put-lines .ensures in lines-room (start .args .row .kind) (replicate 14 (replicate 12 0)) (p .1 .1) (p .0) (p .1 .0)
-
-  lines-are : linesFrom (take (c .put-lines .result) (c .put-lines .last .1 .0)) ≡ linesOf (start .args .row .kind)
-  lines-are = let p = c .put-lines .ensures in lines-taken (start .args .row .kind) (replicate 14 (replicate 12 0)) (p .1 .1) (p .0) (p .1 .0)
-
-array-share-prefix-lines : tie.Need-array-share-prefix-lines
-array-share-prefix-lines c = lines-fit (c .before)
-
-slice-aggregate-node-links : tie.Need-slice-aggregate-node-links
-slice-aggregate-node-links c = sym (length-take-le _ _ (lines-fit (c .before .before)))
+  lines-are : linesFrom (c .lines-of .result .now) ≡ linesOf (start .args .row .kind)
+  lines-are =
+      ap linesFrom (c .lines-of .ensures) ∙ ap (λ rows. linesFrom (rowsOf (start .args .row .kind) rows)) (start .pre .2) ∙ lines-lent (start .args .row .kind)
 
 array-share-prefix-starts : tie.Need-array-share-prefix-starts
-array-share-prefix-starts c = room (indexed (c .before .before))
+array-share-prefix-starts c = room (indexed c)
 
-slice-aggregate-node-links-2 : tie.Need-slice-aggregate-node-links-2
-slice-aggregate-node-links-2 c = sym (length-take-le _ _ (room (indexed (c .before .before .before))))
+slice-aggregate-node-links : tie.Need-slice-aggregate-node-links
+slice-aggregate-node-links c = sym (length-take-le _ _ (room (indexed (c .before))))
 
 node-links-requires : tie.Need-node-links-requires
 node-links-requires c κs =
-    let p = c .before .before .before in
+    let p = c .before in
     let i = indexed p .index-of .ensures .0 in
     let b = bodied p in
     let s = start p in
     let size = body-fits (s .args .file .now) (s .args .row) (b .body-of .ensures) in
     let room : s .args .row .start + length (b .body-of .result .now) < 2 ^ 64
-    = omega (arith, s .good .0 .1, p .before .before .struct-known .given, size) in (
+    = omega (arith, s .good .0 .1, p .before .struct-known .given, size) in (
       s .pre .0,
       (index-within _ _ i, (room, omega (arith, index-few _ _ i, s .pre .1))),
     )
 
 returns-2 : tie.Need-returns-2
 returns-2 c =
-    let p = c .before .before .before .before in
+    let p = c .before .before in
     let i = indexed p .index-of .ensures .0 in
     let b = bodied p in
     let k = b .before .before .known .ensures in (
@@ -99,11 +88,8 @@ row-links-spec =
     body-of-requires
     index-of-requires
     cast-start
-    slice-aggregate-put-lines
-    put-lines-requires
-    array-share-prefix-lines
-    slice-aggregate-node-links
+    lines-of-requires
     array-share-prefix-starts
-    slice-aggregate-node-links-2
+    slice-aggregate-node-links
     node-links-requires
     returns-2)
