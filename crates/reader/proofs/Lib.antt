@@ -9,6 +9,7 @@ pub mod Exactly
 pub mod Bounds
 pub mod Sizes
 pub mod Whole
+pub mod Cleared
 pub mod Numbers
 pub mod Accepted
 pub mod InStep

@@ -162,13 +162,6 @@ module _ (s t : List ℕ) where
 
   -- what is answered, and what is left in a table with room
   module _ (room : hasRoom t ≡ true) (few : length (limited s .rows) ≤ 1024) where
-    pub refused-read : (limited s .number ≡ 0 → ⊥) → {u : List ℕ} → u ≡ putRows (cleared t) 0 (limited s .rows)
-        → (Refused (limited s .number) (limited s .at) ≡ readingOf s t) × (cleared u ≡ tableAfter s t)
-    unfolding readingOf tableAfter verdict
-    refused-read h e =
-        let is = sym (is-refused (limited s .number) (Refused (limited s .number) (limited s .at)) (checked s (limited s .rows)) h) in
-        (rw room is, rw room (rw (← is) (ap cleared e ∙ cleared-again t (limited s .rows) room few)))
-
     left : (r : Reading) → leftIn r (putRows (cleared t) 0 (limited s .rows)) ≡ tableLeft r (limited s .rows) t
     left (Accepted a) = filled-putRows t (limited s .rows) room few
     left (Refused n place) = cleared-again t (limited s .rows) room few

@@ -282,10 +282,10 @@ pub fn read(file: &[u8], table: &mut [u32]) -> Reading
             place: 0,
         };
     }
-    table::clear(table);
     let w = walk::walk(file, table);
     if w.number != 0 {
         return refuse_and_clear(w.number, w.place, table);
     }
+    table::clear_from(table, w.nodes as usize);
     checked(file, table, w.nodes, w.flags)
 }

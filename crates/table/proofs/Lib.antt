@@ -1,5 +1,6 @@
 pub mod Rows
 pub mod Clearing
+pub mod ClearingFrom
 pub mod Plans
 pub mod Rests
 pub mod Counts

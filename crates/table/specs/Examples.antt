@@ -6,7 +6,7 @@ use mathlib.Core.List.{List, [], _∷_}
 use lib.ListN.{getD, replicate}
 use Rattle.table.specs.declared.Row.{Row}
 use Rattle.table.specs.declared.Which.the-variants.{All, OfKind}
-use Rattle.table.specs.Table.{noParent, hasRow, rowAt, withRow, putRows, hasRoom, zeroed, cleared, flat, filled}
+use Rattle.table.specs.Table.{noParent, hasRow, rowAt, withRow, putRows, hasRoom, zeroed, cleared, clearedFrom, flat, filled}
 use Rattle.table.specs.Counts.{countUnder, countsFrom, countsUnder}
 
 -- a row, and three numbers of a second
@@ -69,6 +69,16 @@ room = (refl, refl)
 last-cleared : (getD (cleared (replicate 8193 7)) 8191 9 ≡ 0) × (getD (cleared (replicate 8193 7)) 8192 9 ≡ 7)
 unfolding hasRoom zeroed cleared
 last-cleared = (refl, refl)
+
+-- the last number that is kept before row 1, the first that is not, the last, and the first after them
+some-cleared : (getD (clearedFrom 1 (replicate 8193 7)) 7 9 ≡ 7) × (getD (clearedFrom 1 (replicate 8193 7)) 8 9 ≡ 0) × (getD (clearedFrom 1 (replicate 8193 7)) 8191 9 ≡ 0) × (getD (clearedFrom 1 (replicate 8193 7)) 8192 9 ≡ 7)
+unfolding hasRoom clearedFrom
+some-cleared = (refl, refl, refl, refl)
+
+-- from row 1,024 on, and without room
+none-cleared : (getD (clearedFrom 1024 (replicate 8193 7)) 8191 9 ≡ 7) × (clearedFrom 1 eleven ≡ eleven)
+unfolding hasRoom clearedFrom
+none-cleared = (refl, refl)
 
 -- the last number of a row, the first after it, and the first that is kept
 some-filled : (getD (filled (low ∷ []) (replicate 8193 7)) 7 9 ≡ 8) × (getD (filled (low ∷ []) (replicate 8193 7)) 8 9 ≡ 0) × (getD (filled (low ∷ []) (replicate 8193 7)) 8192 9 ≡ 7)

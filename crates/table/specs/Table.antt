@@ -69,6 +69,12 @@ zeroed n t = replicate n 0 ++ drop n t
 unfoldable pub cleared : List ℕ → List ℕ
 cleared t = cond (hasRoom t) (zeroed tableNumbers t) t
 
+-- the first k rows as they were, and then zeros up to 8,192 numbers, and the rest as it was; a table without room is left,
+-- and so is one that k rows would outnumber
+unfoldable pub clearedFrom : (k : ℕ) → List ℕ → List ℕ
+clearedFrom k t =
+    cond (leb k mostRows && hasRoom t) (take (k * 8) t ++ replicate (tableNumbers - k * 8) 0 ++ drop tableNumbers t) t
+
 -- the numbers of rows, one row after the other
 unfoldable pub flat : List Row → List ℕ
 flat [] = []

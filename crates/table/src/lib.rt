@@ -4,7 +4,7 @@ ghost use Prim.Native.Nat.{_+_, _*_, _≤_, min};
 ghost use lib.ListN.{length};
 ghost use lib.Seq.{sets};
 ghost use Rattle.base.specs.Limits.{mostRows};
-ghost use Rattle.table.specs.Table.{blank, hasRow, rowFrom, rowAt, rowsAt, fields, withRow, hasRoom, zeroed, cleared, rowCount, isPlan};
+ghost use Rattle.table.specs.Table.{blank, hasRow, rowFrom, rowAt, rowsAt, fields, withRow, hasRoom, zeroed, cleared, clearedFrom, rowCount, isPlan};
 ghost use Rattle.table.specs.Counts.{isCounted, countsUnder};
 
 // A node: its kind, the halves of its hash, its parent's row (0xFFFFFFFF for none), where its body starts and ends, its
@@ -131,6 +131,17 @@ pub fn clear(table: &mut [u32])
 {
     if has_room(table) {
         zero(table, base::TABLE_NUMBERS);
+    }
+}
+
+// Clears the rows from one on: the numbers from there up to 8,192 become 0. A shorter table is left, and so is one whose
+// first 1,024 rows are all before it.
+pub fn clear_from(table: &mut [u32], row: usize)
+    ensures { λ _. ⌜ now (table .exit) ≡ clearedFrom row (now (table .entry)) ⌝ }
+{
+    if (row <= base::MOST_ROWS) & has_room(table) {
+        let from = row * 8;
+        zero(&mut table[from..], base::TABLE_NUMBERS - from);
     }
 }
 
