@@ -1,39 +1,38 @@
--- `reader::judge_row`: a known node by the rules of its body, an unknown one has none.
-use mathlib.Core.Path.{sym, ap, _∙_, subst}
-use lib.ListN.{length}
 use borrow.Author.Needs.{needs}
-use borrow.Author.Tests.{not-true, not-false}
-use Rattle.judge.specs.Judge.{judged, Bounded}
-use Rattle.format.specs.Rows.{bodyOf}
-use Rattle.reader.proofs.Judging.{judged-known, judged-unknown, unjudged-bounded}
 use Rattle.reader.proofs.judge_row.Statement.{statement}
 use Rattle.reader.proofs.judge_row.Tie as tie
+use Rattle.reader.proofs.judge_row.Reads as reads
+use Rattle.reader.proofs.judge_row.Lts as lts
+use Rattle.format.proofs.body_of.Reads as body-of-reads
+use Rattle.judge.proofs.judge.Reads as judge-reads
+use Rattle.kinds.proofs.known.Reads as known-reads
+use Rattle.rules.proofs.lines_of.Reads as lines-of-reads
 
+-- src/lib.rt:62:9
 known-requires : tie.Need-known-requires
 known-requires c κs = search needs
 
+-- src/lib.rt:63:9
 returns : tie.Need-returns
-returns c =
-    let a = c .before .before .before .args in
-    (sym (judged-unknown (a .file .now) (a .row) (a .bones) (sym (c .before .known .ensures) ∙ not-true _ (c .if1 .taken))), unjudged-bounded (length (bodyOf (a .file .now) (a .row))))
+returns c = ?
 
+-- src/lib.rt:71:9
 body-of-requires : tie.Need-body-of-requires
 body-of-requires c κs = search needs
 
+-- src/lib.rt:72:9
+lines-of-requires : tie.Need-lines-of-requires
+lines-of-requires c κs = search needs
+
+-- src/lib.rt:73:5
 judge-requires : tie.Need-judge-requires
 judge-requires c κs = search needs
 
+-- src/lib.rt:50:1
 returns-2 : tie.Need-returns-2
-returns-2 c =
-    let b = c .before in
-    let k = b .before .before in
-    let a = k .before .before .args in
-    let body = b .body-of .ensures in
-    let known = sym (k .known .ensures) ∙ not-false _ (b .before .if1 .left) in (
-      c .judge .ensures .0 ∙ ap (λ l. judged (a .row .kind) (a .row .properties) l (a .bones)) body ∙ sym (judged-known (a .file .now) (a .row) (a .bones) known),
-      subst (λ l. Bounded (c .judge .result) (length l)) body (c .judge .ensures .1),
-    )
+returns-2 c = ?
 
 pub judge-row-spec : {M : Type 1} → statement M
 judge-row-spec =
-    tie.close (tie.spec known-requires returns body-of-requires judge-requires returns-2)
+    tie.close
+    (tie.spec known-requires returns body-of-requires lines-of-requires judge-requires returns-2)
