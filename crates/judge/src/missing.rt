@@ -5,10 +5,11 @@ ghost use mathlib.Core.Bool.{not};
 ghost use Prim.Native.Nat.{_<_};
 ghost use mathlib.Core.List.{map};
 ghost use lib.ListN.{length, getD};
+ghost use Rattle.base.specs.Letters.{letters};
 ghost use Rattle.rules.specs.Table.{free};
 ghost use Rattle.rules.specs.Packing.{lineOf, linesFrom};
 ghost use Rattle.judge.specs.Properties.{lineNumber, has};
-ghost use Rattle.judge.specs.Missing.{isMissing, misses, unpartnered, lacks};
+ghost use Rattle.judge.specs.Missing.{isMissing, misses, partnered, unpartnered, lacks};
 
 // Whether no property has the name of a line.
 fn is_absent(e: rules::Entry, body: &[u8], starts: &[usize]) -> bool
@@ -57,7 +58,25 @@ fn misses(lines: &[rules::Columns], body: &[u8], starts: &[usize], numbers: &[us
     false
 }
 
-// Whether a partner is missing: wb and wv come only together and with mi.
+// Whether a mesh's partner is missing: wb and wv come only together and with mi.
+fn mesh_unpartnered(
+    lines: &[rules::Columns],
+    body: &[u8],
+    starts: &[usize],
+    numbers: &[usize],
+) -> bool
+    requires { ⌜ now numbers ≡ map (lineNumber (linesFrom (now lines)) (now body)) (now starts) ⌝ }
+    ensures { λ r. ⌜ r
+        ≡ not (partnered (has (now (body .entry)) (now (starts .entry)) (letters "wb"))
+        (has (now (body .entry)) (now (starts .entry)) (letters "wv")) (has (now (body .entry)) (now (starts .entry)) (letters "mi"))) ⌝ }
+{
+    let wb = places::place_named(lines, body, starts, numbers, b"wb") < starts.len();
+    let wv = places::place_named(lines, body, starts, numbers, b"wv") < starts.len();
+    let mi = places::place_named(lines, body, starts, numbers, b"mi") < starts.len();
+    !((!wb & !wv) | (wb & wv & mi))
+}
+
+// Whether a partner is missing. What is of a mesh alone stands apart, so that nothing is stored for it at another kind.
 fn unpartnered(
     kind: u32,
     lines: &[rules::Columns],
@@ -71,10 +90,7 @@ fn unpartnered(
     if kind != kinds::MESH {
         return false;
     }
-    let wb = places::place_named(lines, body, starts, numbers, b"wb") < starts.len();
-    let wv = places::place_named(lines, body, starts, numbers, b"wv") < starts.len();
-    let mi = places::place_named(lines, body, starts, numbers, b"mi") < starts.len();
-    !((!wb & !wv) | (wb & wv & mi))
+    mesh_unpartnered(lines, body, starts, numbers)
 }
 
 // Whether a required property or a partner is missing.

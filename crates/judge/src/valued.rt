@@ -8,6 +8,7 @@ ghost use lib.ListN.{length};
 ghost use Rattle.base.specs.Limits.{mostProperties};
 ghost use Rattle.le.specs.Le.{numberAt};
 ghost use Rattle.faces.specs.Faces.{widthOf};
+ghost use Rattle.kinds.specs.Kinds.{mesh, blendShape, curve};
 ghost use Rattle.rules.specs.Packing.{typesFrom, lineOf, linesFrom};
 ghost use Rattle.judge.specs.Properties.{lineNumber, restAt, lengthOf, valueOf, typesOf, besideOf};
 ghost use Rattle.judge.specs.Valued.{whole, sole, signed, parentOk, faultOf, facesAt, faceFault, linkCount};
@@ -89,6 +90,72 @@ fn types_of(lines: &[rules::Columns], body: &[u8], starts: &[usize], numbers: &[
     FLOAT
 }
 
+fn mesh_measures(
+    lines: &[rules::Columns],
+    body: &[u8],
+    starts: &[usize],
+    numbers: &[usize],
+    bones: u32,
+) -> Measures
+    requires { ⌜ now numbers ≡ map (lineNumber (linesFrom (now lines)) (now body)) (now starts) ⌝ }
+    ensures { λ r. ⌜ besideFrom r ≡ besideOf mesh (now (body .entry)) (now (starts .entry)) bones ⌝ }
+{
+    let vertices = read_named(lines, body, starts, numbers, b"vp").length;
+    let weights = read_named(lines, body, starts, numbers, b"mi").value as u64 * vertices as u64;
+    Measures {
+        vertices,
+        weights,
+        indices: 0,
+        keys: 0,
+        types: rules::columns::ANY_TYPE,
+        bones,
+    }
+}
+
+fn blend_shape_measures(
+    lines: &[rules::Columns],
+    body: &[u8],
+    starts: &[usize],
+    numbers: &[usize],
+    bones: u32,
+) -> Measures
+    requires { ⌜ now numbers ≡ map (lineNumber (linesFrom (now lines)) (now body)) (now starts) ⌝ }
+    ensures { λ r. ⌜ besideFrom r ≡ besideOf blendShape (now (body .entry)) (now (starts .entry)) bones ⌝ }
+{
+    let indices = read_named(lines, body, starts, numbers, b"vi").length;
+    Measures {
+        vertices: 0,
+        weights: 0,
+        indices,
+        keys: 0,
+        types: rules::columns::ANY_TYPE,
+        bones,
+    }
+}
+
+fn curve_measures(
+    lines: &[rules::Columns],
+    body: &[u8],
+    starts: &[usize],
+    numbers: &[usize],
+    bones: u32,
+) -> Measures
+    requires { ⌜ now numbers ≡ map (lineNumber (linesFrom (now lines)) (now body)) (now starts) ⌝ }
+    ensures { λ r. ⌜ besideFrom r ≡ besideOf curve (now (body .entry)) (now (starts .entry)) bones ⌝ }
+{
+    let keys = read_named(lines, body, starts, numbers, b"kb").length;
+    let types = types_of(lines, body, starts, numbers);
+    Measures {
+        vertices: 0,
+        weights: 0,
+        indices: 0,
+        keys,
+        types,
+        bones,
+    }
+}
+
+// What the properties of a node are held against. What is of one kind stands apart, so that nothing is stored for it at another.
 fn measures_of(
     kind: u32,
     lines: &[rules::Columns],
@@ -100,26 +167,21 @@ fn measures_of(
     requires { ⌜ now numbers ≡ map (lineNumber (linesFrom (now lines)) (now body)) (now starts) ⌝ }
     ensures { λ r. ⌜ besideFrom r ≡ besideOf kind (now (body .entry)) (now (starts .entry)) bones ⌝ }
 {
-    let mut vertices: u32 = 0;
-    let mut weights: u64 = 0;
-    let mut indices: u32 = 0;
-    let mut keys: u32 = 0;
-    let mut types: u32 = rules::columns::ANY_TYPE;
     if kind == kinds::MESH {
-        vertices = read_named(lines, body, starts, numbers, b"vp").length;
-        weights = read_named(lines, body, starts, numbers, b"mi").value as u64 * vertices as u64;
-    } else if kind == kinds::BLEND_SHAPE {
-        indices = read_named(lines, body, starts, numbers, b"vi").length;
-    } else if kind == kinds::CURVE {
-        keys = read_named(lines, body, starts, numbers, b"kb").length;
-        types = types_of(lines, body, starts, numbers);
+        return mesh_measures(lines, body, starts, numbers, bones);
+    }
+    if kind == kinds::BLEND_SHAPE {
+        return blend_shape_measures(lines, body, starts, numbers, bones);
+    }
+    if kind == kinds::CURVE {
+        return curve_measures(lines, body, starts, numbers, bones);
     }
     Measures {
-        vertices,
-        weights,
-        indices,
-        keys,
-        types,
+        vertices: 0,
+        weights: 0,
+        indices: 0,
+        keys: 0,
+        types: rules::columns::ANY_TYPE,
         bones,
     }
 }

@@ -89,12 +89,12 @@ module _ (c : tie.After-clear-from) where
       c .clear-from .ensures ∙ ap (λ k. clearedFrom k (w .walk .last .1 .0)) (is .1) ∙ ap (clearedFrom (length (rows w))) (w .walk .ensures .1 .0)
       ∙ clearedFrom-putRows (table w) (rows w) (room w) (few w)
 
-  rows-ok : RowsOk (length (file walked-at)) (c .clear-from .last .0) nodes
+  rows-ok : RowsOk (file walked-at) (c .clear-from .last .0) nodes
   rows-ok =
       let w = walked-at in
-      subst (λ u. RowsOk (length (file w)) u nodes) (sym put)
-      (subst (RowsOk (length (file w)) (putRows (cleared (table w)) 0 (rows w))) (sym (is .1))
-      (put-ok (table w) (rows w) (room w) (few w) (length (file w)) (walked-ok (file w) (bytes w) (is .0))))
+      subst (λ u. RowsOk (file w) u nodes) (sym put)
+      (subst (RowsOk (file w) (putRows (cleared (table w)) 0 (rows w))) (sym (is .1))
+      (put-ok (table w) (rows w) (room w) (few w) (file w) (walked-ok (file w) (bytes w) (is .0))))
 
   rows-there : rowsAt (c .clear-from .last .0) 0 nodes ≡ rows walked-at
   rows-there =

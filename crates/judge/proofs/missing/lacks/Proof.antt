@@ -5,10 +5,10 @@ use Rattle.judge.proofs.missing.lacks.Statement.{statement}
 use Rattle.judge.proofs.missing.lacks.Tie as tie
 
 misses-requires : tie.Need-misses-requires
-misses-requires c κs = c .before .before .before .pre
+misses-requires c κs = search needs
 
 unpartnered-requires : tie.Need-unpartnered-requires
-unpartnered-requires c κs = c .before .before .before .before .pre
+unpartnered-requires c κs = search needs
 
 returns : tie.Need-returns
 unfolding lacks

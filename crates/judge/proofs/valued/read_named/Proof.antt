@@ -10,7 +10,7 @@ use Rattle.judge.proofs.valued.read_named.Statement.{statement}
 use Rattle.judge.proofs.valued.read_named.Tie as tie
 
 place-named-requires : tie.Need-place-named-requires
-place-named-requires c κs = c .before .before .before .before .pre
+place-named-requires c κs = search needs
 
 mul-at : tie.Need-mul-at
 mul-at c = search needs

@@ -11,7 +11,7 @@ slice-aggregate-place-named : tie.Need-slice-aggregate-place-named
 slice-aggregate-place-named c = search needs
 
 place-named-requires : tie.Need-place-named-requires
-place-named-requires c κs = c .before .before .before .before .pre
+place-named-requires c κs = search needs
 
 returns : tie.Need-returns
 unfolding typesOf letters

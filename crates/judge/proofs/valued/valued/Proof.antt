@@ -29,7 +29,7 @@ abbrev μ-loop : tie.MeasureT-loop
 μ-loop kind lines body starts numbers bones m faces₀ degenerate₀ links₀ i₀ faces degenerate links i = length starts - i
 
 measures-of-requires : tie.Need-measures-of-requires Inv-loop μ-loop
-measures-of-requires c κs = c .before .before .before .pre .1 .0
+measures-of-requires c κs = search needs
 
 loop-holds : tie.Need-loop-holds Inv-loop μ-loop
 loop-holds c =
