@@ -1,18 +1,16 @@
 -- What some properties say: a right one adds what it counts to what the others say, the first other one is what all say.
-use Prim.Native.Nat.{ℕ, zero, suc, _+_, _≤_, _<_}
+use Prim.Native.Nat.{ℕ, zero, suc, _+_, _*_, _≤_, _<_}
 use native.Mathlib.Omega.{arith}
 use native.Mathlib.Nat.{zero-add, add-zero}
 use native.Mathlib.Numerals.{add-one}
 use mathlib.Core.Path.{_≡_, refl, sym, ap, _∙_, subst}
-use mathlib.Core.Bool.{true, false}
+use mathlib.Core.Bool.{true, false, true≢false}
 use mathlib.Core.List.{List, [], _∷_, _++_, map}
-use lib.Dec.{eqb}
 use lib.ListN.{length, take, drop, getD, drop-of-length-le, length-append, length-map}
 use lib.Seq.{drop-cons, take-append-seam, sets, sets-eq}
-use borrow.Author.Tests.{eqb-true, eqb-false}
 use Rattle.base.specs.declared.Refusal.{Refusal}
 use Rattle.base.specs.Refusals.{refusedOr}
-use Rattle.base.proofs.Tests.{by-test}
+use Rattle.le.specs.Le.{AreBytes}
 use Rattle.faces.specs.declared.Face.{Face}
 use Rattle.faces.specs.Faces.{degenerate}
 use Rattle.rules.specs.declared.Entry.{Entry}
@@ -28,10 +26,11 @@ use Rattle.judge.specs.declared.Judged.{Judged}
 use Rattle.judge.specs.Properties.{ruleAt, lineNumber, Beside, besideOf}
 use Rattle.judge.specs.Typed.{typed}
 use Rattle.judge.specs.Missing.{lacks}
-use Rattle.judge.specs.Valued.{faultOf, faultNumber, valued, heldFaces, nodeFaces, linkCount, nodeLinks}
+use Rattle.judge.specs.Valued.{facesAt, faceFault, faultOf, faultNumber, valued, heldFaces, nodeFaces, linkCount, nodeLinks}
 use Rattle.judge.specs.Judge.{verdictAt, refusedNode, acceptedNode, judgedBy, judgedAt, Bounded}
-use Rattle.judge.specs.Private.{keptBy, keptAt, valuedTo}
+use Rattle.judge.specs.Private.{breaks, keptBy, keptAt, valuedTo}
 use Rattle.judge.proofs.Counted.{degenerate-append}
+use Rattle.judge.proofs.Faults.{held-faces, held-other, idle}
 
 -- ---- the lines of some properties, by their numbers
 map-at : (f : ℕ → ℕ) (l : List ℕ) (i : ℕ) → i < length l → getD (map f l) i 0 ≡ f (getD l i 0)
@@ -62,13 +61,6 @@ module _ (h : Held) (s : List ℕ) (at : ℕ) (b : Beside) {k : Kept} (e : k ≡
   all-kept : k ≡ keptBy q (heldFaces h s at)
   unfolding keptAt
   all-kept = e ∙ ap (λ q. keptBy q (heldFaces h s at)) fault-kept
-
--- one link at most
-pub one-most : (e : Entry) → linkCount (lineOf e .held) ≤ 1
-one-most e =
-    by-test (eqb (e .held) 9)
-    (λ t. rw (eqb-true (e .held) 9 t) (omega arith))
-    (λ t. let none : linkCount (lineOf e .held) ≡ 0 = no-link e _ 0 (eqb-false (e .held) 9 t) in omega (arith, none))
 
 -- ---- what some properties say on top of what was counted
 abbrev counted : Refusal → (faces degenerate links : ℕ) → Judged
@@ -114,6 +106,80 @@ module _ (ls : List Line) (s : List ℕ) (b : Beside) where
         onTop f d n ls s b (drop i starts) ≡ acceptedNode f d n
     unfolding onTop valued nodeFaces nodeLinks degenerate
     ended h = rw (drop-of-length-le starts {i = i} h, add-zero f, add-zero d, add-zero n)
+
+-- what was counted of the properties before i, and what those from i on say on top of it
+pub record Counting (ls : List Line) (s : List ℕ) (b : Beside) (starts : List ℕ) (all : Judged) (faces degenerate links i : ℕ) : Type 0 where
+  pub within : i ≤ length starts
+  pub faces-most : faces ≤ i * 4294967296
+  pub degenerate-most : degenerate ≤ i * 4294967296
+  pub links-most : links ≤ i
+  pub says : onTop faces degenerate links ls s b (drop i starts) ≡ all
+
+right : (q : Fault) → breaks q ≡ false → q ≡ Right
+right Right e = refl
+right Whole e = absurd (true≢false e)
+right (Element k) e = absurd (true≢false e)
+
+wrong : (q : Fault) → breaks q ≡ true → faultNumber q ≡ 15
+wrong Right e = absurd (true≢false (sym e))
+wrong Whole e = refl
+wrong (Element k) e = refl
+
+module _ {ls : List Line} {s : List ℕ} {b : Beside} {starts : List ℕ} {all : Judged} {f d n i : ℕ} (o : Counting ls s b starts all f d n i)
+    (h : i < length starts) (e : Entry) (m : lineOf e ≡ ruleAt ls s (getD starts i 0)) where
+  abbrev at : ℕ
+  at = getD starts i 0
+
+  -- a property that is held to be faces
+  module _ (five : e .held ≡ 5) (bytes : AreBytes s) {k : Kept} (q : k ≡ keptBy (faceFault s at (b .vertices)) (facesAt s at)) where
+    pub faces-counted : breaks (k .fault) ≡ false → Counting ls s b starts all (f + k .faces) (d + k .degenerate) n (i + 1)
+    faces-counted r =
+        let kept = held-faces e s at b five bytes q in
+        let none : linkCount (lineOf e .held) ≡ 0 = no-link e _ 0 (λ nine. absurd (omega (arith, five, nine))) in
+        let same-links : n ≡ n + linkCount (lineOf e .held) = omega (arith, none) in
+        record {
+          within = omega arith;
+          faces-most = omega (arith, o .faces-most, kept .1);
+          degenerate-most = omega (arith, o .degenerate-most, kept .2);
+          links-most = omega (arith, o .links-most);
+          says = ap (λ t. onTop (f + k .faces) (d + k .degenerate) t ls s b (drop (i + 1) starts)) same-links
+              ∙ sym (passed ls s b f d n starts i h m (kept .0) (right (k .fault) r)) ∙ o .says;
+        }
+
+    pub faces-wrong : breaks (k .fault) ≡ true → refusedNode 15 (24 + at) ≡ all
+    faces-wrong r = sym (stopped ls s b f d n starts i h m (held-faces e s at b five bytes q .0) refl (wrong (k .fault) r)) ∙ o .says
+
+  -- any other counts no faces
+  module _ (x : e .held ≡ 5 → ⊥) where
+    none-counted : Right ≡ faultOf (lineOf e .held) s at b → (t : ℕ) → linkCount (lineOf e .held) ≡ t → t ≤ 1 →
+        Counting ls s b starts all f d (n + t) (i + 1)
+    none-counted q t u w =
+        let rest = drop (i + 1) starts in
+        let kept = held-other e s at b x q {r = record { fault = Right; faces = 0; degenerate = 0 }} refl in
+        record {
+          within = omega arith;
+          faces-most = omega (arith, o .faces-most);
+          degenerate-most = omega (arith, o .degenerate-most);
+          links-most = omega (arith, o .links-most, w);
+          says = ap (λ y. onTop y d (n + t) ls s b rest) (sym (add-zero f))
+              ∙ ap (λ y. onTop (f + 0) y (n + t) ls s b rest) (sym (add-zero d))
+              ∙ ap (λ y. onTop (f + 0) (d + 0) (n + y) ls s b rest) (sym u)
+              ∙ sym (passed ls s b f d n starts i h m (kept .0) refl) ∙ o .says;
+        }
+
+    pub other-counted : (e .held ≡ 9 → ⊥) → {q : Fault} → q ≡ faultOf (lineOf e .held) s at b → breaks q ≡ false →
+        Counting ls s b starts all f d n (i + 1)
+    other-counted y {q} v r =
+        rw (add-zero n) at (none-counted (sym (right q r) ∙ v) 0 (no-link e _ 0 y) (omega arith))
+
+    pub other-wrong : {q : Fault} → q ≡ faultOf (lineOf e .held) s at b → breaks q ≡ true → refusedNode 15 (24 + at) ≡ all
+    other-wrong {q} v r =
+        let kept = held-other e s at b x v {r = record { fault = q; faces = 0; degenerate = 0 }} refl in
+        sym (stopped ls s b f d n starts i h m (kept .0) refl (wrong q r)) ∙ o .says
+
+  pub link-counted : e .held ≡ 9 → Counting ls s b starts all f d (n + 1) (i + 1)
+  link-counted nine =
+      none-counted (λ five. absurd (omega (arith, five, nine))) (idle e s at b (rw nine)) 1 (rw nine) (omega arith)
 
 -- ---- 13, then 14, then 15
 module _ (kind : ℕ) (ls : List Line) (s starts : List ℕ) (bones : ℕ) where

@@ -1,7 +1,7 @@
 -- What private functions promise each other; nothing here need be believed.
 use Prim.Native.Nat.{ℕ, suc, _≤_}
 use mathlib.Core.Path.{_≡_}
-use mathlib.Core.Bool.{Bool, false, cond, _||_}
+use mathlib.Core.Bool.{Bool, true, false, cond, _||_}
 use mathlib.Core.List.{List, [], _∷_, map}
 use lib.Dec.{eqb, ltb}
 use lib.ListN.{length, getD}
@@ -46,6 +46,11 @@ besideFrom m = record {
   types = typesFrom (m .types);
   bones = m .bones;
 }
+
+abbrev pub breaks : Fault → Bool
+breaks Right = false
+breaks Whole = true
+breaks (Element k) = true
 
 -- what a property breaks, and where it breaks nothing how many faces and degenerate ones it counts
 abbrev pub keptBy : Fault → List Face → Kept

@@ -2,7 +2,7 @@
 use crate::Judged;
 use crate::places;
 ghost use mathlib.Core.Path.{_≡_};
-ghost use Prim.Native.Nat.{_+_, _≤_, _<_};
+ghost use Prim.Native.Nat.{_≤_};
 ghost use mathlib.Core.List.{map};
 ghost use lib.ListN.{length};
 ghost use Rattle.base.specs.Limits.{mostProperties};
@@ -11,9 +11,9 @@ ghost use Rattle.faces.specs.Faces.{widthOf};
 ghost use Rattle.kinds.specs.Kinds.{mesh, blendShape, curve};
 ghost use Rattle.rules.specs.Packing.{typesFrom, lineOf, linesFrom};
 ghost use Rattle.judge.specs.Properties.{lineNumber, restAt, lengthOf, valueOf, typesOf, besideOf};
-ghost use Rattle.judge.specs.Valued.{whole, sole, signed, parentOk, faultOf, facesAt, faceFault, linkCount};
+ghost use Rattle.judge.specs.Valued.{whole, sole, signed, parentOk, faultOf, facesAt, faceFault};
 ghost use Rattle.judge.specs.Judge.{Bounded};
-ghost use Rattle.judge.specs.Private.{StartsWithin, besideFrom, keptBy, keptAt, valuedTo};
+ghost use Rattle.judge.specs.Private.{StartsWithin, besideFrom, breaks, keptBy, valuedTo};
 
 // Types, as a line has them.
 const FLOAT: u32 = props::FLOAT as u32;
@@ -193,6 +193,17 @@ pub enum Fault {
     Element(u64),
 }
 
+// Whether it is anything.
+fn breaks(fault: Fault) -> bool
+    ensures { λ r. ⌜ r ≡ breaks fault ⌝ }
+{
+    match fault {
+        Fault::Right => false,
+        Fault::Whole => true,
+        Fault::Element(_) => true,
+    }
+}
+
 fn whole(ok: bool) -> Fault
     ensures { λ r. ⌜ r ≡ whole ok ⌝ }
 {
@@ -218,7 +229,8 @@ fn is_bone(body: &[u8], at: usize, bones: u32) -> bool
     is_parent(le::u32_at(props::rest_at(body, at), 0), bones)
 }
 
-// What the property breaks of what its line holds it to; faces are judged apart.
+// What the property breaks of what its line holds it to; faces are judged apart. Nothing is read where the line holds it to
+// nothing, or to a link.
 fn fault_of(e: rules::Entry, body: &[u8], at: usize, m: Measures) -> Fault
     requires { ⌜ (e .held ≡ 5 → ⊥) ⌝ }
     ensures { λ r. ⌜ r ≡ faultOf (lineOf e .held) (now (body .entry)) at (besideFrom m) ⌝ }
@@ -285,25 +297,6 @@ fn faces_at(body: &[u8], at: usize, vertices: u32) -> Kept
     }
 }
 
-fn kept_at(e: rules::Entry, body: &[u8], at: usize, m: Measures) -> Kept
-    ensures { λ r. ⌜ (r ≡ keptAt (lineOf e .held) (now (body .entry)) at (besideFrom m)) × (r .faces < 4294967296) × (r .degenerate < 4294967296) ⌝ }
-{
-    if e.held == rules::columns::FACES {
-        return faces_at(body, at, m.vertices);
-    }
-    broken(fault_of(e, body, at, m))
-}
-
-// One for a link, else none.
-fn one_link(e: rules::Entry) -> u32
-    ensures { λ r. ⌜ r ≡ linkCount (lineOf e .held) ⌝ }
-{
-    if e.held == rules::columns::LINK {
-        return 1;
-    }
-    0
-}
-
 // The first property that breaks what its line holds it to, or what they count.
 pub(crate) fn valued(
     kind: u32,
@@ -329,21 +322,19 @@ pub(crate) fn valued(
     while i < starts.len() {
         let at = starts[i];
         let e = rules::line_in(lines, numbers[i]);
-        let kept = kept_at(e, body, at, m);
-        let fault = kept.fault;
-        match fault {
-            Fault::Right => {
-                faces += kept.faces;
-                degenerate += kept.degenerate;
-            }
-            Fault::Whole => {
+        if e.held == rules::columns::FACES {
+            let kept = faces_at(body, at, m.vertices);
+            let fault = kept.fault;
+            if breaks(fault) {
                 return crate::refused_node(15, 24 + at);
             }
-            Fault::Element(_) => {
-                return crate::refused_node(15, 24 + at);
-            }
+            faces += kept.faces;
+            degenerate += kept.degenerate;
+        } else if e.held == rules::columns::LINK {
+            links += 1;
+        } else if breaks(fault_of(e, body, at, m)) {
+            return crate::refused_node(15, 24 + at);
         }
-        links += one_link(e);
         i += 1;
     }
     Judged {

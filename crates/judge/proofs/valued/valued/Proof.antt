@@ -1,29 +1,26 @@
 -- `judge::valued::valued`: what was counted and what the properties from i on say is what all say.
-use Prim.Native.Nat.{ℕ, _+_, _-_, _*_, _≤_}
+use Prim.Native.Nat.{ℕ, _+_, _-_, _<_}
 use native.Mathlib.Omega.{arith}
-use mathlib.Core.Path.{_≡_, refl, sym, ap, _∙_}
-use lib.ListN.{length, drop, getD}
+use mathlib.Core.Path.{_≡_, sym, ap, _∙_}
+use mathlib.Core.Logic.{⊎-elim}
+use lib.ListN.{length, getD}
 use borrow.Author.Needs.{needs}
 use mir.Syntax.{w64}
 use mir.Val.{Fits}
+use Rattle.le.specs.Le.{AreBytes}
 use Rattle.rules.specs.Packing.{lineOf, linesFrom}
-use Rattle.judge.specs.declared.valued.Fault.{Fault}
 use Rattle.judge.specs.declared.Judged.{Judged}
 use Rattle.judge.specs.Properties.{ruleAt, besideOf}
-use Rattle.judge.specs.Valued.{faultNumber}
 use Rattle.judge.specs.Judge.{refusedNode, Bounded}
 use Rattle.judge.specs.Private.{besideFrom, valuedTo}
-use Rattle.judge.proofs.Values.{as-many, line-found, one-most, onTop, on-none, passed, stopped, ended, refused-bounded}
+use Rattle.judge.proofs.Faults.{held-faces}
+use Rattle.judge.proofs.Values.{as-many, line-found, onTop, on-none, ended, Counting, faces-counted, faces-wrong, link-counted, other-counted, other-wrong, refused-bounded}
 use Rattle.judge.proofs.valued.valued.Statement.{statement}
 use Rattle.judge.proofs.valued.valued.Tie as tie
 
 abbrev Inv-loop : tie.InvT-loop
 Inv-loop kind lines body starts numbers bones m faces₀ degenerate₀ links₀ i₀ faces degenerate links i =
-    (i ≤ length starts)
-    × (faces ≤ i * 4294967296)
-    × (degenerate ≤ i * 4294967296)
-    × (links ≤ i)
-    × (onTop faces degenerate links (linesFrom lines) body (besideFrom m) (drop i starts) ≡ valuedTo (linesFrom lines) body (besideOf kind body starts bones) starts)
+    Counting (linesFrom lines) body (besideFrom m) starts (valuedTo (linesFrom lines) body (besideOf kind body starts bones) starts) faces degenerate links i
 
 abbrev μ-loop : tie.MeasureT-loop
 μ-loop kind lines body starts numbers bones m faces₀ degenerate₀ links₀ i₀ faces degenerate links i = length starts - i
@@ -33,14 +30,15 @@ measures-of-requires c κs = search needs
 
 loop-holds : tie.Need-loop-holds Inv-loop μ-loop
 loop-holds c =
-    let a = c .before .before .before .before .args in (
-      omega arith,
-      omega arith,
-      omega arith,
-      omega arith,
-      ap (λ b. onTop 0 0 0 (linesFrom (a .lines .now)) (a .body .now) b (a .starts .now)) (c .measures-of .ensures)
-          ∙ on-none (linesFrom (a .lines .now)) (a .body .now) (besideOf (a .kind) (a .body .now) (a .starts .now) (a .bones)) (a .starts .now),
-    )
+    let a = c .before .before .before .before .args in
+    record {
+      within = omega arith;
+      faces-most = omega arith;
+      degenerate-most = omega arith;
+      links-most = omega arith;
+      says = ap (λ b. onTop 0 0 0 (linesFrom (a .lines .now)) (a .body .now) b (a .starts .now)) (c .measures-of .ensures)
+          ∙ on-none (linesFrom (a .lines .now)) (a .body .now) (besideOf (a .kind) (a .body .now) (a .starts .now) (a .bones)) (a .starts .now);
+    }
 
 mul-at : tie.Need-mul-at Inv-loop μ-loop
 mul-at c = search needs
@@ -60,13 +58,10 @@ shared-slice-read-line-in c =
 line-in-requires : tie.Need-line-in-requires Inv-loop μ-loop
 line-in-requires c κs = search needs
 
-kept-at-requires : tie.Need-kept-at-requires Inv-loop μ-loop
-kept-at-requires c κs = search needs
-
--- the property that was read, its line, and what all say where it is wrong
-module _ (c : tie.After-kept-at Inv-loop μ-loop) where
+-- the property that was read, and its line
+module _ (c : tie.After-line-in Inv-loop μ-loop) where
   abbrev head : tie.At-loop Inv-loop μ-loop
-  head = c .before .before .before .before .before
+  head = c .before .before .before .before
 
   abbrev start : tie.Start Inv-loop μ-loop
   start = head .before .before .before .before .before
@@ -80,66 +75,92 @@ module _ (c : tie.After-kept-at Inv-loop μ-loop) where
   within : Fits w64 (24 + at)
   within = omega (arith, start .good .1 .1 .0 .1, start .pre .1 .1 (head .loop .i))
 
-  line : lineOf (c .before .line-in .result) ≡ ruleAt (linesFrom (start .args .lines .now)) (start .args .body .now) at
+  inside : head .loop .i < length (start .args .starts .now)
+  inside = c .before .before .before .loop-test .taken
+
+  bytes : AreBytes (start .args .body .now)
+  bytes = λ i. omega (arith, head .before .before .before .before .shared-slice-known .given i)
+
+  line : lineOf (c .line-in .result) ≡ ruleAt (linesFrom (start .args .lines .now)) (start .args .body .now) at
   line =
       let a = start .args in
-      line-found (linesFrom (a .lines .now)) (a .body .now) (a .starts .now) (start .pre .1 .0) (head .loop .i) (omega arith) (c .before .line-in .ensures .1)
+      line-found (linesFrom (a .lines .now)) (a .body .now) (a .starts .now) (start .pre .1 .0) (head .loop .i) inside (c .line-in .ensures .1)
 
-  wrong : {q : Fault} → c .kept-at .result .fault ≡ q → faultNumber q ≡ 15 → refusedNode 15 (24 + at) ≡ all
-  wrong r w =
-      let a = start .args in
-      let p = head .loop in
-      sym (stopped (linesFrom (a .lines .now)) (a .body .now) (besideFrom (head .before .measures-of .result)) (p .faces) (p .degenerate) (p .links) (a .starts .now) (p .i)
-      (omega arith) line (c .kept-at .ensures .0) r w)
-      ∙ p .inv .4
-
-  refuses : {q : Fault} → c .kept-at .result .fault ≡ q → faultNumber q ≡ 15 → {r : Judged} → r ≡ refusedNode 15 (24 + at)
+  refuses : refusedNode 15 (24 + at) ≡ all → {r : Judged} → r ≡ refusedNode 15 (24 + at)
       → (r ≡ all) × Bounded r (length (start .args .body .now))
-  refuses h w e = (e ∙ wrong h w, refused-bounded 15 (24 + at) (length (start .args .body .now)) (omega (arith, start .pre .1 .1 (head .loop .i))) e)
+  refuses w e = (e ∙ w, refused-bounded 15 (24 + at) (length (start .args .body .now)) (omega (arith, start .pre .1 .1 (head .loop .i))) e)
 
-enum-told : tie.Need-enum-told Inv-loop μ-loop
-enum-told c = search needs
+faces-at-requires : tie.Need-faces-at-requires Inv-loop μ-loop
+faces-at-requires c κs = search needs
 
-add-faces : tie.Need-add-faces Inv-loop μ-loop
-add-faces c = omega arith
-
-add-degenerate : tie.Need-add-degenerate Inv-loop μ-loop
-add-degenerate c = omega arith
-
-enum-told-2 : tie.Need-enum-told-2 Inv-loop μ-loop
-enum-told-2 c = search needs
+breaks-requires : tie.Need-breaks-requires Inv-loop μ-loop
+breaks-requires c κs = search needs
 
 add-refused-node : tie.Need-add-refused-node Inv-loop μ-loop
-add-refused-node c = within (c .before .before)
+add-refused-node c = within (c .before .before .before .before .before)
 
 refused-node-requires : tie.Need-refused-node-requires Inv-loop μ-loop
 refused-node-requires c κs = search needs
 
 returns : tie.Need-returns Inv-loop μ-loop
-returns c = refuses (c .before .before .before) (c .before .enum-told2 .given .1) refl (c .refused-node .ensures)
+returns c =
+    let t = c .before in
+    let k = t .before in
+    let f = k .before in
+    let g = f .before in
+    let l = g .before .before in
+    refuses l
+    (faces-wrong (head l .loop .inv) (inside l) (l .line-in .result) (line l) (g .if1 .taken) (bytes l) (f .faces-at .ensures) (sym (k .breaks .ensures) ∙ t .if2 .taken))
+    (c .refused-node .ensures)
 
-enum-told-3 : tie.Need-enum-told-3 Inv-loop μ-loop
-enum-told-3 c = search needs
+-- how many faces one property counts
+few : (c : tie.After-faces-at Inv-loop μ-loop) → (c .faces-at .result .faces < 4294967296) × (c .faces-at .result .degenerate < 4294967296)
+few c =
+    let g = c .before in
+    let l = g .before .before in
+    let b = besideFrom (head l .before .measures-of .result) in
+    let kept = held-faces (l .line-in .result) (start l .args .body .now) (at l) b (g .if1 .taken) (bytes l) (c .faces-at .ensures) in
+    (kept .1, kept .2)
+
+add-faces : tie.Need-add-faces Inv-loop μ-loop
+add-faces c =
+    let f = c .before .before .before in
+    let l = head (f .before .before .before) in
+    omega (arith, few f, l .loop .inv .faces-most, inside (f .before .before .before), l .before .before .before .before .before .pre .0)
+
+add-degenerate : tie.Need-add-degenerate Inv-loop μ-loop
+add-degenerate c =
+    let f = c .before .before .before .before in
+    let l = head (f .before .before .before) in
+    omega (arith, few f, l .loop .inv .degenerate-most, inside (f .before .before .before), l .before .before .before .before .before .pre .0)
+
+add-links : tie.Need-add-links Inv-loop μ-loop
+add-links c =
+    let l = c .before .before .before .before in
+    omega (arith, head l .loop .inv .links-most, inside l, start l .pre .0)
+
+fault-of-requires : tie.Need-fault-of-requires Inv-loop μ-loop
+fault-of-requires c κs = search needs
+
+breaks-requires-2 : tie.Need-breaks-requires-2 Inv-loop μ-loop
+breaks-requires-2 c κs = search needs
 
 add-refused-node-2 : tie.Need-add-refused-node-2 Inv-loop μ-loop
-add-refused-node-2 c = within (c .before .before)
+add-refused-node-2 c = within (c .before .before .before .before .before .before .before)
 
 refused-node-requires-2 : tie.Need-refused-node-requires-2 Inv-loop μ-loop
 refused-node-requires-2 c κs = search needs
 
 returns-2 : tie.Need-returns-2 Inv-loop μ-loop
-returns-2 c = refuses (c .before .before .before) (c .before .enum-told3 .given .1) refl (c .refused-node2 .ensures)
-
-one-link-requires : tie.Need-one-link-requires Inv-loop μ-loop
-one-link-requires c κs = search needs
-
-add-links : tie.Need-add-links Inv-loop μ-loop
-add-links c =
-    let m = c .before .before .before .before .before in
-    let l = m .before .before .before .before .before in
-    let most : c .one-link .result ≤ 1 = omega (arith, c .one-link .ensures, one-most (m .before .line-in .result)) in
-    let sum : l .loop .links + c .one-link .result ≤ 65 = omega (arith, most) in
-    omega (arith, sum)
+returns-2 c =
+    let t = c .before in
+    let k = t .before in
+    let f = k .before in
+    let g = f .before .before .before in
+    let l = g .before .before in
+    refuses l
+    (other-wrong (head l .loop .inv) (inside l) (l .line-in .result) (line l) (g .if1 .left) (f .fault-of .ensures) (sym (k .breaks2 .ensures) ∙ t .if4 .taken))
+    (c .refused-node2 .ensures)
 
 add-i : tie.Need-add-i Inv-loop μ-loop
 add-i c = omega arith
@@ -149,24 +170,15 @@ loop-less c = omega arith
 
 loop-again : tie.Need-loop-again Inv-loop μ-loop
 loop-again c =
-    let t = c .before .before .before in
-    let m = t .before .before in
-    let l = m .before .before .before .before .before in
-    let a = l .before .before .before .before .before .args in
-    let p = l .loop in
-    let k = m .kept-at .result in
-    let b = besideFrom (l .before .measures-of .result) in
-    let one = one-most (m .before .line-in .result) in
-    let rest = drop (p .i + 1) (a .starts .now) in (
-      omega arith,
-      omega arith,
-      omega arith,
-      omega (arith, c .one-link .ensures, one),
-      ap (λ n. onTop (p .faces + k .faces) (p .degenerate + k .degenerate) (p .links + n) (linesFrom (a .lines .now)) (a .body .now) b rest) (c .one-link .ensures)
-          ∙ sym (passed (linesFrom (a .lines .now)) (a .body .now) b (p .faces) (p .degenerate) (p .links) (a .starts .now) (p .i) (omega arith)
-          (line m) (m .kept-at .ensures .0) (t .enum-told .given .1))
-          ∙ p .inv .4,
-    )
+    let l = c .before .before in
+    let inv = head l .loop .inv in
+    let e = l .line-in .result in
+    ⊎-elim
+    (λ w. rw (w .6, w .7, w .8) (faces-counted inv (inside l) e (line l) (w .0 .taken) (bytes l) (w .1 .ensures) (sym (w .2 .ensures) ∙ w .3 .left)))
+    (⊎-elim
+    (λ w. rw (w .3, w .4, w .5) (link-counted inv (inside l) e (line l) (w .2 .taken)))
+    (λ w. rw (w .6, w .7, w .8) (other-counted inv (inside l) e (line l) (w .0 .left) (w .2 .left) (w .3 .ensures) (sym (w .4 .ensures) ∙ w .5 .left))))
+    (c .if1 .came)
 
 returns-3 : tie.Need-returns-3 Inv-loop μ-loop
 returns-3 c =
@@ -175,7 +187,7 @@ returns-3 c =
     let p = l .loop in
     let b = besideFrom (l .before .measures-of .result) in (
       sym (ended (linesFrom (a .lines .now)) (a .body .now) b (p .faces) (p .degenerate) (p .links) (a .starts .now) (p .i) (c .loop-test .left))
-          ∙ p .inv .4,
+          ∙ p .inv .says,
       record { place = omega arith; faces = omega arith; degenerates = omega arith; links = omega arith },
     )
 
@@ -192,20 +204,19 @@ valued-spec =
     mul-line-in
     shared-slice-read-line-in
     line-in-requires
-    kept-at-requires
-    enum-told
-    add-faces
-    add-degenerate
-    enum-told-2
+    faces-at-requires
+    breaks-requires
     add-refused-node
     refused-node-requires
     returns
-    enum-told-3
+    add-faces
+    add-degenerate
+    add-links
+    fault-of-requires
+    breaks-requires-2
     add-refused-node-2
     refused-node-requires-2
     returns-2
-    one-link-requires
-    add-links
     add-i
     loop-less
     loop-again
