@@ -1,18 +1,19 @@
 -- The properties of a walked file's known nodes are passed, so that their places are found again by their headers alone; and the Bones of
 -- a file that has none.
-use Prim.Native.Nat.{ℕ, suc, _+_}
+use Prim.Native.Nat.{ℕ, suc, _+_, _≤_, _<_}
 use mathlib.Core.Path.{_≡_, refl, ap, sym, _∙_}
 use mathlib.Core.Bool.{Bool, true, false, _||_, true≢false, and-eq-true-iff, false≢true}
 use mathlib.Core.List.{List, [], _∷_, _++_}
 use lib.Dec.{eqb}
 use lib.ListN.{length, getD}
-use borrow.Author.Tests.{eqb-true}
+use borrow.Author.Tests.{eq-eqb, ne-eqb, eqb-true}
 use Rattle.base.specs.Lists.{Each}
 use Rattle.base.proofs.Lists.{each-append}
 use Rattle.kinds.specs.Kinds.{bone, isKnown}
 use Rattle.table.specs.declared.Row.{Row}
 use Rattle.table.specs.declared.Which.the-variants.{OfKind}
-use Rattle.table.specs.Table.{noParent}
+use Rattle.table.specs.Table.{noParent, rowAt, rowsAt}
+use Rattle.table.proofs.Rests.{rest, rest-all, rest-more, rest-none}
 use Rattle.table.proofs.Counts.{counted-none}
 use Rattle.body.specs.Body.{properties, exactly, skimmed}
 use Rattle.body.proofs.Skimmed.{skimmed-passed}
@@ -43,9 +44,9 @@ module _ (s : List ℕ) where
         ),
       )
   passed-rows (unknown k h ps c rest next) post parent row at well lie = (
-      λ is. absurd (false≢true (sym (well .0) ∙ is)),
-      passed-rows next post parent (suc row) (at + 24 + length rest) (well .3) (after-unknown s post at k h ps c rest next lie),
-    )
+    λ is. absurd (false≢true (sym (well .0) ∙ is)),
+    passed-rows next post parent (suc row) (at + 24 + length rest) (well .3) (after-unknown s post at k h ps c rest next lie),
+  )
 
 pub file-passed : (s : List ℕ) (flags : ℕ) (f : Forest) → WellFormedFile flags f → s ≡ fileOf flags f → Each (Passed s) (rowsOf f)
 file-passed s flags f well e = passed-rows s f [] noParent 0 16 (well .2) (file-lies s flags f e)
@@ -68,3 +69,22 @@ boneless (r ∷ rs) p e = let both = neither (eqb (r .kind) bone) (hasKind bone 
 
 pub none-counted : (rs : List Row) → hasKind bone rs ≡ false → {bones : List ℕ} → bones ≡ [] → BonesCounted bones rs
 none-counted rs e n p = ap (λ l. getD l p 0) n ∙ sym (counted-none (OfKind bone) rs p (boneless rs p e))
+
+-- ---- whether a row is of a kind
+module _ (t : List ℕ) (n kind : ℕ) where
+  pub kind-begun : hasKind kind (rest t n 0) ≡ hasKind kind (rowsAt t 0 n)
+  kind-begun = ap (hasKind kind) (rest-all t n)
+
+  module _ (i : ℕ) where
+    module _ (h : i < n) {r : Row} (e : r ≡ rowAt t i) where
+      pub kind-here : r .kind ≡ kind → hasKind kind (rest t n i) ≡ true
+      unfolding hasKind
+      kind-here k = rw (rest-more t n i h, ← e, eq-eqb (r .kind) kind k)
+
+      pub kind-later : (r .kind ≡ kind → ⊥) → hasKind kind (rest t n i) ≡ hasKind kind (rest t n (i + 1))
+      unfolding hasKind
+      kind-later k = rw (rest-more t n i h, ← e, ne-eqb (r .kind) kind k)
+
+    pub kind-nowhere : n ≤ i → hasKind kind (rest t n i) ≡ false
+    unfolding hasKind
+    kind-nowhere h = rw (rest-none t n i h)

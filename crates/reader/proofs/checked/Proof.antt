@@ -32,7 +32,7 @@ same-length c = search needs
 -- at the rules' answer: the file, its rows, and that the rules are those of the rows
 module _ (c : tie.After-all-rules) where
   abbrev start : tie.Start
-  start = c .before .before .before .before .before .before .before .before .before
+  start = c .before .before .before .before
 
   abbrev file : List ℕ
   file = start .args .file .now
