@@ -31,6 +31,11 @@ const OPTIONS: [&str; 4] = [
     "--dump-before=*written_down*",
 ];
 
+/// Where the C library clears or copies by one repeated instruction, callgrind counts every byte; with
+/// this it does not use them.
+const NO_REPEATS: &str =
+    "glibc.cpu.x86_rep_stosb_threshold=1000000000:glibc.cpu.x86_rep_movsb_threshold=1000000000";
+
 /// What runs below valgrind: each row once for each side.
 pub fn child(groups: Vec<Group>) {
     for group in groups {
@@ -58,6 +63,7 @@ pub fn run(groups: Vec<Group>, only: &[String], write: bool) {
     let output = Command::new("valgrind")
         .args(OPTIONS)
         .arg(format!("--callgrind-out-file={}", out.display()))
+        .env("GLIBC_TUNABLES", NO_REPEATS)
         .arg(program)
         .arg("--counted")
         .args(only)

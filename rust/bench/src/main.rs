@@ -32,6 +32,7 @@ use work::Group;
 fn groups(only: Option<&str>) -> Vec<Group> {
     let mut groups = vec![
         read::group(),
+        read::slowest(),
         read::growth(),
         lookup::group(),
         write::group(),
@@ -80,7 +81,7 @@ fn main() {
         );
         search::run(seed, seconds);
     } else if arguments.has("--drawn") {
-        search::show(&[arguments.number("--drawn", 0)]);
+        search::show(arguments.number("--drawn", 0));
     } else if arguments.has("--stack") {
         stack::run(write);
     } else if let Some(function) = arguments.after("--survive") {

@@ -2,7 +2,7 @@
 
 use std::hint::black_box;
 
-use corpus::loads::{grown, scenes};
+use corpus::loads::{grown, scenes, slow};
 use corpus::tree::File;
 use corpus::{large, worked, Rng};
 
@@ -127,6 +127,17 @@ pub fn group() -> Group {
             row("tiny: a wrong version (E9)", |_| worked::e9()),
             bytes("tiny: a byte missing (E4)", 1.0, |_| worked::e4()),
         ],
+    }
+}
+
+pub fn slowest() -> Group {
+    let row = |(title, make): large::Maker| bytes(title, 2.0, move |rng| make(rng).bytes());
+    Group {
+        title: "Reading, slowest found",
+        about: "Buffers as above. What a search (`-- --search`) found to have the worst ratios, each at the size of a limit.",
+        beside: None,
+        growth: false,
+        rows: slow::ALL.into_iter().map(row).collect(),
     }
 }
 

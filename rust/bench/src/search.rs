@@ -1,5 +1,6 @@
 //! A search for files that the proved reader is slow on.
 
+use std::collections::BTreeMap;
 use std::time::{Duration, Instant};
 
 use corpus::loads::drawn::{self, Drawn};
@@ -19,63 +20,87 @@ const QUICK: Care = Care {
     round: Duration::from_micros(200),
 };
 
-/// Of so many the ratio is measured again with care.
-const KEPT: usize = 40;
-const SHOWN: usize = 20;
+/// Of so many of a family the ratio is measured again with care, and of so many that is shown.
+const KEPT: usize = 5;
+const SHOWN: usize = 2;
 
-/// A file that was drawn, and the ratio of its times.
+/// A file that was drawn, and its times: proved and independent.
 struct Found {
     number: u64,
-    ratio: f64,
+    about: String,
+    times: Vec<f64>,
 }
 
-fn times(bytes: Vec<u8>, care: Care, number: u64) -> Vec<f64> {
-    let mut work = Reading::new(bytes);
-    medians(&mut work, &SIDES, care, &format!("file {number}"))
+impl Found {
+    fn measure(number: u64, care: Care) -> Found {
+        let (family, Drawn { about, bytes }) = drawn::of(number);
+        let about = format!("{family}: {about}; {} bytes", grouped(bytes.len()));
+        let times = medians(&mut Reading::new(bytes), &SIDES, care, &about);
+        Found {
+            number,
+            about,
+            times,
+        }
+    }
+
+    fn ratio(&self) -> f64 {
+        self.times[0] / self.times[1]
+    }
 }
 
-/// Draws files as long as said, and prints those with the worst ratios.
+/// The worst first, and of files that were made alike one only.
+fn worst(mut found: Vec<Found>, most: usize) -> Vec<Found> {
+    found.sort_by(|one, other| other.ratio().total_cmp(&one.ratio()));
+    let mut kept: Vec<Found> = Vec::new();
+    for one in found {
+        if kept.len() < most && kept.iter().all(|other| other.about != one.about) {
+            kept.push(one);
+        }
+    }
+    kept
+}
+
+/// Draws files as long as said, and prints those of each family with the worst ratios.
 pub fn run(seed: u64, seconds: u64) {
     let mut rng = Rng::new(seed);
     let end = Instant::now() + Duration::from_secs(seconds);
-    let mut found = Vec::new();
+    let mut families = BTreeMap::<&str, Vec<Found>>::new();
+    let mut count = 0;
     while Instant::now() < end {
         // Small, so that it can be typed.
         let number = u64::from(rng.next_u32());
-        let (_, Drawn { bytes, .. }) = drawn::of(number);
-        let times = times(bytes, QUICK, number);
-        let ratio = times[0] / times[1];
-        found.push(Found { number, ratio });
+        let found = families.entry(drawn::family(number)).or_default();
+        found.push(Found::measure(number, QUICK));
+        count += 1;
     }
     println!(
-        "{} files drawn from seed {seed}; the worst, measured again:\n",
-        grouped(found.len())
+        "{} files drawn from seed {seed}; the worst of each family, measured again:\n",
+        grouped(count)
     );
-    found.sort_by(|one, other| other.ratio.total_cmp(&one.ratio));
-    found.truncate(KEPT);
-    for one in &mut found {
-        let times = times(drawn::of(one.number).1.bytes, CAREFUL, one.number);
-        one.ratio = times[0] / times[1];
+    let mut shown = Vec::new();
+    for found in families.into_values() {
+        let again = worst(found, KEPT).into_iter();
+        let again = again.map(|one| Found::measure(one.number, CAREFUL));
+        shown.extend(worst(again.collect(), SHOWN));
     }
-    found.sort_by(|one, other| other.ratio.total_cmp(&one.ratio));
-    let numbers = found.iter().take(SHOWN).map(|one| one.number);
-    show(&numbers.collect::<Vec<u64>>());
+    let most = shown.len();
+    print(&worst(shown, most));
 }
 
-/// Measures drawn files with care and prints what they are.
-pub fn show(numbers: &[u64]) {
-    let mut table = Table::new(&["file", "number", "bytes", "proved", "independent", "ratio"]);
-    for &number in numbers {
-        let (family, Drawn { about, bytes }) = drawn::of(number);
-        let length = bytes.len();
-        let times = times(bytes, CAREFUL, number);
+/// Measures a drawn file with care and prints what it is.
+pub fn show(number: u64) {
+    print(&[Found::measure(number, CAREFUL)]);
+}
+
+fn print(found: &[Found]) {
+    let mut table = Table::new(&["file", "number", "proved", "independent", "ratio"]);
+    for one in found {
         table.add(vec![
-            format!("{family}: {about}"),
-            number.to_string(),
-            grouped(length),
-            three(times[0]),
-            three(times[1]),
-            format!("{:.2}", times[0] / times[1]),
+            one.about.clone(),
+            one.number.to_string(),
+            three(one.times[0]),
+            three(one.times[1]),
+            format!("{:.2}", one.ratio()),
         ]);
     }
     println!("{}", table.text());

@@ -35,9 +35,18 @@ pub const FAMILIES: [Family; 11] = [
     ("damaged", damaged),
 ];
 
-/// The file that a number gives: its family, and what was drawn.
+fn family_of(number: u64) -> Family {
+    FAMILIES[(number % FAMILIES.len() as u64) as usize]
+}
+
+/// The name of the family that a number's file is of.
+pub fn family(number: u64) -> &'static str {
+    family_of(number).0
+}
+
+/// The file that a number gives, after its family.
 pub fn of(number: u64) -> (&'static str, Drawn) {
-    let (family, draw) = FAMILIES[(number % FAMILIES.len() as u64) as usize];
+    let (family, draw) = family_of(number);
     (family, draw(&mut Rng::new(number)))
 }
 
