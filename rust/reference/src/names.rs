@@ -26,14 +26,24 @@ pub fn numbered(prefix: &[u8], name: &[u8]) -> Option<u32> {
 
 pub(crate) const KEY_BYTES: usize = 7;
 
-/// A short stand-in for a name: its length and first seven bytes. Unequal keys are unequal names,
-/// and up to seven bytes equal keys are equal names.
+/// A short stand-in for a name: its length, and its bytes or, of a name longer than seven, a mix of
+/// them. Unequal keys are unequal names, and up to seven bytes equal keys are equal names.
 pub(crate) const fn key(name: &[u8]) -> u64 {
-    let mut key = name.len() as u64;
-    let mut i = 0;
-    while i < name.len() && i < KEY_BYTES {
-        key = key << 8 | name[i] as u64;
-        i += 1;
+    let mut mix: u64 = 0;
+    let mut rest = name;
+    while let Some((eight, after)) = rest.split_first_chunk::<8>() {
+        mix = (mix ^ u64::from_le_bytes(*eight)).wrapping_mul(SPREAD);
+        // The highest bits, which are cut off below, come down.
+        mix ^= mix >> 32;
+        rest = after;
     }
-    key
+    let mut last = 0;
+    while let Some((&byte, after)) = rest.split_first() {
+        last = last << 8 | byte as u64;
+        rest = after;
+    }
+    (mix ^ last) << 8 >> 8 | (name.len() as u64) << 56
 }
+
+/// An odd number whose bits are mixed, to multiply by.
+pub(crate) const SPREAD: u64 = 0x9E37_79B9_7F4A_7C15;
