@@ -8,7 +8,18 @@ pub fn name_ok(name: &[u8]) -> bool {
 }
 
 pub(crate) fn name_bytes_ok(name: &[u8]) -> bool {
+    if name.len() >= 16 {
+        return long_name_bytes_ok(name);
+    }
     name.iter().all(|&b| b != 0 && !b.is_ascii_uppercase())
+}
+
+/// The same without an early way out, so that many bytes are tested at once. Apart, as few names are
+/// long.
+#[inline(never)]
+fn long_name_bytes_ok(name: &[u8]) -> bool {
+    let bad = |any, &byte: &u8| any | (byte == 0) | byte.is_ascii_uppercase();
+    !name.iter().fold(false, bad)
 }
 
 /// The number in a name of the pattern `prefix%d`: one to three digits after the prefix, no leading

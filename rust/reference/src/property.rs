@@ -19,7 +19,7 @@ pub(crate) struct Property {
 
 impl Property {
     /// The property that starts at `at`, or the number of the refusal.
-    #[inline]
+    #[inline(always)]
     pub fn parse(body: &[u8], at: usize) -> Result<Property, u32> {
         let rest = body.get(at..).unwrap_or(&[]);
         let Some(header) = rest.first_chunk::<PROPERTY_HEADER>() else {
