@@ -10,7 +10,7 @@ const ONE: f64 = 240.0;
 const MOST: f64 = 2.0;
 const LINE: usize = 17;
 const HEADING: usize = 34;
-const TOP: usize = 62;
+const TOP: usize = 70;
 
 /// A bar is green up to its aim and red past it.
 const GOOD: &str = "#3a8f5c";
@@ -35,9 +35,10 @@ pub fn draw(groups: &[(&str, Vec<Timed>)]) -> String {
                 row.ratio(),
                 color(row.ratio(), row.aim),
             );
-            if let Some(ratio) = row.beside_ratio() {
-                y += LINE - 4;
-                bar(&mut body, y + 2, 9, ratio, BESIDE);
+            // Without an aim it says little: a copy does none of the work of short rows.
+            if let (Some(ratio), Some(_)) = (row.beside_ratio(), row.beside_aim) {
+                y += LINE - 1;
+                bar(&mut body, y + 2, 12, ratio, BESIDE);
             }
             y += LINE;
         }
@@ -46,7 +47,7 @@ pub fn draw(groups: &[(&str, Vec<Timed>)]) -> String {
     let grid = grid(height);
     format!(
         "<svg xmlns=\"http://www.w3.org/2000/svg\" width=\"{WIDTH}\" height=\"{height}\" viewBox=\"0 0 {WIDTH} {height}\">\n\
-         <style>text {{ font: 12px sans-serif; fill: #222 }} .h {{ font-weight: bold; font-size: 14px }} .t {{ font-weight: bold; font-size: 17px }} .s {{ fill: #666 }}</style>\n\
+         <style>text {{ font: 12px sans-serif; fill: #222; stroke: #fff; stroke-width: 3px; paint-order: stroke }} .h {{ font-weight: bold; font-size: 14px }} .t {{ font-weight: bold; font-size: 17px }} .s {{ fill: #666 }}</style>\n\
          <rect width=\"{WIDTH}\" height=\"{height}\" fill=\"#fff\"/>\n\
          {grid}{body}</svg>\n"
     )
@@ -76,15 +77,15 @@ fn grid(height: usize) -> String {
         "t",
         "Time of the proved library, divided by that of the independent one",
     );
-    let legend = "green: within its aim; red: past it; grey, below: divided by a copy, or by a proved reading and a copy";
+    let legend = "green: within its aim; red: past it; blue: without one; grey: divided by a copy, or by a proved reading and a copy, where that has an aim";
     text(&mut out, 16, 46, "start", "s", legend);
     for step in 0..=4 {
         let ratio = f64::from(step) * 0.5;
         let (x, one) = (place(ratio), step == 2);
         let (color, width) = if one { ("#222", 1.5) } else { ("#ddd", 1.0) };
-        let bottom = height - 22;
+        let (top, bottom) = (TOP + 8, height - 22);
         out.push_str(&format!(
-            "<line x1=\"{x}\" y1=\"{TOP}\" x2=\"{x}\" y2=\"{bottom}\" stroke=\"{color}\" stroke-width=\"{width}\"/>\n"
+            "<line x1=\"{x}\" y1=\"{top}\" x2=\"{x}\" y2=\"{bottom}\" stroke=\"{color}\" stroke-width=\"{width}\"/>\n"
         ));
         text(
             &mut out,
@@ -94,7 +95,14 @@ fn grid(height: usize) -> String {
             "s",
             &format!("{ratio:.1}"),
         );
-        text(&mut out, x as usize, TOP + 14, "middle", "s", "");
+        text(
+            &mut out,
+            x as usize,
+            TOP + 2,
+            "middle",
+            "s",
+            &format!("{ratio:.1}"),
+        );
     }
     out
 }

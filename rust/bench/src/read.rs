@@ -2,6 +2,7 @@
 
 use std::hint::black_box;
 
+use corpus::format::{H, I};
 use corpus::loads::{grown, scenes, slow};
 use corpus::tree::File;
 use corpus::{large, worked, Rng};
@@ -143,15 +144,13 @@ pub fn slowest() -> Group {
 
 pub fn growth() -> Group {
     let mut rows = Vec::new();
-    for mebibytes in [1, 2, 4, 8, 16] {
-        rows.push(row(format!("f in h, {mebibytes} MiB"), move |rng| {
-            grown::short_faces(rng, mebibytes << 20)
-        }));
-    }
-    for mebibytes in [1, 2, 4, 8, 16] {
-        rows.push(row(format!("f in i, {mebibytes} MiB"), move |rng| {
-            grown::wide_faces(rng, mebibytes << 20)
-        }));
+    for (code, letter) in [(H, 'h'), (I, 'i')] {
+        for mebibytes in [1, 2, 4, 8, 16] {
+            let title = format!("f in {letter}, {mebibytes} MiB");
+            rows.push(row(title, move |rng| {
+                grown::faces(rng, code, mebibytes << 20)
+            }));
+        }
     }
     for mebibytes in [1, 2, 4, 8, 16] {
         rows.push(row(format!("a string, {mebibytes} MiB"), move |_| {

@@ -1,6 +1,6 @@
 //! Valid files of few nodes, less than some hundred bytes short of a length.
 
-use crate::format::{B, H, I, MESH, MODEL, ROOT, V3};
+use crate::format::{B, H, MESH, MODEL, ROOT, V3};
 use crate::rng::Rng;
 use crate::tree::{File, Node, Property};
 use crate::worked::WAGON;
@@ -31,27 +31,17 @@ pub fn vertices(length: usize) -> File {
     ])
 }
 
-/// A mesh of faces in `h`, with as many vertices as these can tell apart.
-pub fn short_faces(rng: &mut Rng, length: usize) -> File {
-    let vertices = 1 << 16;
-    let faces = (length - REST - 12 * vertices) / 6;
-    in_model(vec![
-        Property::array(V3, "vp", vec![0; 12 * vertices]),
-        Property::array(H, "f", rng.bytes(6 * faces)),
-    ])
-}
-
-/// A mesh of faces in `i` over 256 vertices.
-pub fn wide_faces(rng: &mut Rng, length: usize) -> File {
-    let vertices = 256;
-    let faces = (length - REST - 12 * vertices) / 12;
-    let mut data = rng.bytes(12 * faces);
-    for index in data.chunks_exact_mut(4) {
-        index[1..].fill(0);
+/// A mesh of faces in `h` or `i` over 256 vertices.
+pub fn faces(rng: &mut Rng, code: u16, length: usize) -> File {
+    let (vertices, width) = (256, if code == H { 2 } else { 4 });
+    let faces = (length - REST - 12 * vertices) / (3 * width);
+    let mut data = vec![0; 3 * width * faces];
+    for index in data.chunks_exact_mut(width) {
+        index[0] = rng.byte();
     }
     in_model(vec![
         Property::array(V3, "vp", vec![0; 12 * vertices]),
-        Property::array(I, "f", data),
+        Property::array(code, "f", data),
     ])
 }
 
