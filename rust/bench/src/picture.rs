@@ -1,6 +1,7 @@
 //! The ratios as bars, in a picture of plain text (SVG).
 
 use crate::timing::Timed;
+use crate::work::Group;
 
 const WIDTH: usize = 900;
 /// Where bars start, and how long one of ratio 1 is.
@@ -20,12 +21,12 @@ const PLAIN: &str = "#4a78b0";
 /// The bar to what stands beside.
 const BESIDE: &str = "#8a94a6";
 
-pub fn draw(groups: &[(&str, Vec<Timed>)]) -> String {
+pub fn draw(groups: &[(&Group, Vec<Timed>)]) -> String {
     let mut body = String::new();
     let mut y = TOP;
-    for (title, rows) in groups {
+    for (group, rows) in groups {
         y += HEADING;
-        text(&mut body, 16, y - 10, "start", "h", title);
+        text(&mut body, 16, y - 10, "start", "h", group.title);
         for row in rows {
             text(&mut body, LEFT - 8, y + 12, "end", "", &row.title);
             bar(
@@ -38,6 +39,8 @@ pub fn draw(groups: &[(&str, Vec<Timed>)]) -> String {
             // Without an aim it says little: a copy does none of the work of short rows.
             if let (Some(ratio), Some(_)) = (row.beside_ratio(), row.beside_aim) {
                 y += LINE - 1;
+                let to = format!("to {}", group.beside.unwrap_or_default());
+                text(&mut body, LEFT - 8, y + 12, "end", "s", &to);
                 bar(&mut body, y + 2, 12, ratio, BESIDE);
             }
             y += LINE;

@@ -27,7 +27,7 @@ pub fn run(groups: Vec<Group>, write: bool) {
         );
         println!("{part}");
         text.push_str(&part);
-        timed.push((group.title, rows));
+        timed.push((group, rows));
     }
     if write {
         let picture = picture::draw(&timed);
