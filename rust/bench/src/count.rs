@@ -117,9 +117,9 @@ fn about(version: &str) -> String {
     format!(
         "{}
 
-Instructions of one call, counted by callgrind ({version}) between the call's start and its end. They are the same in every
-run, however noisy the machine; but they are no times: a copy by memcpy moves 32 bytes or more in one instruction, and
-nothing is said of memory.
+Instructions of one call, counted by callgrind ({version}) between the call's start and its end. They hardly change
+from run to run, however noisy the machine; but they are no times: a copy by memcpy moves 32 bytes or more in one
+instruction, and nothing is said of memory.
 ",
         document::written_by("--count")
     )

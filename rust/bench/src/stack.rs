@@ -21,7 +21,7 @@ const FUNCTIONS: [&str; 4] = ["cast_read", "cast_lookup", "cast_write", "cast_tr
 /// In place of a function, where none is called.
 const NONE: &str = "none";
 
-/// Inputs that between them go through all that the functions have.
+/// Inputs of many sorts, as a branch that is not taken is not measured.
 fn files() -> Vec<Vec<u8>> {
     let mut rng = Rng::new(62);
     let files: [File; 6] = [
