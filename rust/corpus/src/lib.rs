@@ -34,6 +34,7 @@ macro_rules! named {
 pub mod expect;
 pub mod format;
 pub mod large;
+pub mod loads;
 pub mod lookups;
 pub mod mutate;
 pub mod plans;

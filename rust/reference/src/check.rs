@@ -1,18 +1,22 @@
 //! The property rules and the links: refusals 13 to 17.
 
-use crate::bytes::u64_at;
+use crate::bytes::first_u64;
 use crate::faces::{faces, unsigned, Faces};
 use crate::kinds::{known, BONE, MESH, SKELETON};
 use crate::links::Targets;
-use crate::names::key;
+use crate::names::{key, SPREAD};
 use crate::property::{Property, MAX_PROPERTIES};
-use crate::rules::{key_values_type, rules_of, Check, Rule};
+use crate::read::own_bytes;
+use crate::rules::{key_values_type, rules_of, Check, Lines, Rule};
 use crate::table::{BODY_END, BODY_START, KIND, NO_PARENT, PARENT, PROPERTIES, ROW};
 use crate::walk::NODE_HEADER;
 use crate::Refusal;
 
 #[derive(Clone, Copy, Default)]
 pub(crate) struct Counts {
+    /// Own bytes of known nodes, and of unknown ones.
+    pub own_known: u32,
+    pub own_unknown: u32,
     pub faces: u32,
     pub degenerate: u32,
     pub links: u32,
@@ -27,11 +31,16 @@ pub(crate) fn check(file: &[u8], rows: &[u32]) -> Result<Counts, Refusal> {
     let mut failed_link = None;
     for (index, row) in rows.chunks_exact(ROW).enumerate() {
         if !known(row[KIND]) {
+            counts.own_unknown += own_bytes(row);
             continue;
         }
+        counts.own_known += own_bytes(row);
         if row[KIND] == SKELETON {
             // Skeletons do not nest: a Bone belongs to the last one before it.
             node.bones = bone_children(rows, index);
+        }
+        if row[PROPERTIES] == 0 && rules_of(row[KIND]).required == 0 {
+            continue;
         }
         let body = &file[row[BODY_START] as usize..row[BODY_END] as usize];
         let refuse = |number: u32, at: usize| Refusal {
@@ -55,7 +64,7 @@ pub(crate) fn check(file: &[u8], rows: &[u32]) -> Result<Counts, Refusal> {
                 counts.links += 1;
                 if failed_link.is_none() {
                     let targets = targets.get_or_insert_with(|| Targets::new(rows));
-                    let number = targets.resolve(kind, u64_at(property.data(body), 0));
+                    let number = targets.resolve(kind, first_u64(property.data(body)));
                     if number != 0 {
                         failed_link = Some(refuse(number, property.start));
                     }
@@ -79,14 +88,19 @@ fn bone_children(rows: &[u32], index: usize) -> u32 {
     bones
 }
 
+/// A power of two, several times as many as there are properties.
+const BITS: usize = 512;
+
 /// The properties of one known node. Made once and filled for each row.
 struct Node {
     count: usize,
     properties: [Property; MAX_PROPERTIES as usize],
     keys: [u64; MAX_PROPERTIES as usize],
+    /// A bit of each key, to pass most searches among them by.
+    some_bits: [u64; BITS / 64],
     rules: [Option<&'static Rule>; MAX_PROPERTIES as usize],
     /// The lines of this kind, and a bit for each that some property has.
-    lines: &'static [Rule],
+    lines: Lines,
     seen: u32,
     /// The Bones of the Skeleton around this node.
     bones: u32,
@@ -98,8 +112,9 @@ impl Default for Node {
             count: 0,
             properties: [Property::default(); MAX_PROPERTIES as usize],
             keys: [0; MAX_PROPERTIES as usize],
+            some_bits: [0; BITS / 64],
             rules: [None; MAX_PROPERTIES as usize],
-            lines: &[],
+            lines: Lines::default(),
             seen: 0,
             bones: 0,
         }
@@ -112,21 +127,24 @@ impl Node {
         self.count = 0;
         self.seen = 0;
         self.lines = rules_of(row[KIND]);
+        self.some_bits = [0; BITS / 64];
         let mut at = 0;
         for i in 0..row[PROPERTIES] as usize {
-            let Ok(property) = Property::parse(body, at) else {
-                break; // The walk has stepped past all of them.
-            };
+            let property = Property::judged(body, at);
             let name = property.name(body);
             let key = key(name);
-            if self.keys[..i].contains(&key) {
+            if self.bit_was_set(key) && self.keys[..i].contains(&key) {
                 let earlier = &self.properties[..i];
                 if earlier.iter().any(|other| other.name(body) == name) {
                     return Err(at);
                 }
             }
-            let line = self.lines.iter().position(|rule| rule.lists(name, key));
-            let rule = line.map(|line| &self.lines[line]);
+            let line = self
+                .lines
+                .rules
+                .iter()
+                .position(|rule| rule.lists(name, key));
+            let rule = line.map(|line| &self.lines.rules[line]);
             if rule.is_some_and(|rule| !rule.takes(property.type_code, property.length)) {
                 return Err(at);
             }
@@ -140,10 +158,18 @@ impl Node {
         Ok(())
     }
 
+    /// Sets a key's bit. Of equal keys it is the same.
+    fn bit_was_set(&mut self, key: u64) -> bool {
+        let bit = key.wrapping_mul(SPREAD) >> 32;
+        let bits = &mut self.some_bits[bit as usize % BITS / 64];
+        let was = *bits & 1 << (bit % 64) != 0;
+        *bits |= 1 << (bit % 64);
+        was
+    }
+
     /// Refusal 14's question: the required properties, and a mesh's partners.
     fn complete(&self, kind: u32) -> bool {
-        let missing = |(line, rule): (usize, &Rule)| rule.required && self.seen & 1 << line == 0;
-        if self.lines.iter().enumerate().any(missing) {
+        if self.lines.required & !self.seen != 0 {
             return false;
         }
         if kind != MESH {

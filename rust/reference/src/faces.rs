@@ -34,22 +34,58 @@ pub(crate) fn faces(type_code: u16, length: u32, data: &[u8], vertices: u32) -> 
         return None;
     }
     match type_code {
-        BYTE => count::<1>(data, vertices),
-        SHORT => count::<2>(data, vertices),
-        _ => count::<4>(data, vertices),
+        BYTE => count(data, vertices, u8::from_le_bytes),
+        SHORT => count(data, vertices, u16::from_le_bytes),
+        _ => count(data, vertices, u32::from_le_bytes),
     }
 }
 
-fn count<const WIDTH: usize>(data: &[u8], vertices: u32) -> Option<Faces> {
-    let mut faces = Faces::default();
-    let mut outside = false;
-    for face in data.chunks_exact(3 * WIDTH) {
-        let a = value::<WIDTH>(face);
-        let b = value::<WIDTH>(&face[WIDTH..]);
-        let c = value::<WIDTH>(&face[2 * WIDTH..]);
-        outside |= (a >= vertices) | (b >= vertices) | (c >= vertices);
-        faces.degenerate += u32::from((a == b) | (b == c) | (a == c));
-        faces.count += 1;
+/// Values of one block: a whole number of faces.
+const BLOCK: usize = 48;
+
+/// 1 at the first value of each face of a block.
+const FIRST: [u8; BLOCK] = {
+    let mut first = [0; BLOCK];
+    let mut at = 0;
+    while at < BLOCK {
+        first[at] = 1;
+        at += 3;
     }
-    (!outside).then_some(faces)
+    first
+};
+
+fn count<T: Copy + Ord + Into<u32>, const WIDTH: usize>(
+    data: &[u8],
+    vertices: u32,
+    value: impl Fn([u8; WIDTH]) -> T,
+) -> Option<Faces> {
+    let (mut rest, _) = data.as_chunks::<WIDTH>();
+    let mut faces = Faces {
+        count: rest.len() as u32 / 3,
+        degenerate: 0,
+    };
+    // A block looks at two values after it.
+    while let Some(block) = rest.first_chunk::<{ BLOCK + 2 }>() {
+        let (mut degenerate, mut greatest) = (0, value(block[0]));
+        for at in 0..BLOCK {
+            // Every value is compared as if it were the first of a face, and those that are count:
+            // that is faster than to step by three.
+            let [a, b, c] = [block[at], block[at + 1], block[at + 2]].map(&value);
+            degenerate += u8::from((a == b) | (b == c) | (a == c)) & FIRST[at];
+            greatest = greatest.max(a);
+        }
+        if greatest.into() >= vertices {
+            return None;
+        }
+        faces.degenerate += u32::from(degenerate);
+        rest = &rest[BLOCK..];
+    }
+    for face in rest.chunks_exact(3) {
+        let [a, b, c] = [face[0], face[1], face[2]].map(&value);
+        if a.max(b).max(c).into() >= vertices {
+            return None;
+        }
+        faces.degenerate += u32::from((a == b) | (b == c) | (a == c));
+    }
+    Some(faces)
 }

@@ -19,7 +19,7 @@ pub(crate) struct Property {
 
 impl Property {
     /// The property that starts at `at`, or the number of the refusal.
-    #[inline]
+    #[inline(always)]
     pub fn parse(body: &[u8], at: usize) -> Result<Property, u32> {
         let rest = body.get(at..).unwrap_or(&[]);
         let Some(header) = rest.first_chunk::<PROPERTY_HEADER>() else {
@@ -59,6 +59,27 @@ impl Property {
             name: (name_start, data_start),
             data: (data_start, data_start + size as usize),
         })
+    }
+
+    /// The property that starts at `at`, where one was parsed before.
+    #[inline]
+    pub fn judged(body: &[u8], at: usize) -> Property {
+        let header = &body[at..at + PROPERTY_HEADER];
+        let type_code = u16_at(header, 0);
+        let length = u32_at(header, 4);
+        let name_start = at + PROPERTY_HEADER;
+        let data_start = name_start + usize::from(u16_at(header, 2));
+        let size = match element_size(type_code) {
+            Some(element) => length as usize * element as usize,
+            None => find_zero(&body[data_start..]).map_or(0, |zero| zero + 1),
+        };
+        Property {
+            start: at,
+            type_code,
+            length,
+            name: (name_start, data_start),
+            data: (data_start, data_start + size),
+        }
     }
 
     pub fn next(&self) -> usize {

@@ -2,9 +2,8 @@
 
 use crate::bytes::u32_at;
 use crate::check::check;
-use crate::kinds::known;
-use crate::table::{clear, is_whole, BODY_END, BODY_START, KIND, ROW};
-use crate::walk::{walk, NODE_HEADER};
+use crate::table::{clear, is_whole, BODY_END, BODY_START, ROW, TABLE_NUMBERS};
+use crate::walk::{nodes, NODE_HEADER};
 use crate::Refusal;
 
 pub(crate) const MAX_FILE: usize = 16_777_216;
@@ -36,33 +35,25 @@ pub fn read(file: &[u8], table: &mut [u32]) -> Reading {
         clear(table);
         return refused(2, 0);
     }
-    let (number, place, nodes) = walk(file, table);
-    if number != 0 {
-        return refused(number, place);
-    }
-    let rows = &table[..nodes as usize * ROW];
-    let counts = match check(file, rows) {
-        Ok(counts) => counts,
+    let judged = nodes(file, table).and_then(|nodes| {
+        let counts = check(file, &table[..nodes * ROW])?;
+        Ok((nodes, counts))
+    });
+    let (nodes, counts) = match judged {
+        Ok(judged) => judged,
         Err(Refusal { number, place }) => {
             clear(table);
             return refused(number, place);
         }
     };
-    let (mut own_known, mut own_unknown) = (0, 0);
-    for row in rows.chunks_exact(ROW) {
-        if known(row[KIND]) {
-            own_known += own_bytes(row);
-        } else {
-            own_unknown += own_bytes(row);
-        }
-    }
+    table[nodes * ROW..TABLE_NUMBERS].fill(0);
     Reading {
         number: 0,
         place: 0,
-        nodes,
+        nodes: nodes as u32,
         flags: u32_at(file, 12),
-        own_known,
-        own_unknown,
+        own_known: counts.own_known,
+        own_unknown: counts.own_unknown,
         faces: counts.faces,
         degenerate: counts.degenerate,
         links: counts.links,

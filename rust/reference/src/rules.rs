@@ -211,7 +211,7 @@ impl Rule {
     /// Whether this line lists the name, whose key is given too.
     pub fn lists(&self, name: &[u8], key: u64) -> bool {
         if self.numbered {
-            numbered(self.name, name).is_some()
+            name.len() > self.name.len() && numbered(self.name, name).is_some()
         } else {
             self.key == key && (name.len() <= KEY_BYTES || self.name == name)
         }
@@ -233,35 +233,49 @@ pub(crate) fn key_values_type(kp: &[u8], type_code: u16) -> bool {
     wanted & types(type_code) != 0
 }
 
-/// The first and the past-the-last line of a kind.
-const fn lines(kind: u32) -> (usize, usize) {
+/// The lines of a kind, and a bit for each that is required.
+#[derive(Clone, Copy, Default)]
+pub(crate) struct Lines {
+    pub rules: &'static [Rule],
+    pub required: u32,
+}
+
+/// The first and the past-the-last line of a kind, and the bits of those required.
+const fn lines(kind: u32) -> (usize, usize, u32) {
     let mut start = 0;
     while start < RULES.len() && RULES[start].kind != kind {
         start += 1;
     }
     let mut end = start;
+    let mut required = 0;
     while end < RULES.len() && RULES[end].kind == kind {
+        if RULES[end].required {
+            required |= 1 << (end - start);
+        }
         end += 1;
     }
-    (start, end)
+    (start, end, required)
 }
 
 /// The lines of a kind, found while compiling.
-pub(crate) fn rules_of(kind: u32) -> &'static [Rule] {
+pub(crate) fn rules_of(kind: u32) -> Lines {
     static TABLE: [Rule; RULES.len()] = RULES;
     macro_rules! of {
         ($($kind:ident)*) => {
             match kind {
                 $($kind => const { lines($kind) },)*
-                _ => (0, 0),
+                _ => (0, 0, 0),
             }
         };
     }
-    let (start, end) = of!(
+    let (start, end, required) = of!(
         MODEL MESH BLEND_SHAPE BONE IK_HANDLE CONSTRAINT MATERIAL FILE ANIMATION CURVE
         CURVE_MODE_OVERRIDE NOTIFICATION_TRACK INSTANCE METADATA
     );
-    &TABLE[start..end]
+    Lines {
+        rules: &TABLE[start..end],
+        required,
+    }
 }
 
 #[cfg(test)]
@@ -271,7 +285,7 @@ mod tests {
     #[test]
     fn the_lines_of_a_kind_stand_together_and_names_are_single() {
         for line in &RULES {
-            let lines = rules_of(line.kind);
+            let lines = rules_of(line.kind).rules;
             let of_kind = RULES.iter().filter(|other| other.kind == line.kind);
             assert_eq!(lines.len(), of_kind.count());
             let same = |other: &&Rule| other.name == line.name && other.numbered == line.numbered;

@@ -47,7 +47,9 @@ fn refuse<T>(number: u32, place: usize) -> Result<T, Refusal> {
     })
 }
 
-fn nodes(file: &[u8], table: &mut [u32]) -> Result<usize, Refusal> {
+/// Puts the rows of a file and answers how many there are. What lies past them is left, and on refusal
+/// all that was put.
+pub(crate) fn nodes(file: &[u8], table: &mut [u32]) -> Result<usize, Refusal> {
     let Some(header) = file.first_chunk::<FILE_HEADER>() else {
         return refuse(3, 0);
     };

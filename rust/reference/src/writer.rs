@@ -42,10 +42,16 @@ pub fn write(plan: &[u32], source: &[u8], flags: u32, out: &mut [u8]) -> Written
     let roots = plan.chunks_exact(ROW).filter(|row| row[KIND] == ROOT);
     let mut out = Output { rest: out };
     out.put(b"cast");
-    out.numbers(&[1, roots.count() as u32, flags]);
+    out.numbers([1, roots.count() as u32, flags]);
     for (row, size) in plan.chunks_exact(ROW).zip(&sizes) {
-        out.numbers(&[row[KIND], *size, row[HASH_LOW], row[HASH_HIGH]]);
-        out.numbers(&[row[PROPERTIES], row[CHILDREN]]);
+        out.numbers([
+            row[KIND],
+            *size,
+            row[HASH_LOW],
+            row[HASH_HIGH],
+            row[PROPERTIES],
+            row[CHILDREN],
+        ]);
         out.put(&source[row[BODY_START] as usize..row[BODY_END] as usize]);
     }
     Written {
@@ -137,16 +143,22 @@ struct Output<'a> {
 }
 
 impl Output<'_> {
-    fn put(&mut self, bytes: &[u8]) {
+    /// The next bytes of the output, which are to be written.
+    fn next(&mut self, length: usize) -> &mut [u8] {
         let rest = std::mem::take(&mut self.rest);
-        let (here, rest) = rest.split_at_mut(bytes.len());
-        here.copy_from_slice(bytes);
+        let (here, rest) = rest.split_at_mut(length);
         self.rest = rest;
+        here
     }
 
-    fn numbers(&mut self, numbers: &[u32]) {
-        for number in numbers {
-            self.put(&number.to_le_bytes());
+    fn put(&mut self, bytes: &[u8]) {
+        self.next(bytes.len()).copy_from_slice(bytes);
+    }
+
+    fn numbers<const COUNT: usize>(&mut self, numbers: [u32; COUNT]) {
+        let places = self.next(4 * COUNT).chunks_exact_mut(4);
+        for (place, number) in places.zip(numbers) {
+            place.copy_from_slice(&number.to_le_bytes());
         }
     }
 }
