@@ -1,14 +1,14 @@
--- 13: a name of another key is another name; a property that is right is passed; and what is noted of those passed.
+-- 13: a name whose slot is not marked is a new name; a property that is right is passed; and what is noted of those passed.
 use Prim.Native.Nat.{ℕ, zero, suc, _+_, _-_, _/_, _%_, _^_, _≤_, _<_}
 use native.Mathlib.Omega.{arith}
 use native.Mathlib.Numerals.{add-one}
 use mathlib.Core.Path.{_≡_, refl, sym, ap, _∙_, subst}
-use mathlib.Core.Bool.{Bool, true, false, cond, _||_, true≢false, or-false, or-assoc}
+use mathlib.Core.Bool.{Bool, true, false, cond, _||_, true≢false}
 use mathlib.Core.List.{List, [], _∷_, _++_, map, map-append, append-assoc, append-nil}
 use lib.Dec.{eqb}
-use lib.ListN.{length, take, drop, getD, set, length-map, drop-of-length-le}
-use lib.Seq.{drop-cons, drop-drop, take-suc, take-append-seam, length-take-le, sets, sets-eq, length-sets}
-use borrow.Author.Tests.{eq-eqb, le-ltb}
+use lib.ListN.{length, take, drop, getD, set, length-map, length-set, drop-of-length-le}
+use lib.Seq.{getD-set-same, getD-set-other, drop-cons, drop-drop, take-suc, take-append-seam, length-take-le, sets, sets-eq, length-sets}
+use borrow.Author.Tests.{eq-eqb, eqb-true, eqb-false, le-ltb}
 use Rattle.le.specs.Le.{numberAt}
 use Rattle.base.proofs.Stores.{sets-more}
 use Rattle.base.proofs.Tests.{by-test}
@@ -23,39 +23,64 @@ use Rattle.rules.specs.Rules.{misfits, findIn}
 use Rattle.rules.proofs.Laws.{found}
 use Rattle.base.specs.declared.Refusal.{Refusal}
 use Rattle.judge.specs.Properties.{lineNumber, has}
-use Rattle.judge.specs.Typed.{isMistyped, typed, rightlyTyped, keyFrom, keyOf, keyAt}
+use Rattle.judge.specs.Typed.{isMistyped, typed, rightlyTyped, keyFrom, keyOf, slotOf, slotAt, marked}
 use Rattle.base.specs.Refusals.{refusal, noRefusal}
 use Rattle.judge.specs.Private.{hasKey, Noted}
 
--- ---- keys
-module _ (any : Bool) (keys : List ℕ) (key i : ℕ) where
-  pub key-next : i < length keys →
-      ((any || eqb (getD keys i 0) key) || hasKey (drop (i + 1) keys) key) ≡ (any || hasKey (drop i keys) key)
-  unfolding hasKey
-  key-next h = rw (add-one i, drop-cons keys i 0 h) (or-assoc any (eqb (getD keys i 0) key) (hasKey (drop (suc i) keys) key))
-
-  pub key-ended : length keys ≤ i → any ≡ (any || hasKey (drop i keys) key)
-  unfolding hasKey
-  key-ended h = rw (drop-of-length-le keys {i = i} h) (sym (or-false any))
-
+-- ---- slots
 neither : (a b : Bool) → (a || b) ≡ false → (a ≡ false) × (b ≡ false)
 neither true b e = absurd (true≢false e)
 neither false b e = (refl, e)
 
--- a property of the name has the name's key
-unnamed : (s name starts : List ℕ) → hasKey (map (keyAt s) starts) (keyOf name) ≡ false → firstNamed s name starts ≡ length starts
+-- a property of the name has the name's slot
+unnamed : (s name starts : List ℕ) → hasKey (map (slotAt s) starts) (slotOf name) ≡ false → firstNamed s name starts ≡ length starts
 unfolding hasKey firstNamed
 unnamed s name [] e = refl
 unnamed s name (at ∷ more) e =
-    let both = neither (eqb (keyAt s at) (keyOf name)) (hasKey (map (keyAt s) more) (keyOf name)) e in
+    let both = neither (eqb (slotAt s at) (slotOf name)) (hasKey (map (slotAt s) more) (slotOf name)) e in
     by-test (same (nameAt s at) name)
-    (λ t. absurd (true≢false (sym (eq-eqb _ _ (ap keyOf (same-eq (nameAt s at) name t))) ∙ both .0)))
+    (λ t. absurd (true≢false (sym (eq-eqb _ _ (ap slotOf (same-eq (nameAt s at) name t))) ∙ both .0)))
     (λ t. rw t (ap suc (unnamed s name more (both .1))))
 
-pub absent : (s name starts : List ℕ) {key : ℕ} {keys : List ℕ} → key ≡ keyOf name → keys ≡ map (keyAt s) starts →
-    hasKey keys key ≡ false → has s starts name ≡ false
-absent s name starts {key} k ks e =
-    let end = unnamed s name starts (ap (hasKey (map (keyAt s) starts)) (sym k) ∙ ap (λ l. hasKey l key) (sym ks) ∙ e) in
+-- slots that are marked
+module _ (m : ℕ) where
+  pub marked-length : (marks slots : List ℕ) → length (marked m marks slots) ≡ length marks
+  unfolding marked
+  marked-length marks [] = refl
+  marked-length marks (k ∷ ks) = marked-length (set marks k m) ks ∙ length-set marks k m
+
+  marked-kept : (marks slots : List ℕ) (k : ℕ) → k < length marks → getD marks k 0 ≡ m → getD (marked m marks slots) k 0 ≡ m
+  unfolding marked
+  marked-kept marks [] k h e = e
+  marked-kept marks (j ∷ js) k h e =
+      let long : k < length (set marks j m) = omega (arith, h, length-set marks j m) in
+      by-test (eqb j k)
+      (λ t. let here : j ≡ k = eqb-true j k t in marked-kept (set marks j m) js k long (ap (λ i. getD (set marks i m) k 0) here ∙ getD-set-same marks k m 0 h))
+      (λ t. marked-kept (set marks j m) js k long (getD-set-other marks j k m 0 (λ q. eqb-false j k t (sym q)) ∙ e))
+
+  marked-there : (marks slots : List ℕ) (k : ℕ) → k < length marks → hasKey slots k ≡ true → getD (marked m marks slots) k 0 ≡ m
+  unfolding marked hasKey
+  marked-there marks [] k h e = absurd (true≢false (sym e))
+  marked-there marks (j ∷ js) k h e =
+      let long : k < length (set marks j m) = omega (arith, h, length-set marks j m) in
+      by-test (eqb j k)
+      (λ t. let here : j ≡ k = eqb-true j k t in marked-kept (set marks j m) js k long (ap (λ i. getD (set marks i m) k 0) here ∙ getD-set-same marks k m 0 h))
+      (λ t. marked-there (set marks j m) js k long (rw t at e))
+
+  marked-more : (marks slots : List ℕ) (k : ℕ) → marked m marks (slots ++ (k ∷ [])) ≡ set (marked m marks slots) k m
+  unfolding marked
+  marked-more marks [] k = refl
+  marked-more marks (j ∷ js) k = marked-more (set marks j m) js k
+
+-- where a name's slot has another mark, none of the names before it is the same
+pub unseen : (s name starts marks₀ : List ℕ) (m : ℕ) {marks₁ : List ℕ} (slot : ℕ) → marks₁ ≡ marked m marks₀ (map (slotAt s) starts) → slot ≡ slotOf name →
+    slot < length marks₀ → eqb (getD marks₁ slot 0) m ≡ false → has s starts name ≡ false
+unseen s name starts marks₀ m {marks₁} slot e k h n =
+    let out : hasKey (map (slotAt s) starts) (slotOf name) ≡ false =
+    by-test (hasKey (map (slotAt s) starts) (slotOf name))
+    (λ t. absurd (eqb-false _ _ n (ap (λ l. getD l slot 0) e ∙ marked-there m marks₀ (map (slotAt s) starts) slot h (ap (hasKey (map (slotAt s) starts)) k ∙ t))))
+    (λ t. t) in
+    let end = unnamed s name starts out in
     le-ltb (firstNamed s name starts) (length starts) (omega arith)
 
 -- the key, eight letters at a time
@@ -110,21 +135,22 @@ map-same [] = refl
 map-same (x ∷ l) = ap (λ m. x ∷ m) (map-same l)
 
 -- the first `count` properties are judged one after the other; those before i are right, and noted
-pub record Noting (ls : List Line) (s : List ℕ) (count : ℕ) (starts₀ numbers₀ keys₀ starts₁ numbers₁ keys₁ : List ℕ) (at i : ℕ) : Type 0 where
+pub record Noting (ls : List Line) (s : List ℕ) (m count : ℕ) (starts₀ numbers₀ marks₀ starts₁ numbers₁ marks₁ : List ℕ) (at i : ℕ) : Type 0 where
   pub within : i ≤ count
   pub inside : at ≤ length s
   pub left : drop i (skim s count 0) ≡ skim s (count - i) at
   pub starts : starts₁ ≡ sets starts₀ 0 (map (λ x. x) (take i (skim s count 0)))
   pub numbers : numbers₁ ≡ sets numbers₀ 0 (map (lineNumber ls s) (take i (skim s count 0)))
-  pub keys : keys₁ ≡ sets keys₀ 0 (map (keyAt s) (take i (skim s count 0)))
+  pub marks : marks₁ ≡ marked m marks₀ (map (slotAt s) (take i (skim s count 0)))
   pub passes : typed ls s (take i (skim s count 0)) (drop i (skim s count 0)) ≡ typed ls s [] (skim s count 0)
   pub rights : take i (skim s count 0) ++ rightlyTyped ls s (take i (skim s count 0)) (drop i (skim s count 0)) ≡ rightlyTyped ls s [] (skim s count 0)
 
-pub noting : (ls : List Line) (s : List ℕ) (count : ℕ) (a b c : List ℕ) → Noting ls s count a b c a b c 0 0
-noting ls s count a b c = record { within = omega arith; inside = omega arith; left = let whole : count ≡ count - 0 = omega arith in ap (λ k. skim s k 0) whole; starts = refl; numbers = refl; keys = refl; passes = refl; rights = refl }
+pub noting : (ls : List Line) (s : List ℕ) (m count : ℕ) (a b c : List ℕ) → Noting ls s m count a b c a b c 0 0
+unfolding marked
+noting ls s m count a b c = record { within = omega arith; inside = omega arith; left = let whole : count ≡ count - 0 = omega arith in ap (λ k. skim s k 0) whole; starts = refl; numbers = refl; marks = refl; passes = refl; rights = refl }
 
-module _ {ls : List Line} {s : List ℕ} {count : ℕ} {starts₀ numbers₀ keys₀ starts₁ numbers₁ keys₁ : List ℕ} {at i : ℕ}
-    (o : Noting ls s count starts₀ numbers₀ keys₀ starts₁ numbers₁ keys₁ at i) where
+module _ {ls : List Line} {s : List ℕ} {m count : ℕ} {starts₀ numbers₀ marks₀ starts₁ numbers₁ marks₁ : List ℕ} {at i : ℕ}
+    (o : Noting ls s m count starts₀ numbers₀ marks₀ starts₁ numbers₁ marks₁ at i) where
   abbrev all : List ℕ
   all = skim s count 0
 
@@ -138,29 +164,30 @@ module _ {ls : List Line} {s : List ℕ} {count : ℕ} {starts₀ numbers₀ key
   pub numbers-long : length numbers₁ ≡ length numbers₀
   numbers-long = ap length (o .numbers) ∙ length-sets numbers₀ 0 (map (lineNumber ls s) done)
 
-  pub keys-long : length keys₁ ≡ length keys₀
-  keys-long = ap length (o .keys) ∙ length-sets keys₀ 0 (map (keyAt s) done)
+  pub marks-long : length marks₁ ≡ length marks₀
+  marks-long = ap length (o .marks) ∙ marked-length m marks₀ (map (slotAt s) done)
 
   many : length done ≡ i
   many = length-take-le i all (omega (arith, o .within, length-skim s count 0))
 
-  -- the keys before are those of the properties before
+  -- the places before are those of the properties before
   pub before-are : i ≤ length starts₀ → take i starts₁ ≡ done
   before-are h = ap (take i) (o .starts ∙ ap (sets starts₀ 0) (map-same done)) ∙ first-of starts₀ done i (sym many) h
 
-  pub keys-are : i ≤ length starts₀ → i ≤ length keys₀ → take i keys₁ ≡ map (keyAt s) (take i starts₁)
-  keys-are h k =
-      ap (take i) (o .keys) ∙ first-of keys₀ (map (keyAt s) done) i (sym (length-map done (keyAt s) ∙ many)) k ∙ ap (map (keyAt s)) (sym (before-are h))
+  -- where the slot of a name has another mark, none of them has the name
+  pub unseen-before : i ≤ length starts₀ → (name : List ℕ) (slot : ℕ) → slot ≡ slotOf name → slot < length marks₀ →
+      eqb (getD marks₁ slot 0) m ≡ false → has s (take i starts₁) name ≡ false
+  unseen-before h name slot k b e = ap (λ l. has s l name) (before-are h) ∙ unseen s name done marks₀ m slot (o .marks) k b e
 
   -- what is noted where all are right, or where one is not
-  noted-as : (l : List ℕ) → l ≡ done → rightlyTyped ls s [] all ≡ l → Noted ls s all starts₀ numbers₀ keys₀ starts₁ numbers₁ keys₁
+  noted-as : (l : List ℕ) → l ≡ done → rightlyTyped ls s [] all ≡ l → Noted ls s m all starts₀ numbers₀ marks₀ starts₁ numbers₁ marks₁
   noted-as l e r = record {
     starts = o .starts ∙ ap (sets starts₀ 0) (map-same done ∙ sym e ∙ sym r);
     numbers = o .numbers ∙ ap (λ l. sets numbers₀ 0 (map (lineNumber ls s) l)) (sym e ∙ sym r);
-    keys = o .keys ∙ ap (λ l. sets keys₀ 0 (map (keyAt s) l)) (sym e ∙ sym r);
+    marks = o .marks ∙ ap (λ l. marked m marks₀ (map (slotAt s) l)) (sym e ∙ sym r);
   }
 
-  pub all-noted : count ≤ i → (noRefusal ≡ typed ls s [] all) × Noted ls s all starts₀ numbers₀ keys₀ starts₁ numbers₁ keys₁
+  pub all-noted : count ≤ i → (noRefusal ≡ typed ls s [] all) × Noted ls s m all starts₀ numbers₀ marks₀ starts₁ numbers₁ marks₁
   unfolding typed rightlyTyped
   all-noted h =
       let end : drop i all ≡ [] = drop-of-length-le all {i = i} (omega (arith, length-skim s count 0, h)) in
@@ -185,38 +212,40 @@ module _ {ls : List Line} {s : List ℕ} {count : ℕ} {starts₀ numbers₀ key
     longer = ap (λ k. take k all) (add-one i) ∙ take-suc all i 0 inner ∙ ap (λ x. done ++ (x ∷ [])) there
 
     module _ {name : List ℕ} (n : name ≡ nameAt s at) {hd : PropertyHeader} (e : hd ≡ headerAt s at)
-        {k : ℕ} (f : k ≡ findIn ls name) {l : Line} (g : l ≡ getD ls k free) {r m : Bool} (er : r ≡ has s done name)
-        (em : m ≡ misfits l (hd .code) (hd .length)) where
+        {k : ℕ} (f : k ≡ findIn ls name) {l : Line} (g : l ≡ getD ls k free) {r x : Bool} (er : r ≡ has s done name)
+        (em : x ≡ misfits l (hd .code) (hd .length)) where
       numbered : k ≡ lineNumber ls s at
       numbered = rw (f, n)
 
-      mistyped : (r || m) ≡ isMistyped ls s done at
+      mistyped : (r || x) ≡ isMistyped ls s done at
       mistyped =
           let code : hd .code ≡ codeAt s at = ap (λ (h : PropertyHeader). h .code) e in
           let len : hd .length ≡ lengthAt s at = ap (λ (h : PropertyHeader). h .length) e in
           rw (er, em, code, len, g, n, numbered, found ls (nameAt s at))
 
-      step : typed ls s done (drop i all) ≡ cond (r || m) (refusal 13 (24 + at)) (typed ls s (take (i + 1) all) (drop (i + 1) all))
+      step : typed ls s done (drop i all) ≡ cond (r || x) (refusal 13 (24 + at)) (typed ls s (take (i + 1) all) (drop (i + 1) all))
       unfolding typed
       step = rw (mistyped, here, longer, onward)
 
-      kept : rightlyTyped ls s done (drop i all) ≡ cond (r || m) [] (at ∷ rightlyTyped ls s (take (i + 1) all) (drop (i + 1) all))
+      kept : rightlyTyped ls s done (drop i all) ≡ cond (r || x) [] (at ∷ rightlyTyped ls s (take (i + 1) all) (drop (i + 1) all))
       unfolding rightlyTyped
       kept = rw (mistyped, here, longer, onward)
 
-      pub refused : (r || m) ≡ true → (refusal 13 (24 + at) ≡ typed ls s [] all) × Noted ls s all starts₀ numbers₀ keys₀ starts₁ numbers₁ keys₁
+      pub refused : (r || x) ≡ true → (refusal 13 (24 + at) ≡ typed ls s [] all) × Noted ls s m all starts₀ numbers₀ marks₀ starts₁ numbers₁ marks₁
       refused t =
           (sym (rw t at step) ∙ o .passes, noted-as done refl (sym (o .rights) ∙ ap (λ l. done ++ l) (rw t at kept) ∙ append-nil done))
 
-      pub passed : (r || m) ≡ false → {key next : ℕ} → key ≡ keyOf name → next ≡ nextAt s at → next ≤ length s →
-          Noting ls s count starts₀ numbers₀ keys₀ (set starts₁ i at) (set numbers₁ i k) (set keys₁ i key) next (i + 1)
-      passed t {key} {next} q x b = record {
+      pub passed : (r || x) ≡ false → {slot next : ℕ} → slot ≡ slotOf name → next ≡ nextAt s at → next ≤ length s →
+          Noting ls s m count starts₀ numbers₀ marks₀ (set starts₁ i at) (set numbers₁ i k) (set marks₁ slot m) next (i + 1)
+      passed t {slot} {next} q y b = record {
         within = omega arith;
         inside = b;
-        left = onward ∙ ap (skim s (count - (i + 1))) (sym x);
+        left = onward ∙ ap (skim s (count - (i + 1))) (sym y);
         starts = sets-more (λ x. x) all i 0 inner (sym there) starts₀ (o .starts);
         numbers = sets-more (lineNumber ls s) all i 0 inner (numbered ∙ ap (lineNumber ls s) (sym there)) numbers₀ (o .numbers);
-        keys = sets-more (keyAt s) all i 0 inner (q ∙ ap keyOf n ∙ ap (keyAt s) (sym there)) keys₀ (o .keys);
+        marks =
+            ap (λ l. set l slot m) (o .marks) ∙ ap (λ k. set (marked m marks₀ (map (slotAt s) done)) k m) (q ∙ ap slotOf n)
+            ∙ sym (marked-more m marks₀ (map (slotAt s) done) (slotAt s at)) ∙ ap (marked m marks₀) (sym (ap (map (slotAt s)) longer ∙ map-append (slotAt s) done (at ∷ [])));
         passes = sym (rw t at step) ∙ o .passes;
         rights =
             ap (λ l. l ++ rightlyTyped ls s (take (i + 1) all) (drop (i + 1) all)) longer
@@ -225,8 +254,8 @@ module _ {ls : List Line} {s : List ℕ} {count : ℕ} {starts₀ numbers₀ key
       }
 
 -- what is noted where none is refused: the first n numbers of the buffers
-module _ {ls : List Line} {s all starts₀ numbers₀ keys₀ starts₁ numbers₁ keys₁ : List ℕ}
-    (o : Noted ls s all starts₀ numbers₀ keys₀ starts₁ numbers₁ keys₁)
+module _ {ls : List Line} {s : List ℕ} {m : ℕ} {all starts₀ numbers₀ marks₀ starts₁ numbers₁ marks₁ : List ℕ}
+    (o : Noted ls s m all starts₀ numbers₀ marks₀ starts₁ numbers₁ marks₁)
     {v : Refusal} (e : v ≡ typed ls s [] all) (z : v .number ≡ 0) (n : ℕ) (k : n ≡ length all) where
   right : rightlyTyped ls s [] all ≡ all
   right = all-right ls s [] all (ap (λ (v : Refusal). v .number) (sym e) ∙ z)
@@ -239,6 +268,7 @@ module _ {ls : List Line} {s all starts₀ numbers₀ keys₀ starts₁ numbers�
       ap (take n) (o .numbers ∙ ap (λ l. sets numbers₀ 0 (map (lineNumber ls s) l)) right)
       ∙ first-of numbers₀ (map (lineNumber ls s) all) n (k ∙ sym (length-map all (lineNumber ls s))) h
 
-pub noted-for : {ls : List Line} {s all all′ starts₀ numbers₀ keys₀ starts₁ numbers₁ keys₁ : List ℕ} → all ≡ all′ →
-    Noted ls s all starts₀ numbers₀ keys₀ starts₁ numbers₁ keys₁ → Noted ls s all′ starts₀ numbers₀ keys₀ starts₁ numbers₁ keys₁
-noted-for {ls} {s} {all} {all′} {starts₀} {numbers₀} {keys₀} {starts₁} {numbers₁} {keys₁} e o = subst (λ l. Noted ls s l starts₀ numbers₀ keys₀ starts₁ numbers₁ keys₁) e o
+pub noted-for : {ls : List Line} {s : List ℕ} {m : ℕ} {all all′ starts₀ numbers₀ marks₀ starts₁ numbers₁ marks₁ : List ℕ} → all ≡ all′ →
+    Noted ls s m all starts₀ numbers₀ marks₀ starts₁ numbers₁ marks₁ → Noted ls s m all′ starts₀ numbers₀ marks₀ starts₁ numbers₁ marks₁
+noted-for {ls} {s} {m} {all} {all′} {starts₀} {numbers₀} {marks₀} {starts₁} {numbers₁} {marks₁} e o =
+    subst (λ l. Noted ls s m l starts₀ numbers₀ marks₀ starts₁ numbers₁ marks₁) e o

@@ -1,9 +1,9 @@
 -- 13: "name twice on a node; listed name with another type or length", at the property. The lines of the node's kind are ls, its body
 -- is s. A place is an offset from the node's header: 24 is the first byte of its body.
-use Prim.Native.Nat.{ℕ, zero, suc, _+_, _/_, _%_, _^_}
+use Prim.Native.Nat.{ℕ, zero, suc, _+_, _*_, _/_, _%_, _^_}
 use mathlib.Core.Bool.{Bool, cond, _||_}
 use mathlib.Core.List.{List, [], _∷_, _++_}
-use lib.ListN.{length, drop}
+use lib.ListN.{length, drop, set}
 use Rattle.base.specs.declared.Refusal.{Refusal}
 use Rattle.le.specs.Le.{numberAt}
 use Rattle.base.specs.Refusals.{refusal, noRefusal}
@@ -39,5 +39,14 @@ keyFrom (suc k) sum name = keyFrom k (((sum + sum) % 2 ^ 64 + numberAt 8 name 0)
 unfoldable pub keyOf : List ℕ → ℕ
 keyOf name = keyFrom ((length name + 7) / 8) 0 name
 
-abbrev pub keyAt : (s : List ℕ) (at : ℕ) → ℕ
-keyAt s at = keyOf (nameAt s at)
+-- one of 1,024 slots, by sums and products at 64 bits
+unfoldable pub slotOf : List ℕ → ℕ
+slotOf name = (keyOf name % 2 ^ 32 * 0x9E3779B1 + keyOf name / 2 ^ 32 * 0x85EBCA77) % 2 ^ 64 / 2 ^ 27 % 1024
+
+abbrev pub slotAt : (s : List ℕ) (at : ℕ) → ℕ
+slotAt s at = slotOf (nameAt s at)
+
+-- the marks with some slots marked
+unfoldable pub marked : (mark : ℕ) (marks slots : List ℕ) → List ℕ
+marked m marks [] = marks
+marked m marks (k ∷ ks) = marked m (set marks k m) ks

@@ -8,7 +8,7 @@ ghost use Rattle.base.specs.Limits.{mostProperties};
 ghost use Rattle.body.specs.Body.{skim, skimmed};
 ghost use Rattle.rules.specs.Packing.{linesFrom};
 ghost use Rattle.judge.specs.Properties.{has, lineNumber};
-ghost use Rattle.judge.specs.Typed.{keyAt, rightlyTyped};
+ghost use Rattle.judge.specs.Typed.{slotAt, marked, rightlyTyped};
 ghost use Rattle.judge.specs.Judge.{refusedNode, judgedAt, Bounded};
 ghost use Rattle.judge.specs.Private.{Noted};
 
@@ -55,16 +55,17 @@ fn judge_first(
     bones: u32,
     starts: &mut [usize],
     numbers: &mut [usize],
-    keys: &mut [u64],
+    marks: &mut [u16],
+    mark: u16,
 ) -> Judged
-    requires { ⌜ (count ≤ mostProperties) × (length (now starts) ≡ mostProperties) × (length (now numbers) ≡ mostProperties) × (length (now keys) ≡ mostProperties) ⌝ }
+    requires { ⌜ (count ≤ mostProperties) × (length (now starts) ≡ mostProperties) × (length (now numbers) ≡ mostProperties) × (length (now marks) ≡ 1024) ⌝ }
     ensures result { λ r. ⌜ r
         ≡ judgedAt kind (linesFrom (now (lines .entry))) (now (body .entry)) (skim (now (body .entry)) count 0) bones ⌝ }
-    ensures noted { λ r. ⌜ Noted (linesFrom (now (lines .entry))) (now (body .entry)) (skim (now (body .entry)) count 0)
-        (now (starts .entry)) (now (numbers .entry)) (now (keys .entry)) (now (starts .exit)) (now (numbers .exit)) (now (keys .exit)) ⌝ }
+    ensures noted { λ r. ⌜ Noted (linesFrom (now (lines .entry))) (now (body .entry)) mark (skim (now (body .entry)) count 0)
+        (now (starts .entry)) (now (numbers .entry)) (now (marks .entry)) (now (starts .exit)) (now (numbers .exit)) (now (marks .exit)) ⌝ }
     ensures bounds { λ r. ⌜ Bounded r (length (now (body .entry))) ⌝ }
 {
-    let v = typed::typed(lines, body, count, starts, numbers, keys);
+    let v = typed::typed(lines, body, count, starts, numbers, marks, mark);
     if v.number != 0 {
         return refused_node(v.number, v.place);
     }
@@ -83,7 +84,8 @@ fn judge_first(
 
 // Judges a node by its kind, the lines of its kind, its property count, its body and the number of Bones beside it. Its properties
 // are found by their headers alone, as the walk has judged these: at most 64, none where the count is over that. Noted are, of
-// those before the first that 13 refuses, where each starts, where its line stands among the lines, and its name's key.
+// those before the first that 13 refuses, where each starts and where its line stands among the lines; and the slots of their names
+// are marked. Any mark gives the same answer; one that no slot has yet spares the most comparisons of names.
 pub fn judge(
     kind: u32,
     lines: &[rules::Columns],
@@ -92,7 +94,8 @@ pub fn judge(
     bones: u32,
     starts: &mut [usize; 64],
     numbers: &mut [usize; 64],
-    keys: &mut [u64; 64],
+    marks: &mut [u16; 1024],
+    mark: u16,
 ) -> Judged
     ensures result { λ r. ⌜ r
         ≡ judgedAt kind (linesFrom (now (lines .entry))) (now (body .entry)) (skimmed (now (body .entry)) count) bones ⌝ }
@@ -101,8 +104,8 @@ pub fn judge(
     ensures numbers { λ r. ⌜ now (numbers .exit)
         ≡ sets (now (numbers .entry)) 0 (map (lineNumber (linesFrom (now (lines .entry))) (now (body .entry)))
         (rightlyTyped (linesFrom (now (lines .entry))) (now (body .entry)) [] (skimmed (now (body .entry)) count))) ⌝ }
-    ensures keys { λ r. ⌜ now (keys .exit)
-        ≡ sets (now (keys .entry)) 0 (map (keyAt (now (body .entry)))
+    ensures marks { λ r. ⌜ now (marks .exit)
+        ≡ marked mark (now (marks .entry)) (map (slotAt (now (body .entry)))
         (rightlyTyped (linesFrom (now (lines .entry))) (now (body .entry)) [] (skimmed (now (body .entry)) count))) ⌝ }
     ensures bounds { λ r. ⌜ Bounded r (length (now (body .entry))) ⌝ }
 {
@@ -111,5 +114,5 @@ pub fn judge(
     } else {
         count as usize
     };
-    judge_first(kind, lines, n, body, bones, starts, numbers, keys)
+    judge_first(kind, lines, n, body, bones, starts, numbers, marks, mark)
 }

@@ -1,27 +1,15 @@
 // 13: a name twice on a node, a listed name with another type or length.
 ghost use mathlib.Core.Path.{_≡_};
-ghost use Prim.Native.Nat.{_+_, _≤_};
-ghost use mathlib.Core.List.{[], map};
+ghost use mathlib.Core.Bool.{false};
+ghost use Prim.Native.Nat.{_+_, _≤_, _<_};
+ghost use mathlib.Core.List.{[]};
 ghost use lib.ListN.{length};
 ghost use Rattle.base.specs.Limits.{mostProperties};
 ghost use Rattle.body.specs.Body.{skim};
 ghost use Rattle.rules.specs.Packing.{linesFrom};
 ghost use Rattle.judge.specs.Properties.{has};
-ghost use Rattle.judge.specs.Typed.{typed, keyOf, keyAt};
-ghost use Rattle.judge.specs.Private.{hasKey, Noted};
-
-// Whether a number is among some. It has no early way out, so that it is compiled to a few wide comparisons.
-fn has_key(keys: &[u64], key: u64) -> bool
-    ensures { λ r. ⌜ r ≡ hasKey (now (keys .entry)) key ⌝ }
-{
-    let mut any = false;
-    let mut i: usize = 0;
-    while i < keys.len() {
-        any = any | (keys[i] == key);
-        i += 1;
-    }
-    any
-}
+ghost use Rattle.judge.specs.Typed.{typed, keyOf, slotOf};
+ghost use Rattle.judge.specs.Private.{Noted};
 
 // A number that equal names share: their letters in numbers of eight, each added to twice the sum of those before. Few other
 // names share it.
@@ -39,31 +27,44 @@ fn key_of(name: &[u8]) -> u64
     key
 }
 
-// Whether one of some properties has a name. Few names share a key.
-fn is_before(body: &[u8], starts: &[usize], keys: &[u64], name: &[u8], key: u64) -> bool
-    requires { ⌜ (key ≡ keyOf (now name)) × (now keys ≡ map (keyAt (now body)) (now starts)) ⌝ }
+// One of 1,024 slots, the same for equal names.
+fn slot_of(name: &[u8]) -> usize
+    ensures result { λ r. ⌜ r ≡ slotOf (now (name .entry)) ⌝ }
+    ensures bound { λ r. ⌜ r < 1024 ⌝ }
+{
+    let key = key_of(name);
+    let low = key % 4294967296 * 0x9E37_79B1;
+    let high = key / 4294967296 * 0x85EB_CA77;
+    let mixed = std::num::wrapping_add_u64(low, high);
+    (mixed / 134217728 % 1024) as usize
+}
+
+// Whether one of some properties has a name. Where none was seen in its slot, none has.
+fn is_before(body: &[u8], starts: &[usize], name: &[u8], seen: bool) -> bool
+    requires { ⌜ (seen ≡ false → has (now body) (now starts) (now name) ≡ false) ⌝ }
     ensures { λ r. ⌜ r ≡ has (now (body .entry)) (now (starts .entry)) (now (name .entry)) ⌝ }
 {
-    if !has_key(keys, key) {
+    if !seen {
         return false;
     }
     crate::has(body, starts, name)
 }
 
 // The first of `count` properties whose name came before, or which has another type or length than its line says. Noted are,
-// of those before it, where each starts, where its line stands among the lines of the kind, and its key.
+// of those before it, where each starts and where its line stands among the lines of the kind; and its slot is marked.
 pub(crate) fn typed(
     lines: &[rules::Columns],
     body: &[u8],
     count: usize,
     starts: &mut [usize],
     numbers: &mut [usize],
-    keys: &mut [u64],
+    marks: &mut [u16],
+    mark: u16,
 ) -> base::Refusal
-    requires { ⌜ (count ≤ mostProperties) × (mostProperties ≤ length (now starts)) × (mostProperties ≤ length (now numbers)) × (mostProperties ≤ length (now keys)) ⌝ }
+    requires { ⌜ (count ≤ mostProperties) × (mostProperties ≤ length (now starts)) × (mostProperties ≤ length (now numbers)) × (1024 ≤ length (now marks)) ⌝ }
     ensures result { λ r. ⌜ r ≡ typed (linesFrom (now (lines .entry))) (now (body .entry)) [] (skim (now (body .entry)) count 0) ⌝ }
-    ensures noted { λ r. ⌜ Noted (linesFrom (now (lines .entry))) (now (body .entry)) (skim (now (body .entry)) count 0)
-        (now (starts .entry)) (now (numbers .entry)) (now (keys .entry)) (now (starts .exit)) (now (numbers .exit)) (now (keys .exit)) ⌝ }
+    ensures noted { λ r. ⌜ Noted (linesFrom (now (lines .entry))) (now (body .entry)) mark (skim (now (body .entry)) count 0)
+        (now (starts .entry)) (now (numbers .entry)) (now (marks .entry)) (now (starts .exit)) (now (numbers .exit)) (now (marks .exit)) ⌝ }
     ensures place { λ r. ⌜ r .place ≤ 24 + length (now (body .entry)) ⌝ }
 {
     let mut at: usize = 0;
@@ -71,9 +72,9 @@ pub(crate) fn typed(
     while i < count {
         let h = props::header_at(body, at);
         let name = props::name_at(body, at);
-        let key = key_of(name);
+        let slot = slot_of(name);
         let k = rules::line_named(lines, name);
-        let repeats = is_before(body, &starts[..i], &keys[..i], name, key);
+        let repeats = is_before(body, &starts[..i], name, marks[slot] == mark);
         let misfits = rules::misfits(rules::line_in(lines, k), h.code, h.length);
         if repeats | misfits {
             let place = 24 + at;
@@ -81,7 +82,7 @@ pub(crate) fn typed(
         }
         starts[i] = at;
         numbers[i] = k;
-        keys[i] = key;
+        marks[slot] = mark;
         at = body::next_at(body, at);
         i += 1;
     }

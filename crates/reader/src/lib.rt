@@ -54,7 +54,8 @@ fn judge_row(
     lines: &[rules::Columns],
     starts: &mut [usize; 64],
     numbers: &mut [usize; 64],
-    keys: &mut [u64; 64],
+    marks: &mut [u16; 1024],
+    mark: u16,
 ) -> judge::Judged
     requires { ⌜ (now lines ≡ map columnsOf allLines) × Passed (now file) row ⌝ }
     ensures { λ r. ⌜ (r ≡ judgedWith (now (file .entry)) row bones) × Bounded r (length (bodyOf (now (file .entry)) row)) ⌝ }
@@ -78,7 +79,8 @@ fn judge_row(
         bones,
         starts,
         numbers,
-        keys,
+        marks,
+        mark,
     )
 }
 
@@ -100,7 +102,7 @@ fn rules_of(file: &[u8], table: &[u32], nodes: usize, bones: &[u32]) -> Ruled
     let lines = rules::table();
     let mut starts = [0usize; 64];
     let mut numbers = [0usize; 64];
-    let mut keys = [0u64; 64];
+    let mut marks = [0u16; 1024];
     let mut faces: u64 = 0;
     let mut degenerate: u64 = 0;
     let mut links: u32 = 0;
@@ -114,7 +116,8 @@ fn rules_of(file: &[u8], table: &[u32], nodes: usize, bones: &[u32]) -> Ruled
             &lines,
             &mut starts,
             &mut numbers,
-            &mut keys,
+            &mut marks,
+            (i + 1) as u16,
         );
         let start = row.start as usize;
         if j.number != 0 {

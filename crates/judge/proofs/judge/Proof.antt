@@ -36,7 +36,7 @@ returns c =
     let x = c .judge-first .ensures in
     let noted = noted-for (taken j) (x .1 .0) in (
       x .0 ∙ ap (λ l. judgedAt (a .kind) (linesFrom (a .lines .now)) (a .body .now) l (a .bones)) (taken j),
-      (noted .starts, (noted .numbers, (noted .keys, x .1 .1))),
+      (noted .starts, (noted .numbers, (noted .marks, x .1 .1))),
     )
 
 pub judge-spec : {M : Type 1} → statement M

@@ -13,13 +13,13 @@ use Rattle.reader.proofs.rules_of.Statement.{statement}
 use Rattle.reader.proofs.rules_of.Tie as tie
 
 abbrev Inv-loop : tie.InvT-loop
-Inv-loop file table nodes bones lines starts₀ numbers₀ keys₀ faces₀ degenerate₀ links₀ i₀ starts numbers keys faces degenerate links i =
+Inv-loop file table nodes bones lines starts₀ numbers₀ marks₀ faces₀ degenerate₀ links₀ i₀ starts numbers marks faces degenerate links i =
     (i ≤ nodes) × (faces ≤ i * 274877906944) × (degenerate ≤ i * 274877906944) × (links ≤ i * 64)
     × (onTop faces degenerate links (ruled file (rowsAt table 0 nodes) (rest table nodes i))
     ≡ ruled file (rowsAt table 0 nodes) (rowsAt table 0 nodes))
 
 abbrev μ-loop : tie.MeasureT-loop
-μ-loop file table nodes bones lines starts₀ numbers₀ keys₀ faces₀ degenerate₀ links₀ i₀ starts numbers keys faces degenerate links i = nodes - i
+μ-loop file table nodes bones lines starts₀ numbers₀ marks₀ faces₀ degenerate₀ links₀ i₀ starts numbers marks faces degenerate links i = nodes - i
 
 table-requires : tie.Need-table-requires Inv-loop μ-loop
 table-requires c κs = search needs
@@ -35,6 +35,18 @@ beside-requires c κs = search needs
 
 slice-aggregate-judge-row : tie.Need-slice-aggregate-judge-row Inv-loop μ-loop
 slice-aggregate-judge-row c = search needs
+
+-- a row's mark is its number and one
+few-marks : (c : tie.After-marks Inv-loop μ-loop) → c .before .before .before .before .before .before .before .loop .i < 1024
+few-marks c =
+    let t = c .before .before .before .before .before .before in
+    omega (arith, t .loop-test .taken, t .before .before .before .before .before .before .pre .0)
+
+add-judge-row : tie.Need-add-judge-row Inv-loop μ-loop
+add-judge-row c = omega (arith, few-marks c)
+
+cast-judge-row : tie.Need-cast-judge-row Inv-loop μ-loop
+cast-judge-row c = omega (arith, few-marks c)
 
 judge-row-requires : tie.Need-judge-row-requires Inv-loop μ-loop
 judge-row-requires c κs =
@@ -134,6 +146,8 @@ rules-of-spec =
     row-at-requires
     beside-requires
     slice-aggregate-judge-row
+    add-judge-row
+    cast-judge-row
     judge-row-requires
     cast-start
     add-place

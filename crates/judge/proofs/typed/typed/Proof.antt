@@ -9,18 +9,18 @@ use mir.Syntax.{w64}
 use borrow.Author.Needs.{needs}
 use Rattle.rules.specs.Packing.{linesFrom}
 use Rattle.judge.specs.Properties.{has}
-use Rattle.judge.proofs.Typing.{Noting, noting, starts-long, numbers-long, keys-long, before-are, keys-are, all-noted, refused, passed}
+use Rattle.judge.proofs.Typing.{Noting, noting, starts-long, numbers-long, marks-long, before-are, unseen-before, all-noted, refused, passed}
 use Rattle.judge.proofs.typed.typed.Statement.{statement}
 use Rattle.judge.proofs.typed.typed.Tie as tie
 
 abbrev Inv-loop : tie.InvT-loop
-Inv-loop lines body count starts₀ numbers₀ keys₀ at₀ i₀ starts numbers keys at i = Noting (linesFrom lines) body count starts₀ numbers₀ keys₀ starts numbers keys at i
+Inv-loop lines body count starts₀ numbers₀ marks₀ mark at₀ i₀ starts numbers marks at i = Noting (linesFrom lines) body mark count starts₀ numbers₀ marks₀ starts numbers marks at i
 
 abbrev μ-loop : tie.MeasureT-loop
-μ-loop lines body count starts₀ numbers₀ keys₀ at₀ i₀ starts numbers keys at i = count - i
+μ-loop lines body count starts₀ numbers₀ marks₀ mark at₀ i₀ starts numbers marks at i = count - i
 
 loop-holds : tie.Need-loop-holds Inv-loop μ-loop
-loop-holds c = noting _ _ _ _ _ _
+loop-holds c = noting _ _ _ _ _ _ _
 
 header-at-requires : tie.Need-header-at-requires Inv-loop μ-loop
 header-at-requires c κs = search needs
@@ -28,8 +28,8 @@ header-at-requires c κs = search needs
 name-at-requires : tie.Need-name-at-requires Inv-loop μ-loop
 name-at-requires c κs = search needs
 
-key-of-requires : tie.Need-key-of-requires Inv-loop μ-loop
-key-of-requires c κs = search needs
+slot-of-requires : tie.Need-slot-of-requires Inv-loop μ-loop
+slot-of-requires c κs = search needs
 
 line-named-requires : tie.Need-line-named-requires Inv-loop μ-loop
 line-named-requires c κs = search needs
@@ -39,11 +39,11 @@ module _ (l : tie.At-loop Inv-loop μ-loop) where
   abbrev start : tie.Start Inv-loop μ-loop
   start = l .before .before .before .before .before
 
-  room : l .loop .i ≤ start .args .count → (l .loop .i ≤ length (l .loop .starts)) × (l .loop .i ≤ length (l .loop .numbers)) × (l .loop .i ≤ length (l .loop .keys))
+  room : l .loop .i ≤ start .args .count → (l .loop .i ≤ length (l .loop .starts)) × (l .loop .i ≤ length (l .loop .numbers)) × (length (l .loop .marks) ≡ length (start .args .marks .now))
   room h =
       let p = start .pre in
       let o = l .loop .inv in
-      (omega (arith, h, p, starts-long o), omega (arith, h, p, numbers-long o), omega (arith, h, p, keys-long o))
+      (omega (arith, h, p, starts-long o), omega (arith, h, p, numbers-long o), marks-long o)
 
   -- a place of a buffer is a place in memory
   bounded : l .loop .i < start .args .count → Fits w64 (l .loop .i * 8)
@@ -57,21 +57,25 @@ slice-aggregate-is-before c =
     let l = c .before .before .before .before .before .before in
     sym (length-take-le _ _ (room l (l .loop .inv .within) .0))
 
-slice-reshare-prefix-is-before-2 : tie.Need-slice-reshare-prefix-is-before-2 Inv-loop μ-loop
-slice-reshare-prefix-is-before-2 c = let l = c .before .before .before .before .before .before in room l (l .loop .inv .within) .2
+-- a slot lies in the marks
+slotted : (c : tie.After-slot-of Inv-loop μ-loop) → c .slot-of .result < length (c .before .before .before .before .loop .marks)
+slotted c =
+    let l = c .before .before .before .before in
+    omega (arith, c .slot-of .ensures .1, marks-long (l .loop .inv), start l .pre .3)
 
-slice-aggregate-is-before-2 : tie.Need-slice-aggregate-is-before-2 Inv-loop μ-loop
-slice-aggregate-is-before-2 c =
-    let l = c .before .before .before .before .before .before .before in
-    sym (length-take-le _ _ (room l (l .loop .inv .within) .2))
+mul-is-before : tie.Need-mul-is-before Inv-loop μ-loop
+mul-is-before c = omega (arith, c .before .before .slot-of .ensures .1)
+
+slice-read-is-before : tie.Need-slice-read-is-before Inv-loop μ-loop
+slice-read-is-before c = slotted (c .before .before .before)
 
 is-before-requires : tie.Need-is-before-requires Inv-loop μ-loop
-is-before-requires c κs =
-    let ko = c .before .before .before in
-    let l = ko .before .before .before .before in
+is-before-requires c κs e =
+    let so = c .before .before .before in
+    let l = so .before .before .before .before in
     let p = start l .pre in
     let o = l .loop .inv in
-    (ko .key-of .ensures, keys-are o (omega (arith, o .within, p)) (omega (arith, o .within, p)))
+    unseen-before o (omega (arith, o .within, p)) (so .before .name-at .result .now) (so .slot-of .result) (so .slot-of .ensures .0) (omega (arith, so .slot-of .ensures .1, p .3)) e
 
 line-in-requires : tie.Need-line-in-requires Inv-loop μ-loop
 line-in-requires c κs = search needs
@@ -91,7 +95,7 @@ same-length-2 : tie.Need-same-length-2 Inv-loop μ-loop
 same-length-2 c = numbers-long (c .before .before .before .before .before .before .before .before .before .before .before .loop .inv)
 
 same-length-3 : tie.Need-same-length-3 Inv-loop μ-loop
-same-length-3 c = keys-long (c .before .before .before .before .before .before .before .before .before .before .before .loop .inv)
+same-length-3 c = marks-long (c .before .before .before .before .before .before .before .before .before .before .before .loop .inv)
 
 returns : tie.Need-returns Inv-loop μ-loop
 returns c =
@@ -121,11 +125,11 @@ mul-numbers c = bounded (c .before .before .before .before .before .before .befo
 slice-write-numbers : tie.Need-slice-write-numbers Inv-loop μ-loop
 slice-write-numbers c = let l = c .before .before .before .before .before .before .before .before .before .before .before in omega (arith, numbers-long (l .loop .inv), start l .pre, c .before .before .before .before .before .before .before .before .before .before .loop-test .taken)
 
-mul-keys : tie.Need-mul-keys Inv-loop μ-loop
-mul-keys c = bounded (c .before .before .before .before .before .before .before .before .before .before .before) (c .before .before .before .before .before .before .before .before .before .before .loop-test .taken)
+mul-marks : tie.Need-mul-marks Inv-loop μ-loop
+mul-marks c = omega (arith, c .before .before .before .before .before .before .before .slot-of .ensures .1)
 
-slice-write-keys : tie.Need-slice-write-keys Inv-loop μ-loop
-slice-write-keys c = let l = c .before .before .before .before .before .before .before .before .before .before .before in omega (arith, keys-long (l .loop .inv), start l .pre, c .before .before .before .before .before .before .before .before .before .before .loop-test .taken)
+slice-write-marks : tie.Need-slice-write-marks Inv-loop μ-loop
+slice-write-marks c = slotted (c .before .before .before .before .before .before .before)
 
 next-at-requires : tie.Need-next-at-requires Inv-loop μ-loop
 next-at-requires c κs = search needs
@@ -149,7 +153,7 @@ loop-again c =
     let before : ib .is-before .result ≡ has (start l .args .body .now) (take (l .loop .i) _) (na .name-at .result .now) =
     ib .is-before .ensures ∙ ap (λ d. has (start l .args .body .now) d (na .name-at .result .now)) (before-are o (omega (arith, o .within, start l .pre))) in
     passed o (omega (arith, ha .before .loop-test .taken)) (na .name-at .ensures) (ha .header-at .ensures) (ln .line-named .ensures) (li .line-in .ensures .1)
-    before (m .misfits .ensures) (c .before .if1 .left) (ln .before .key-of .ensures) (c .next-at .ensures .0) (c .next-at .ensures .1)
+    before (m .misfits .ensures) (c .before .if1 .left) (ln .before .slot-of .ensures .0) (c .next-at .ensures .0) (c .next-at .ensures .1)
 
 same-length-4 : tie.Need-same-length-4 Inv-loop μ-loop
 same-length-4 c = starts-long (c .before .loop .inv)
@@ -158,7 +162,7 @@ same-length-5 : tie.Need-same-length-5 Inv-loop μ-loop
 same-length-5 c = numbers-long (c .before .loop .inv)
 
 same-length-6 : tie.Need-same-length-6 Inv-loop μ-loop
-same-length-6 c = keys-long (c .before .loop .inv)
+same-length-6 c = marks-long (c .before .loop .inv)
 
 returns-2 : tie.Need-returns-2 Inv-loop μ-loop
 returns-2 c =
@@ -174,12 +178,12 @@ typed-spec =
     loop-holds
     header-at-requires
     name-at-requires
-    key-of-requires
+    slot-of-requires
     line-named-requires
     slice-reshare-prefix-is-before
     slice-aggregate-is-before
-    slice-reshare-prefix-is-before-2
-    slice-aggregate-is-before-2
+    mul-is-before
+    slice-read-is-before
     is-before-requires
     line-in-requires
     misfits-requires
@@ -192,8 +196,8 @@ typed-spec =
     slice-write-starts
     mul-numbers
     slice-write-numbers
-    mul-keys
-    slice-write-keys
+    mul-marks
+    slice-write-marks
     next-at-requires
     add-i
     loop-less

@@ -1,0 +1,33 @@
+-- `judge::typed::slot_of`: sums and products of the name's key.
+use Prim.Native.Nat.{_+_, _*_, _/_, _%_, _^_}
+use native.Mathlib.Nat.{mod-lt}
+use native.Mathlib.Omega.{arith}
+use mathlib.Core.Path.{_≡_, ap, _∙_}
+use borrow.Author.Needs.{needs}
+use Rattle.judge.specs.Typed.{slotOf}
+use Rattle.judge.proofs.typed.slot_of.Statement.{statement}
+use Rattle.judge.proofs.typed.slot_of.Tie as tie
+
+key-of-requires : tie.Need-key-of-requires
+key-of-requires c κs = search needs
+
+mul-low : tie.Need-mul-low
+mul-low c = search needs
+
+mul-high : tie.Need-mul-high
+mul-high c = search needs
+
+wrapping-add-u64-requires : tie.Need-wrapping-add-u64-requires
+wrapping-add-u64-requires c κs = search needs
+
+returns : tie.Need-returns
+unfolding slotOf
+returns c =
+    let k = c .before .key-of .ensures in (
+      ap (λ n. n / 134217728 % 1024) (c .wrapping-add-u64 .ensures) ∙ ap (λ k. (k % 4294967296 * 2654435761 + k / 4294967296 * 2246822519) % 2 ^ 64 / 134217728 % 1024) k,
+      omega arith,
+    )
+
+pub slot-of-spec : {M : Type 1} → statement M
+slot-of-spec =
+    tie.close (tie.spec key-of-requires mul-low mul-high wrapping-add-u64-requires returns)
