@@ -56,7 +56,7 @@ faces-part w (suc n) k bs h =
     )
 
 -- ---- the tally of faces and one more
-outside-append : (v : ℕ) (xs ys : List Face) → anyOutside v (xs ++ ys) ≡ anyOutside v xs || anyOutside v ys
+pub outside-append : (v : ℕ) (xs ys : List Face) → anyOutside v (xs ++ ys) ≡ anyOutside v xs || anyOutside v ys
 unfolding anyOutside
 outside-append v [] ys = refl
 outside-append v (f ∷ xs) ys = rw (outside-append v xs ys) (sym (or-assoc (isOutside v f) (anyOutside v xs) (anyOutside v ys)))
@@ -70,7 +70,7 @@ unfolding degenerate
 degenerate-append [] ys = omega arith
 degenerate-append (f ∷ xs) ys = rw (degenerate-append xs ys) (counted-more (isDegenerate f) (degenerate xs) (degenerate ys))
 
-tally-next : (v : ℕ) (fs : List Face) (f : Face) → withFace v (tallyOf v fs) f ≡ tallyOf v (fs ++ (f ∷ []))
+pub tally-next : (v : ℕ) (fs : List Face) (f : Face) → withFace v (tallyOf v fs) f ≡ tallyOf v (fs ++ (f ∷ []))
 unfolding anyOutside degenerate
 tally-next v fs f = rw (outside-append v fs (f ∷ []), degenerate-append fs (f ∷ []), or-false (isOutside v f))
 
@@ -80,7 +80,7 @@ module _ (w v : ℕ) (bs : List ℕ) where
   unfolding facesIn anyOutside degenerate
   tally-none = refl
 
-  one-more : (i : ℕ) → facesIn w (i + 1) bs ≡ facesIn w i bs ++ (faceAt w bs (i * (3 * w)) ∷ [])
+  pub one-more : (i : ℕ) → facesIn w (i + 1) bs ≡ facesIn w i bs ++ (faceAt w bs (i * (3 * w)) ∷ [])
   unfolding facesIn
   one-more i = faces-split w i 1 bs ∙ ap (λ fs. facesIn w i bs ++ fs) (first w 1 bs (i * (3 * w)) (omega arith))
 

@@ -1,9 +1,11 @@
 // The faces of a mesh: whether each of their values is a vertex, how many faces there are, and how many are degenerate.
 ghost use mathlib.Core.Path.{_≡_};
 ghost use Prim.Native.Nat.{_+_, _*_, _≤_, _<_};
-ghost use mathlib.Core.Bool.{cond};
+ghost use mathlib.Core.Bool.{cond, _||_};
 ghost use mathlib.Core.List.{[]};
 ghost use lib.ListN.{length};
+ghost use lib.Dec.{leb, ltb};
+ghost use Rattle.le.specs.Le.{numberAt};
 ghost use Rattle.faces.specs.Private.{faceAt, isOutside, withFace, tallyOf, scanFrom};
 ghost use Rattle.faces.specs.Faces.{widthOf, facesIn, isDegenerate, countedBy, scanOf, scanNumbers};
 ghost use Rattle.faces.specs.declared.Values.the-variants.{Below, NotBelow};
@@ -133,7 +135,7 @@ fn is_outside(f: Face, vertices: u32) -> bool
     (vertices <= f.a) | (vertices <= f.b) | (vertices <= f.c)
 }
 
-fn one(b: bool) -> u32
+fn one(b: bool) -> u8
     ensures { λ r. ⌜ (r ≡ cond b 1 0) × (r ≤ 1) ⌝ }
 {
     if b { 1 } else { 0 }
@@ -145,7 +147,7 @@ fn with_face(t: Tally, f: Face, vertices: u32) -> Tally
     ensures { λ r. ⌜ r ≡ withFace vertices t f ⌝ }
 {
     let outside = t.outside | is_outside(f, vertices);
-    let degenerate = t.degenerate + one(is_degenerate(f));
+    let degenerate = t.degenerate + one(is_degenerate(f)) as u32;
     Tally {
         outside,
         degenerate,
@@ -154,7 +156,7 @@ fn with_face(t: Tally, f: Face, vertices: u32) -> Tally
 
 // The faces of each width have a loop of their own, which reads parts of a constant length by a constant width and has no
 // branch, so that it is compiled to vector instructions.
-fn tally_b(bytes: &[u8], n: usize, vertices: u32) -> Tally
+fn each_b(bytes: &[u8], n: usize, vertices: u32) -> Tally
     requires { ⌜ (n ≤ 1024) × (n * 3 ≤ length (now bytes)) ⌝ }
     ensures { λ r. ⌜ r ≡ tallyOf vertices (facesIn 1 n (now (bytes .entry))) ⌝ }
 {
@@ -174,7 +176,7 @@ fn tally_b(bytes: &[u8], n: usize, vertices: u32) -> Tally
     t
 }
 
-fn tally_h(bytes: &[u8], n: usize, vertices: u32) -> Tally
+fn each_h(bytes: &[u8], n: usize, vertices: u32) -> Tally
     requires { ⌜ (n ≤ 1024) × (n * 6 ≤ length (now bytes)) ⌝ }
     ensures { λ r. ⌜ r ≡ tallyOf vertices (facesIn 2 n (now (bytes .entry))) ⌝ }
 {
@@ -212,6 +214,161 @@ fn tally_i(bytes: &[u8], n: usize, vertices: u32) -> Tally
         i += 1;
     }
     t
+}
+
+// A byte that is there.
+fn byte_at(bytes: &[u8], at: usize) -> u8
+    requires { ⌜ at < length (now bytes) ⌝ }
+    ensures { λ r. ⌜ r ≡ numberAt 1 (now (bytes .entry)) at ⌝ }
+{
+    bytes[at]
+}
+
+fn greater_b(x: u8, y: u8) -> u8
+    ensures { λ r. ⌜ (r ≡ cond (ltb x y) y x) × (r ≤ 255) ⌝ }
+{
+    if x < y { y } else { x }
+}
+
+fn greater_h(x: u16, y: u16) -> u16
+    ensures { λ r. ⌜ (r ≡ cond (ltb x y) y x) × (r ≤ 65535) ⌝ }
+{
+    if x < y { y } else { x }
+}
+
+fn face_of_b(a: u8, b: u8, c: u8) -> Face
+    ensures { λ r. ⌜ r ≡ record { a = a; b = b; c = c } ⌝ }
+{
+    Face {
+        a: a as u32,
+        b: b as u32,
+        c: c as u32,
+    }
+}
+
+fn face_of_h(a: u16, b: u16, c: u16) -> Face
+    ensures { λ r. ⌜ r ≡ record { a = a; b = b; c = c } ⌝ }
+{
+    Face {
+        a: a as u32,
+        b: b as u32,
+        c: c as u32,
+    }
+}
+
+// The tally of faces, by the greatest of their values.
+fn by_greatest(greatest: u32, degenerate: u32, vertices: u32) -> Tally
+    ensures { λ r. ⌜ r ≡ record { outside = leb vertices greatest; degenerate = degenerate } ⌝ }
+{
+    let outside = vertices <= greatest;
+    Tally {
+        outside,
+        degenerate,
+    }
+}
+
+// The tally of faces and of those after them.
+fn both(t: Tally, s: Tally) -> Tally
+    requires { ⌜ (t .degenerate ≤ 1024) × (s .degenerate ≤ 1024) ⌝ }
+    ensures { λ r. ⌜ r ≡ record { outside = t .outside || s .outside; degenerate = t .degenerate + s .degenerate } ⌝ }
+{
+    let outside = t.outside | s.outside;
+    let degenerate = t.degenerate + s.degenerate;
+    Tally {
+        outside,
+        degenerate,
+    }
+}
+
+// The tally of 16 faces, with the two values after them. Each of the 48 values is read as if it were the first of a face, and
+// those that are count: values one after the other are loaded as a whole vector, and every third one is not.
+fn group_b(bytes: &[u8], vertices: u32) -> Tally
+    requires { ⌜ 50 ≤ length (now bytes) ⌝ }
+    ensures { λ r. ⌜ r ≡ tallyOf vertices (facesIn 1 16 (now (bytes .entry))) ⌝ }
+{
+    let mut greatest: u8 = 0;
+    let mut degenerate: u8 = 0;
+    let mut i: u8 = 0;
+    while i < 48 {
+        let at = i as usize;
+        let second = at + 1;
+        let third = at + 2;
+        let value = byte_at(bytes, at);
+        let f = face_of_b(value, byte_at(bytes, second), byte_at(bytes, third));
+        degenerate += one(is_degenerate(f) & (i % 3 == 0));
+        greatest = greater_b(greatest, value);
+        i += 1;
+    }
+    by_greatest(greatest as u32, degenerate as u32, vertices)
+}
+
+// The tally of `n` faces, 16 at a time, and the last ones, after which there are not two values more, each by itself.
+fn tally_b(bytes: &[u8], n: usize, vertices: u32) -> Tally
+    requires { ⌜ (n ≤ 1024) × (n * 3 ≤ length (now bytes)) ⌝ }
+    ensures { λ r. ⌜ r ≡ tallyOf vertices (facesIn 1 n (now (bytes .entry))) ⌝ }
+{
+    let mut t = Tally {
+        outside: false,
+        degenerate: 0,
+    };
+    let mut i: usize = 0;
+    while i + 16 < n {
+        let at = 3 * i;
+        let end = at + 50;
+        let part = &bytes[at..end];
+        let g = group_b(part, vertices);
+        t = both(t, g);
+        i += 16;
+    }
+    let start = 3 * i;
+    let stop = 3 * n;
+    let last = &bytes[start..stop];
+    let r = each_b(last, n - i, vertices);
+    both(t, r)
+}
+
+fn group_h(bytes: &[u8], vertices: u32) -> Tally
+    requires { ⌜ 100 ≤ length (now bytes) ⌝ }
+    ensures { λ r. ⌜ r ≡ tallyOf vertices (facesIn 2 16 (now (bytes .entry))) ⌝ }
+{
+    let mut greatest: u16 = 0;
+    let mut degenerate: u16 = 0;
+    let mut i: u16 = 0;
+    while i < 48 {
+        let at = 2 * i as usize;
+        let second = at + 2;
+        let third = at + 4;
+        let value = le::u16_at(bytes, at);
+        let f = face_of_h(value, le::u16_at(bytes, second), le::u16_at(bytes, third));
+        degenerate += one(is_degenerate(f) & (i % 3 == 0)) as u16;
+        greatest = greater_h(greatest, value);
+        i += 1;
+    }
+    by_greatest(greatest as u32, degenerate as u32, vertices)
+}
+
+fn tally_h(bytes: &[u8], n: usize, vertices: u32) -> Tally
+    requires { ⌜ (n ≤ 1024) × (n * 6 ≤ length (now bytes)) ⌝ }
+    ensures { λ r. ⌜ r ≡ tallyOf vertices (facesIn 2 n (now (bytes .entry))) ⌝ }
+{
+    let mut t = Tally {
+        outside: false,
+        degenerate: 0,
+    };
+    let mut i: usize = 0;
+    while i + 16 < n {
+        let at = 6 * i;
+        let end = at + 100;
+        let part = &bytes[at..end];
+        let g = group_h(part, vertices);
+        t = both(t, g);
+        i += 16;
+    }
+    let start = 6 * i;
+    let stop = 6 * n;
+    let last = &bytes[start..stop];
+    let r = each_h(last, n - i, vertices);
+    both(t, r)
 }
 
 // The tally of `n` faces, all there.

@@ -1,11 +1,12 @@
--- `faces::tally_b`: the faces passed are tallied.
+-- `faces::tally_b`: the faces passed are tallied, and the last ones.
 use Prim.Native.Nat.{_+_, _-_, _*_, _≤_}
 use native.Mathlib.Omega.{arith}
 use mathlib.Core.Path.{_≡_}
-use borrow.Author.Needs.{needs}
+use lib.ListN.{take, drop, length-take, length-drop}
 use Rattle.faces.specs.Private.{tallyOf}
 use Rattle.faces.specs.Faces.{facesIn}
-use Rattle.faces.proofs.Blocks.{tally-none, tally-step, tally-ended, tally-few}
+use Rattle.faces.proofs.Blocks.{tally-none, tally-ended, tally-few}
+use Rattle.faces.proofs.Groups.{tally-both}
 use Rattle.faces.proofs.tally_b.Statement.{statement}
 use Rattle.faces.proofs.tally_b.Tie as tie
 
@@ -17,6 +18,9 @@ abbrev μ-loop : tie.MeasureT-loop
 
 loop-holds : tie.Need-loop-holds Inv-loop μ-loop
 loop-holds c = let a = c .before .args in (omega arith, tally-none 1 (a .vertices) (a .bytes .now))
+
+add-loop : tie.Need-add-loop Inv-loop μ-loop
+add-loop c = omega arith
 
 mul-at : tie.Need-mul-at Inv-loop μ-loop
 mul-at c = omega arith
@@ -33,14 +37,17 @@ part-part-start c = omega arith
 part-part-end : tie.Need-part-part-end Inv-loop μ-loop
 part-part-end c = omega arith
 
-face-at-requires : tie.Need-face-at-requires Inv-loop μ-loop
-face-at-requires c κs = search needs
+group-b-requires : tie.Need-group-b-requires Inv-loop μ-loop
+group-b-requires c κs = simp (length-take, length-drop) (omega arith)
 
-with-face-requires : tie.Need-with-face-requires Inv-loop μ-loop
-with-face-requires c κs =
+both-requires : tie.Need-both-requires Inv-loop μ-loop
+both-requires c κs =
     let l = c .before .before .before in
     let a = l .before .before .args in
-    omega (arith, tally-few 1 (a .vertices) (l .loop .i) (a .bytes .now) (l .loop .inv .1))
+    let i = l .loop .i in (
+      omega (arith, tally-few 1 (a .vertices) i (a .bytes .now) (l .loop .inv .1)),
+      omega (arith, tally-few 1 (a .vertices) 16 (take (3 * i + 50 - 3 * i) (drop (3 * i) (a .bytes .now))) (c .group-b .ensures)),
+    )
 
 add-i : tie.Need-add-i Inv-loop μ-loop
 add-i c = omega arith
@@ -50,18 +57,52 @@ loop-less c = omega arith
 
 loop-again : tie.Need-loop-again Inv-loop μ-loop
 loop-again c =
-    let l = c .before .before .before .before in
+    let g = c .before in
+    let l = g .before .before .before in
     let a = l .before .before .args in
     let i = l .loop .i in (
       omega arith,
-      tally-step 1 (a .vertices) (a .bytes .now) i (3 * i) (3 * i + 3 - 3 * i) (omega arith) (omega arith) (l .loop .inv .1) (c .before .face-at .ensures) (c .with-face .ensures),
+      tally-both 1 (a .vertices) (a .bytes .now) i 16 (3 * i) (3 * i + 50 - 3 * i) (omega arith) (omega arith) (l .loop .inv .1) (g .group-b .ensures) (c .both .ensures),
+    )
+
+mul-start : tie.Need-mul-start Inv-loop μ-loop
+mul-start c = omega arith
+
+mul-stop : tie.Need-mul-stop Inv-loop μ-loop
+mul-stop c = omega arith
+
+sub-last : tie.Need-sub-last Inv-loop μ-loop
+sub-last c = omega arith
+
+part-last-start : tie.Need-part-last-start Inv-loop μ-loop
+part-last-start c = omega arith
+
+part-last-end : tie.Need-part-last-end Inv-loop μ-loop
+part-last-end c = omega arith
+
+sub-each-b : tie.Need-sub-each-b Inv-loop μ-loop
+sub-each-b c = omega arith
+
+each-b-requires : tie.Need-each-b-requires Inv-loop μ-loop
+each-b-requires c κs = (omega arith, simp (length-take, length-drop) (omega arith))
+
+both-requires-2 : tie.Need-both-requires-2 Inv-loop μ-loop
+both-requires-2 c κs =
+    let l = c .before .before .before in
+    let a = l .before .before .args in
+    let i = l .loop .i in (
+      omega (arith, tally-few 1 (a .vertices) i (a .bytes .now) (l .loop .inv .1)),
+      omega (arith, tally-few 1 (a .vertices) (a .n - i) (take (3 * a .n - 3 * i) (drop (3 * i) (a .bytes .now))) (c .each-b .ensures)),
     )
 
 returns : tie.Need-returns Inv-loop μ-loop
 returns c =
-    let l = c .before in
+    let e = c .before in
+    let l = e .before .before .before in
     let a = l .before .before .args in
-    tally-ended 1 (a .vertices) (a .bytes .now) (l .loop .i) (a .n) (omega arith) (omega arith) (l .loop .inv .1)
+    let i = l .loop .i in
+    tally-ended 1 (a .vertices) (a .bytes .now) (i + (a .n - i)) (a .n) (omega arith) (omega arith)
+    (tally-both 1 (a .vertices) (a .bytes .now) i (a .n - i) (3 * i) (3 * a .n - 3 * i) (omega arith) (omega arith) (l .loop .inv .1) (e .each-b .ensures) (c .both2 .ensures))
 
 pub tally-b-spec : {M : Type 1} → statement M
 tally-b-spec =
@@ -70,14 +111,23 @@ tally-b-spec =
     Inv-loop
     μ-loop
     loop-holds
+    add-loop
     mul-at
     add-end
     sub-part
     part-part-start
     part-part-end
-    face-at-requires
-    with-face-requires
+    group-b-requires
+    both-requires
     add-i
     loop-less
     loop-again
+    mul-start
+    mul-stop
+    sub-last
+    part-last-start
+    part-last-end
+    sub-each-b
+    each-b-requires
+    both-requires-2
     returns)

@@ -12,6 +12,9 @@ is-degenerate-requires c κs = search needs
 one-requires : tie.Need-one-requires
 one-requires c κs = search needs
 
+cast-degenerate : tie.Need-cast-degenerate
+cast-degenerate c = search needs
+
 add-degenerate : tie.Need-add-degenerate
 add-degenerate c = search needs
 
@@ -23,4 +26,4 @@ returns c =
 pub with-face-spec : {M : Type 1} → statement M
 with-face-spec =
     tie.close
-    (tie.spec is-outside-requires is-degenerate-requires one-requires add-degenerate returns)
+    (tie.spec is-outside-requires is-degenerate-requires one-requires cast-degenerate add-degenerate returns)
