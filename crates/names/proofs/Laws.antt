@@ -7,10 +7,11 @@ use mathlib.Core.Path.{_≡_, refl, ap, sym, _∙_}
 use mathlib.Core.Bool.{Bool, true, false, cond, not, _&&_, and-false, and-eq-true-iff}
 use mathlib.Core.List.{List, [], _∷_, _++_}
 use lib.Dec.{eqb, leb, leb·suc-suc}
-use lib.ListN.{length, take, drop, getD, drop-of-length-le, take-append-drop}
-use lib.Seq.{drop-cons, take-all}
+use lib.ListN.{length, take, drop, getD, drop-of-length-le, length-drop, take-append-drop}
+use lib.Seq.{drop-cons, drop-drop, take-all, take-take}
 use borrow.Author.Tests.{eq-eqb, ne-eqb, eqb-true, leb-true, le-leb, lt-leb}
-use Rattle.le.proofs.Laws.{rest-drop}
+use Rattle.le.specs.Le.{val, le, numberAt, AreBytes}
+use Rattle.le.proofs.Laws.{rest-drop, bytes-drop, le-val}
 use Rattle.names.specs.declared.Numeral.{Numeral}
 use Rattle.names.specs.declared.Numeral.the-variants.{Is, Not}
 use Rattle.names.specs.Names.{byteOk, bytesOk, same, isDigit, readDigits, number, numberAfter}
@@ -61,6 +62,33 @@ module _ (a b : List ℕ) (i : ℕ) (ha : i < length a) (hb : i < length b) wher
 pub same-ended : (a b : List ℕ) (i : ℕ) → length a ≤ i → length b ≤ i → same (drop i a) (drop i b) ≡ true
 unfolding same
 same-ended a b i ha hb = rw (drop-of-length-le a {i = i} ha, drop-of-length-le b {i = i} hb)
+
+-- ---- names compared by the numbers of some of their bytes
+same-append : (l s t : List ℕ) → same (l ++ s) (l ++ t) ≡ same s t
+unfolding same
+same-append [] s t = refl
+same-append (x ∷ l) s t = rw (eq-eqb x x refl) (same-append l s t)
+
+same-after : (w : ℕ) (a b : List ℕ) → take w a ≡ take w b → same a b ≡ same (drop w a) (drop w b)
+same-after w a b e =
+    ap (λ l. same l b) (sym (take-append-drop w a))
+    ∙ ap (λ l. same (take w a ++ drop w a) l) (sym (take-append-drop w b))
+    ∙ ap (λ l. same (take w a ++ drop w a) (l ++ drop w b)) (sym e)
+    ∙ same-append (take w a) (drop w a) (drop w b)
+
+-- bytes with the same number are the same
+front-same : (w : ℕ) (a b : List ℕ) → AreBytes a → AreBytes b → w ≤ length a → w ≤ length b → val (take w a) ≡ val (take w b) → take w a ≡ take w b
+front-same w a b ba bb ha hb e = sym (le-val w a ba ha) ∙ ap (le w) e ∙ le-val w b bb hb
+
+pub same-block : (w n : ℕ) (a b : List ℕ) (i : ℕ) → AreBytes a → AreBytes b → w ≤ n → i + w ≤ length a → i + w ≤ length b
+    → numberAt w (take n (drop i a)) 0 ≡ numberAt w (take n (drop i b)) 0 → same (drop i a) (drop i b) ≡ same (drop (i + w) a) (drop (i + w) b)
+unfolding numberAt
+same-block w n a b i ba bb h ha hb e =
+    let number : val (take w (drop i a)) ≡ val (take w (drop i b))
+    = ap val (sym (take-take w n (drop i a) h)) ∙ e ∙ ap val (take-take w n (drop i b) h) in
+    let front : take w (drop i a) ≡ take w (drop i b)
+    = front-same w (drop i a) (drop i b) (bytes-drop i a ba) (bytes-drop i b bb) (omega (arith, length-drop i a)) (omega (arith, length-drop i b)) number in
+    same-after w (drop i a) (drop i b) front ∙ rw (drop-drop w i a, drop-drop w i b)
 
 -- digits before the place i are worth less than 10 ^ i
 pub worth : (i v d : ℕ) → v < 10 ^ i → d ≤ 9 → v * 10 + d < 10 ^ (i + 1)

@@ -2,7 +2,7 @@
 ghost use mathlib.Core.Path.{_≡_};
 ghost use Prim.Native.Nat.{_≤_};
 ghost use Rattle.names.specs.Names.{sizeOk, byteOk, bytesOk, same, readDigits, number, numberAfter, numeralNumbers};
-ghost use lib.ListN.{length};
+ghost use lib.ListN.{length, drop};
 
 // Whether a name may have this size: 1 to 32 bytes.
 pub fn size_ok(size: u16) -> bool
@@ -32,6 +32,24 @@ pub fn bytes_ok(name: &[u8]) -> bool
     true
 }
 
+// A place up to which two names of one size are the same, found by eight bytes at a time.
+fn same_eights(a: &[u8], b: &[u8]) -> usize
+    requires { ⌜ length (now a) ≡ length (now b) ⌝ }
+    ensures { λ r. ⌜ (r ≤ length (now (a .entry))) × (same (drop r (now (a .entry))) (drop r (now (b .entry))) ≡ same (now (a .entry)) (now (b .entry))) ⌝ }
+{
+    let mut i: usize = 0;
+    while 8 <= a.len() - i {
+        let end = i + 8;
+        let first = le::u64_at(&a[i..end], 0);
+        let second = le::u64_at(&b[i..end], 0);
+        if first != second {
+            return i;
+        }
+        i = end;
+    }
+    i
+}
+
 // Whether two names are the same bytes.
 pub fn same(a: &[u8], b: &[u8]) -> bool
     ensures { λ r. ⌜ r ≡ same (now (a .entry)) (now (b .entry)) ⌝ }
@@ -39,7 +57,7 @@ pub fn same(a: &[u8], b: &[u8]) -> bool
     if a.len() != b.len() {
         return false;
     }
-    let mut i: usize = 0;
+    let mut i = same_eights(a, b);
     while i < a.len() {
         if a[i] != b[i] {
             return false;

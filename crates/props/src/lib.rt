@@ -311,7 +311,7 @@ pub fn data_at(body: &[u8], at: usize) -> usize
     if n < at {
         return n;
     }
-    let data = 8 + wide(le::u16_at(&body[at..], 2));
+    let data = 8 + wide(header_at(body, at).size);
     if n - at < data {
         return n;
     }
@@ -337,17 +337,14 @@ pub fn name_at(body: &[u8], at: usize) -> &[u8]
 pub fn code_at(body: &[u8], at: usize) -> u16
     ensures { λ r. ⌜ r ≡ codeAt (now (body .entry)) at ⌝ }
 {
-    le::u16_at(body, at)
+    header_at(body, at).code
 }
 
 // The array length of the property at a place.
 pub fn length_at(body: &[u8], at: usize) -> u32
     ensures { λ r. ⌜ r ≡ lengthAt (now (body .entry)) at ⌝ }
 {
-    if body.len() < at {
-        return 0;
-    }
-    le::u32_at(&body[at..], 4)
+    header_at(body, at).length
 }
 
 // The data of the property at a place, and all that follows it.

@@ -1,7 +1,7 @@
 -- `names::same`: another length, or what the bytes from i on say is what all say.
 use Prim.Native.Nat.{_≤_, _-_}
 use native.Mathlib.Omega.{arith}
-use mathlib.Core.Path.{_≡_, refl, sym, _∙_}
+use mathlib.Core.Path.{_≡_, sym, _∙_}
 use lib.ListN.{length, drop}
 use borrow.Author.Needs.{needs}
 use Rattle.names.specs.Names.{same}
@@ -16,10 +16,13 @@ abbrev μ-loop : tie.MeasureT-loop
 μ-loop a b i₀ i = length a - i
 
 returns : tie.Need-returns Inv-loop μ-loop
-returns c = sym (same-length (c .before .args .a .now) (c .before .args .b .now) (λ e. omega arith))
+returns c = sym (same-length (c .before .before .before .args .a .now) (c .before .before .before .args .b .now) (λ e. omega arith))
+
+same-eights-requires : tie.Need-same-eights-requires Inv-loop μ-loop
+same-eights-requires c κs = search needs
 
 loop-holds : tie.Need-loop-holds Inv-loop μ-loop
-loop-holds c = (search needs, refl)
+loop-holds c = c .same-eights .ensures
 
 shared-slice-read-if2 : tie.Need-shared-slice-read-if2 Inv-loop μ-loop
 shared-slice-read-if2 c = search needs
@@ -30,7 +33,7 @@ shared-slice-read-if2-2 c = search needs
 returns-2 : tie.Need-returns-2 Inv-loop μ-loop
 returns-2 c =
     let l = c .before .before .before .before in
-    let a = l .before .before .args in
+    let a = l .before .before .before .before .before .args in
     sym (same-refused (a .a .now) (a .b .now) (l .loop .i) (omega arith) (omega arith) (c .if2 .taken)) ∙ l .loop .inv .1
 
 add-i : tie.Need-add-i Inv-loop μ-loop
@@ -42,13 +45,13 @@ loop-less c = omega arith
 loop-again : tie.Need-loop-again Inv-loop μ-loop
 loop-again c =
     let l = c .before .before .before .before in
-    let a = l .before .before .args in
+    let a = l .before .before .before .before .before .args in
     (omega arith, sym (same-passed (a .a .now) (a .b .now) (l .loop .i) (omega arith) (omega arith) (c .if2 .left)) ∙ l .loop .inv .1)
 
 returns-3 : tie.Need-returns-3 Inv-loop μ-loop
 returns-3 c =
     let l = c .before in
-    let a = l .before .before .args in
+    let a = l .before .before .before .before .before .args in
     sym (same-ended (a .a .now) (a .b .now) (l .loop .i) (omega arith) (omega arith)) ∙ l .loop .inv .1
 
 pub same-spec : {M : Type 1} → statement M
@@ -58,6 +61,7 @@ same-spec =
     Inv-loop
     μ-loop
     returns
+    same-eights-requires
     loop-holds
     shared-slice-read-if2
     shared-slice-read-if2-2
