@@ -1,10 +1,10 @@
 -- Laws of names as lists: what one byte decides in each walk, and what `same` means.
-use Prim.Native.Nat.{ℕ, suc, _+_, _-_, _*_, _^_, _≤_, _<_}
+use Prim.Native.Nat.{ℕ, zero, suc, _+_, _-_, _*_, _^_, _≤_, _<_}
 use native.Mathlib.Nat.{mul-assoc, pow-suc, pow-succ', pow-le-pow-right}
 use native.Mathlib.Numerals.{add-one}
 use native.Mathlib.Omega.{arith}
 use mathlib.Core.Path.{_≡_, refl, ap, sym, _∙_}
-use mathlib.Core.Bool.{Bool, true, false, cond, not, _&&_, and-false, and-eq-true-iff}
+use mathlib.Core.Bool.{Bool, true, false, cond, not, _&&_, and-false, and-true, and-assoc, and-eq-true-iff}
 use mathlib.Core.List.{List, [], _∷_, _++_}
 use lib.Dec.{eqb, leb, leb·suc-suc}
 use lib.ListN.{length, take, drop, getD, drop-of-length-le, length-drop, take-append-drop}
@@ -24,6 +24,24 @@ module _ (l : List ℕ) (i : ℕ) (h : i < length l) where
   pub bytes-refused : byteOk (getD l i 0) ≡ false → bytesOk (drop i l) ≡ false
   unfolding bytesOk
   bytes-refused e = rw (drop-cons l i 0 h, e)
+
+-- a block that is right is passed whole
+pub block-right : (k : ℕ) (l : List ℕ) → bytesOk (take k l) ≡ true → bytesOk l ≡ bytesOk (drop k l)
+unfolding bytesOk
+block-right zero l e = refl
+block-right (suc k) [] e = refl
+block-right (suc k) (b ∷ l) e =
+    let both = and-eq-true-iff (byteOk b) (bytesOk (take k l)) .0 e in
+    rw (both .0) (block-right k l (both .1))
+
+module _ (ok : Bool) (l : List ℕ) (i : ℕ) where
+  pub block-next : i < length l → ((ok && byteOk (getD l i 0)) && bytesOk (drop (i + 1) l)) ≡ (ok && bytesOk (drop i l))
+  unfolding bytesOk
+  block-next h = rw (add-one i, drop-cons l i 0 h) (and-assoc ok (byteOk (getD l i 0)) (bytesOk (drop (suc i) l)))
+
+  pub block-ended : length l ≤ i → ok ≡ (ok && bytesOk (drop i l))
+  unfolding bytesOk
+  block-ended h = rw (drop-of-length-le l {i = i} h) (sym (and-true ok))
 
 pub bytes-ended : (l : List ℕ) (i : ℕ) → length l ≤ i → bytesOk (drop i l) ≡ true
 unfolding bytesOk

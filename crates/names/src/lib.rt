@@ -18,11 +18,39 @@ fn byte_ok(b: u8) -> bool
     (b != 0) & !((65 <= b) & (b <= 90))
 }
 
+// Whether each byte of a block may stand in a name. It has no early way out, so that it is compiled to a few wide comparisons.
+fn block_ok(block: &[u8]) -> bool
+    ensures { λ r. ⌜ r ≡ bytesOk (now (block .entry)) ⌝ }
+{
+    let mut ok = true;
+    let mut i: usize = 0;
+    while i < block.len() {
+        ok = ok & byte_ok(block[i]);
+        i += 1;
+    }
+    ok
+}
+
+// A place up to which each byte may stand in a name, found by blocks.
+fn ok_up_to(name: &[u8]) -> usize
+    ensures { λ r. ⌜ (r ≤ length (now (name .entry))) × (bytesOk (drop r (now (name .entry))) ≡ bytesOk (now (name .entry))) ⌝ }
+{
+    let mut i: usize = 0;
+    while 16 <= name.len() - i {
+        let end = i + 16;
+        if !block_ok(&name[i..end]) {
+            return i;
+        }
+        i = end;
+    }
+    i
+}
+
 // Whether each byte may stand in a name.
 pub fn bytes_ok(name: &[u8]) -> bool
     ensures { λ r. ⌜ r ≡ bytesOk (now (name .entry)) ⌝ }
 {
-    let mut i: usize = 0;
+    let mut i = ok_up_to(name);
     while i < name.len() {
         if !byte_ok(name[i]) {
             return false;

@@ -1,7 +1,7 @@
 -- `names::bytes_ok`: what the bytes from i on say is what all say.
 use Prim.Native.Nat.{_≤_, _-_}
 use native.Mathlib.Omega.{arith}
-use mathlib.Core.Path.{_≡_, refl, sym, _∙_}
+use mathlib.Core.Path.{_≡_, sym, _∙_}
 use lib.ListN.{length, drop}
 use borrow.Author.Needs.{needs}
 use borrow.Author.Tests.{not-true, not-false}
@@ -16,8 +16,11 @@ Inv-loop name i₀ i = (i ≤ length name) × (bytesOk (drop i name) ≡ bytesOk
 abbrev μ-loop : tie.MeasureT-loop
 μ-loop name i₀ i = length name - i
 
+ok-up-to-requires : tie.Need-ok-up-to-requires Inv-loop μ-loop
+ok-up-to-requires c κs = search needs
+
 loop-holds : tie.Need-loop-holds Inv-loop μ-loop
-loop-holds c = (search needs, refl)
+loop-holds c = c .ok-up-to .ensures
 
 shared-slice-read-byte-ok : tie.Need-shared-slice-read-byte-ok Inv-loop μ-loop
 shared-slice-read-byte-ok c = search needs
@@ -28,7 +31,7 @@ byte-ok-requires c κs = search needs
 returns : tie.Need-returns Inv-loop μ-loop
 returns c =
     let l = c .before .before .before .before in
-    sym (bytes-refused (l .before .before .args .name .now) (l .loop .i) (omega arith) (sym (c .before .byte-ok .ensures) ∙ not-true _ (c .if1 .taken))) ∙ l .loop .inv .1
+    sym (bytes-refused (l .before .before .before .args .name .now) (l .loop .i) (omega arith) (sym (c .before .byte-ok .ensures) ∙ not-true _ (c .if1 .taken))) ∙ l .loop .inv .1
 
 add-i : tie.Need-add-i Inv-loop μ-loop
 add-i c = omega arith
@@ -39,12 +42,12 @@ loop-less c = omega arith
 loop-again : tie.Need-loop-again Inv-loop μ-loop
 loop-again c =
     let l = c .before .before .before .before in
-    (omega arith, sym (bytes-passed (l .before .before .args .name .now) (l .loop .i) (omega arith) (sym (c .before .byte-ok .ensures) ∙ not-false _ (c .if1 .left))) ∙ l .loop .inv .1)
+    (omega arith, sym (bytes-passed (l .before .before .before .args .name .now) (l .loop .i) (omega arith) (sym (c .before .byte-ok .ensures) ∙ not-false _ (c .if1 .left))) ∙ l .loop .inv .1)
 
 returns-2 : tie.Need-returns-2 Inv-loop μ-loop
 returns-2 c =
     let l = c .before in
-    sym (bytes-ended (l .before .before .args .name .now) (l .loop .i) (omega arith)) ∙ l .loop .inv .1
+    sym (bytes-ended (l .before .before .before .args .name .now) (l .loop .i) (omega arith)) ∙ l .loop .inv .1
 
 pub bytes-ok-spec : {M : Type 1} → statement M
 bytes-ok-spec =
@@ -52,6 +55,7 @@ bytes-ok-spec =
     (tie.spec
     Inv-loop
     μ-loop
+    ok-up-to-requires
     loop-holds
     shared-slice-read-byte-ok
     byte-ok-requires
