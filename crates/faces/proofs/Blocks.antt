@@ -11,13 +11,14 @@ use lib.Seq.{drop-drop, take-nil}
 use borrow.Author.Tests.{leb-true, leb-false}
 use Rattle.base.proofs.Tests.{by-test}
 use Rattle.le.specs.Le.{numberAt}
+use Rattle.le.proofs.Laws.{take-part}
 use Rattle.faces.specs.declared.Face.{Face}
 use Rattle.faces.specs.declared.Values.{Values}
 use Rattle.faces.specs.declared.Values.the-variants.{NotBelow}
 use Rattle.faces.specs.declared.Tally.{Tally}
 use Rattle.faces.specs.Private.{faceAt, isOutside, anyOutside, tallyOf, withFace, scanFrom}
 use Rattle.faces.specs.Faces.{facesIn, below, isDegenerate, degenerate, countedBy}
-use Rattle.faces.proofs.Laws.{take-part, face-part, first, length-facesIn, past-first, past-second, past-third, passed}
+use Rattle.faces.proofs.Laws.{face-part, first, length-facesIn, past-first, past-second, past-third, passed}
 
 -- ---- the first m faces, and the n after them
 pub faces-split : (w m n : ℕ) (bs : List ℕ) → facesIn w (m + n) bs ≡ facesIn w m bs ++ facesIn w n (drop (m * (3 * w)) bs)

@@ -6,9 +6,10 @@ use mathlib.Core.Path.{_≡_, refl, sym, ap}
 use mathlib.Core.Bool.{true, false}
 use mathlib.Core.List.{List, [], _∷_}
 use lib.ListN.{length, take, drop}
-use lib.Seq.{take-take, drop-drop}
+use lib.Seq.{drop-drop}
 use borrow.Author.Tests.{lt-ltb, le-ltb, ne-eqb}
 use Rattle.le.specs.Le.{numberAt}
+use Rattle.le.proofs.Laws.{numberAt-part}
 use Rattle.props.specs.Types.{byte, short}
 use Rattle.faces.specs.declared.Face.{Face}
 use Rattle.faces.specs.declared.Values.{Values}
@@ -35,16 +36,6 @@ unfolding widthOf
 width-other code b s = simp (ne-eqb _ _ b, ne-eqb _ _ s)
 
 -- ---- a face in a part that begins at its place
-pub take-part : (w k n : ℕ) (l : List ℕ) → k + w ≤ n → take w (drop k (take n l)) ≡ take w (drop k l)
-take-part w zero n l h = take-take w n l (omega arith)
-take-part w (suc k) zero l h = absurd (omega arith)
-take-part w (suc k) (suc n) [] h = refl
-take-part w (suc k) (suc n) (x ∷ l) h = take-part w k n l (omega arith)
-
-numberAt-part : (w n : ℕ) (bs : List ℕ) (at k : ℕ) → k + w ≤ n → numberAt w (take n (drop at bs)) k ≡ numberAt w bs (at + k)
-unfolding numberAt
-numberAt-part w n bs at k h = rw (take-part w k n (drop at bs) h, drop-drop k at bs)
-
 pub face-part : (w n : ℕ) (bs : List ℕ) (at : ℕ) {v : ℕ} → 3 * w ≤ n → v ≡ w → faceAt w (take n (drop at bs)) 0 ≡ faceAt v bs at
 face-part w n bs at h e =
     let a : at + 0 ≡ at = omega arith in

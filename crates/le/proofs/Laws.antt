@@ -5,7 +5,7 @@ use native.Mathlib.Nat.{zero-add, add-zero, suc-add, mul-assoc, pow-succ', div-o
 use mathlib.Core.Path.{_≡_, refl, ap, sym, _∙_}
 use mathlib.Core.List.{List, [], _∷_, _++_}
 use lib.ListN.{length, take, drop, getD, drop-of-length-le, length-drop, take-append-drop}
-use lib.Seq.{take-nil, take-all, getD-drop, drop-drop}
+use lib.Seq.{take-nil, take-all, take-take, getD-drop, drop-drop}
 use Rattle.le.specs.Le.{val, numberAt, le, AreBytes}
 
 times-next : (n k : ℕ) → 256 ^ suc n * k ≡ 256 * (256 ^ n * k)
@@ -162,3 +162,14 @@ le-front w l at next h e k = rw (le-numberAt w l at h (omega arith)) (part-front
 pub numberAt-lt : (w : ℕ) (l : List ℕ) (at : ℕ) → AreBytes l → numberAt w l at < 256 ^ w
 unfolding numberAt
 numberAt-lt w l at h = val-lt w (drop at l) (bytes-drop at l h)
+
+-- ---- in a part of the bytes
+pub take-part : (w k n : ℕ) (l : List ℕ) → k + w ≤ n → take w (drop k (take n l)) ≡ take w (drop k l)
+take-part w zero n l h = take-take w n l (omega arith)
+take-part w (suc k) zero l h = absurd (omega arith)
+take-part w (suc k) (suc n) [] h = refl
+take-part w (suc k) (suc n) (x ∷ l) h = take-part w k n l (omega arith)
+
+pub numberAt-part : (w n : ℕ) (s : List ℕ) (at k : ℕ) → k + w ≤ n → numberAt w (take n (drop at s)) k ≡ numberAt w s (at + k)
+unfolding numberAt
+numberAt-part w n s at k h = rw (take-part w k n (drop at s) h, drop-drop k at s)

@@ -1,12 +1,11 @@
 -- A property's header: its three numbers by the one number of its 8 bytes, and the same header in a part that starts at its place.
-use Prim.Native.Nat.{ℕ, zero, suc, _+_, _/_, _%_, _≤_}
+use Prim.Native.Nat.{ℕ, _+_, _/_, _%_, _≤_}
 use native.Mathlib.Omega.{arith}
-use mathlib.Core.Path.{_≡_, refl}
-use mathlib.Core.List.{List, [], _∷_}
+use mathlib.Core.Path.{_≡_}
+use mathlib.Core.List.{List}
 use lib.ListN.{length, take, drop}
-use lib.Seq.{take-take, drop-drop}
 use Rattle.le.specs.Le.{numberAt, AreBytes}
-use Rattle.le.proofs.Laws.{rest, numberAt-rest, numberAt-past, numberAt-short, numberAt-high}
+use Rattle.le.proofs.Laws.{rest, numberAt-part, numberAt-rest, numberAt-past, numberAt-short, numberAt-high}
 use Rattle.props.specs.declared.PropertyHeader.{PropertyHeader}
 use Rattle.props.specs.Step.{headerAt}
 
@@ -22,16 +21,6 @@ header-number s bytes e =
     rw (e, code, above, size, len)
 
 -- ---- in a part
-take-part : (w k n : ℕ) (l : List ℕ) → k + w ≤ n → take w (drop k (take n l)) ≡ take w (drop k l)
-take-part w zero n l h = take-take w n l (omega arith)
-take-part w (suc k) zero l h = absurd (omega arith)
-take-part w (suc k) (suc n) [] h = refl
-take-part w (suc k) (suc n) (x ∷ l) h = take-part w k n l (omega arith)
-
-numberAt-part : (w n : ℕ) (s : List ℕ) (at k : ℕ) → k + w ≤ n → numberAt w (take n (drop at s)) k ≡ numberAt w s (at + k)
-unfolding numberAt
-numberAt-part w n s at k h = rw (take-part w k n (drop at s) h, drop-drop k at s)
-
 module _ (s : List ℕ) (at : ℕ) where
   same-start : at + 0 ≡ at
   same-start = omega arith

@@ -159,7 +159,7 @@ enum Extent {
     Refused(u32),
 }
 
-// So many bytes of the room, where they fit.
+// Exactly n bytes of the room, where they fit.
 fn fit(n: usize, room: usize) -> Extent
     ensures { λ r. ⌜ r ≡ fit n room ⌝ }
 {
