@@ -1,4 +1,4 @@
--- Links, a property at a time and a row at a time.
+-- The links of a node, a property at a time.
 use Prim.Native.Nat.{ℕ, suc, _+_, _-_, _≤_, _<_}
 use native.Mathlib.Omega.{arith}
 use native.Mathlib.Numerals.{add-one}
@@ -69,44 +69,6 @@ module _ (count : Count) (ls : List Line) (start : ℕ) (s starts : List ℕ) (n
   unfolding nodeLinked
   node-ended h = rw (drop-of-length-le starts h)
 
--- ---- a row: the places that its index tells of
-module _ (body : List ℕ) (k : ℕ) {index : Index} (e : index ≡ indexOf (properties body k)) where
-  pub index-few : length (take (index .count) (index .starts)) ≤ 64
-  index-few = rw (starts-taken body k e) (properties-few body k)
-
-  pub index-within : StartsWithin body (take (index .count) (index .starts))
-  index-within = rw (starts-taken body k e) (starts-within body k)
-
-module _ (count : Count) (s : List ℕ) (n : ℕ) (r : Row) where
-  pub row-unknown : isKnown (r .kind) ≡ false → acceptedLinks n ≡ rowLinked count s n r
-  unfolding rowLinked
-  row-unknown k = rw k
-
-  pub row-known : {body : List ℕ} {index : Index} {ls : List Line} → isKnown (r .kind) ≡ true → body ≡ bodyOf s r
-      → index ≡ indexOf (properties body (r .properties)) → ls ≡ linesOf (r .kind)
-      → nodeLinked count ls (r .start) body n (take (index .count) (index .starts)) ≡ rowLinked count s n r
-  unfolding rowLinked
-  row-known {body} k e f g = rw (k, ← e, starts-taken body (r .properties) f, g)
-
+-- ---- a row
 pub body-fits : (s : List ℕ) (r : Row) → {body : List ℕ} → body ≡ bodyOf s r → length body ≤ length s
 body-fits s r e = rw e (simp (length-take, length-drop) (omega arith))
-
--- ---- rows
-module _ (count : Count) (s t : List ℕ) (n i nodes : ℕ) where
-  abbrev rest : (n i : ℕ) → Linked
-  rest n i = rowsLinked count s n (rowsAt t i (nodes - i))
-
-  module _ (h : i < nodes) {r : Row} {w : Linked} (e : r ≡ rowAt t i) (f : w ≡ rowLinked count s n r) where
-    next : rest n i ≡ refusedOr (w .number) w (rest (w .links) (i + 1))
-    unfolding rowsLinked rowsAt
-    next = let one : nodes - i ≡ suc (nodes - (i + 1)) = omega arith in rw (one, ← e, ← f, add-one i)
-
-    pub rows-refused : (w .number ≡ 0 → ⊥) → rest n i ≡ w
-    rows-refused g = next ∙ is-refused (w .number) w (rest (w .links) (i + 1)) g
-
-    pub rows-passed : w .number ≡ 0 → rest n i ≡ rest (w .links) (i + 1)
-    rows-passed g = next ∙ goes-on (w .number) w (rest (w .links) (i + 1)) g
-
-  pub rows-ended : nodes ≤ i → rest n i ≡ acceptedLinks n
-  unfolding rowsLinked rowsAt
-  rows-ended h = let none : nodes - i ≡ 0 = omega arith in rw none

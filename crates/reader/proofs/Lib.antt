@@ -16,3 +16,4 @@ pub mod InStep
 pub mod NodeLinks
 pub mod Leaves
 pub mod Passing
+pub mod Linking

@@ -2,15 +2,22 @@
 use Prim.Native.Nat.{ℕ, _≤_, _<_}
 use mathlib.Core.Path.{_≡_}
 use mathlib.Core.Bool.{Bool, true, false, _||_}
-use mathlib.Core.List.{List, [], _∷_}
+use mathlib.Core.List.{List, [], _∷_, map}
 use lib.Dec.{eqb}
-use lib.ListN.{length, getD}
+use lib.ListN.{length, take, getD}
 use Rattle.kinds.specs.Kinds.{bone, isKnown}
 use Rattle.table.specs.declared.Row.{Row}
 use Rattle.table.specs.Table.{rowAt, cleared}
 use Rattle.body.specs.Body.{properties}
 use Rattle.format.specs.Rows.{bodyOf}
-use Rattle.reader.specs.Reading.{bonesUnder}
+use Rattle.base.specs.Refusals.{refusedOr}
+use Rattle.rules.specs.Rules.{linesOf}
+use Rattle.judge.specs.Properties.{lineNumber}
+use Rattle.links.specs.declared.Linked.{Linked}
+use Rattle.links.specs.Private.{Count, rowsLinked}
+use Rattle.links.specs.Links.{acceptedLinks, linked}
+use Rattle.reader.specs.declared.Ruled.{Ruled}
+use Rattle.reader.specs.Reading.{bonesUnder, ruled}
 use Rattle.reader.specs.declared.Reading.{Reading}
 use Rattle.reader.specs.declared.Reading.the-variants.{Accepted, Refused}
 
@@ -42,3 +49,23 @@ BonesCounted bones rows = (p : ℕ) → getD bones p 0 ≡ bonesUnder rows p
 abbrev pub leftIn : Reading → List ℕ → List ℕ
 leftIn (Accepted a) t = t
 leftIn (Refused n place) t = cleared t
+
+-- what a judgement notes of a known row: where its properties start, and their lines
+pub record NotedIs (s : List ℕ) (r : Row) (starts numbers : List ℕ) : Type 0 where
+  pub places : starts ≡ properties (bodyOf s r) (r .properties) .starts
+  pub lines : numbers ≡ map (lineNumber (linesOf (r .kind)) (bodyOf s r)) starts
+  pub many : r .properties ≡ length starts
+
+-- the same, at the start of its buffers
+abbrev pub Noted : (s : List ℕ) → Row → (starts numbers : List ℕ) → Type 0
+Noted s r starts numbers = NotedIs s r (take (r .properties) starts) (take (r .properties) numbers)
+
+-- the links of rows that come after some: where these end with a refusal, that stays
+abbrev pub continued : Count → (s : List ℕ) → Linked → List Row → Linked
+continued count s l rs = refusedOr (l .number) l (rowsLinked count s (l .links) rs)
+
+-- what the rules and the links of all rows of a file give
+pub record JudgedAll (s : List ℕ) (rows : List Row) (rules : Ruled) (links : Linked) : Type 0 where
+  pub rulesAre : rules ≡ ruled s rows rows
+  pub place : rules .place ≤ length s
+  pub linksAre : rules .number ≡ 0 → refusedOr (links .number) links (acceptedLinks (links .links)) ≡ linked s rows

@@ -1,19 +1,23 @@
 // The reader: refusals 1 to 17 in order, the rows in the lent table, and the charges.
 ghost use mathlib.Core.Path.{_≡_};
-ghost use Prim.Native.Nat.{_≤_};
-ghost use mathlib.Core.List.{map};
+ghost use mathlib.Core.Bool.{true};
+ghost use Prim.Native.Nat.{_+_, _^_, _≤_, _<_};
+ghost use mathlib.Core.List.{[], map};
 ghost use lib.ListN.{length, getD};
-ghost use Rattle.base.specs.Limits.{mostBytes, mostRows};
+ghost use Rattle.base.specs.Limits.{mostBytes, mostProperties, mostRows};
+ghost use Rattle.kinds.specs.Kinds.{isKnown};
 ghost use Rattle.table.specs.Table.{cleared, rowsAt};
 ghost use Rattle.rules.specs.Table.{lines as allLines};
 ghost use Rattle.rules.specs.Packing.{columnsOf};
 ghost use Rattle.judge.specs.Judge.{Bounded};
 ghost use Rattle.format.specs.Rows.{bodyOf};
-ghost use Rattle.links.specs.Links.{linksOf, linked};
+ghost use Rattle.links.specs.Private.{AllAscending, between, countIn, rowLinked, rowsLinked};
 ghost use Rattle.walk.specs.Walk.{flagsOf};
 ghost use Rattle.reader.specs.declared.Reading.the-variants.{Refused};
 ghost use Rattle.reader.specs.Reading.{judgedWith, ruled, ownKnown, ownUnknown, checked, readingOf, tableAfter, numbersOf, Small};
-ghost use Rattle.reader.specs.Private.{Passed, RowsOk, BonesCounted, hasKind, leftIn};
+ghost use Rattle.reader.specs.Private.{Passed, RowsOk, BonesCounted, hasKind, Noted, continued, JudgedAll, leftIn};
+
+mod targets;
 
 // What is answered of an accepted file: its nodes and flags; the own bytes of its known and of its unknown nodes; its
 // faces, and how many of them are degenerate; its links.
@@ -57,8 +61,11 @@ fn judge_row(
     marks: &mut [u16; 1024],
     mark: u16,
 ) -> judge::Judged
-    requires { ⌜ (now lines ≡ map columnsOf allLines) × Passed (now file) row ⌝ }
+    requires row { ⌜ (now lines ≡ map columnsOf allLines) × Passed (now file) row ⌝ }
+    requires sizes { ⌜ (length (now starts) ≡ mostProperties) × (length (now numbers) ≡ mostProperties) ⌝ }
     ensures { λ r. ⌜ (r ≡ judgedWith (now (file .entry)) row bones) × Bounded r (length (bodyOf (now (file .entry)) row)) ⌝ }
+    ensures noted { λ r. ⌜ (r .number ≡ 0 → isKnown (row .kind) ≡ true → Noted (now (file .entry)) row (now (starts .exit)) (now (numbers .exit))) ⌝ }
+    ensures sizes { λ r. ⌜ (length (now (starts .exit)) ≡ mostProperties) × (length (now (numbers .exit)) ≡ mostProperties) ⌝ }
 {
     if !kinds::known(row.kind) {
         return judge::Judged {
@@ -93,16 +100,82 @@ struct Ruled {
     links: u32,
 }
 
-// The rules, row by row.
-fn rules_of(file: &[u8], table: &[u32], nodes: usize, bones: &[u32]) -> Ruled
-    requires { ⌜ (nodes ≤ mostRows) × RowsOk (now file) (now table) nodes × BonesCounted (now bones) (rowsAt (now table) 0 nodes) ⌝ }
-    ensures result { λ r. ⌜ r ≡ ruled (now (file .entry)) (rowsAt (now (table .entry)) 0 nodes) (rowsAt (now (table .entry)) 0 nodes) ⌝ }
-    ensures place { λ r. ⌜ r .place ≤ length (now (file .entry)) ⌝ }
+// The links of the node in a row, by what its judgement noted.
+fn link_row<'a>(
+    file: &[u8],
+    row: table::Row,
+    lines: &[rules::Columns],
+    starts: &[usize],
+    numbers: &[usize],
+    before: u32,
+    materials: &'a [u64],
+    meshes: &'a [u64],
+    bones: &'a [u64],
+    files: &'a [u64],
+) -> links::Linked
+    requires sorted { ⌜ AllAscending (now materials) (now meshes) (now bones) (now files) ⌝ }
+    requires before { ⌜ before + mostProperties < 2 ^ 32 ⌝ }
+    requires lines { ⌜ now lines ≡ map columnsOf allLines ⌝ }
+    requires noted { ⌜ (isKnown (row .kind) ≡ true) × Noted (now file) row (now starts) (now numbers) ⌝ }
+    ensures result { λ r. ⌜ r
+        ≡ rowLinked (countIn (now (materials .entry)) (now (meshes .entry)) (now (bones .entry)) (now (files .entry)))
+        (now (file .entry)) before row ⌝ }
+    ensures links { λ r. ⌜ r .links ≤ before + mostProperties ⌝ }
 {
-    let lines = rules::table();
+    let body = format::body_of(file, row);
+    let start = row.start as usize;
+    let n = row.properties as usize;
+    targets::node_links(
+        rules::lines_of(lines, row.kind),
+        start,
+        body,
+        &starts[..n],
+        &numbers[..n],
+        before,
+        materials,
+        meshes,
+        bones,
+        files,
+    )
+}
+
+// What the rules and the links of some rows give: links that end before the last row are those of the first that fails.
+struct Judgement {
+    rules: Ruled,
+    links: links::Linked,
+}
+
+// The rules and the links, row by row: the first link that fails is kept until all rows have passed.
+fn rules_of<'a>(
+    file: &[u8],
+    table: &[u32],
+    nodes: usize,
+    counts: &[u32],
+    materials: &'a [u64],
+    meshes: &'a [u64],
+    bones: &'a [u64],
+    files: &'a [u64],
+) -> Judgement
+    requires { ⌜ (nodes ≤ mostRows) × RowsOk (now file) (now table) nodes × BonesCounted (now counts) (rowsAt (now table) 0 nodes)
+        × AllAscending (now materials) (now meshes) (now bones) (now files) ⌝ }
+    ensures result { λ r. ⌜ r .rules ≡ ruled (now (file .entry)) (rowsAt (now (table .entry)) 0 nodes) (rowsAt (now (table .entry)) 0 nodes) ⌝ }
+    ensures place { λ r. ⌜ r .rules .place ≤ length (now (file .entry)) ⌝ }
+    ensures links { λ r. ⌜ (r .rules .number ≡ 0 → continued
+        (countIn (now (materials .entry)) (now (meshes .entry)) (now (bones .entry)) (now (files .entry)))
+        (now (file .entry)) (r .links) []
+        ≡ rowsLinked (countIn (now (materials .entry)) (now (meshes .entry)) (now (bones .entry)) (now (files .entry)))
+        (now (file .entry)) 0 (rowsAt (now (table .entry)) 0 nodes)) ⌝ }
+{
+    let table_lines = rules::table();
+    let lines: &[rules::Columns] = &table_lines;
     let mut starts = [0usize; 64];
     let mut numbers = [0usize; 64];
     let mut marks = [0u16; 1024];
+    let mut linked = links::Linked {
+        number: 0,
+        place: 0,
+        links: 0,
+    };
     let mut faces: u64 = 0;
     let mut degenerate: u64 = 0;
     let mut links: u32 = 0;
@@ -112,8 +185,8 @@ fn rules_of(file: &[u8], table: &[u32], nodes: usize, bones: &[u32]) -> Ruled
         let j = judge_row(
             file,
             row,
-            beside(bones, row.parent),
-            &lines,
+            beside(counts, row.parent),
+            lines,
             &mut starts,
             &mut numbers,
             &mut marks,
@@ -122,13 +195,30 @@ fn rules_of(file: &[u8], table: &[u32], nodes: usize, bones: &[u32]) -> Ruled
         let start = row.start as usize;
         if j.number != 0 {
             let place = start + j.place - 24;
-            return Ruled {
-                number: j.number,
-                place,
-                faces,
-                degenerate,
-                links,
+            return Judgement {
+                rules: Ruled {
+                    number: j.number,
+                    place,
+                    faces,
+                    degenerate,
+                    links,
+                },
+                links: linked,
             };
+        }
+        if (linked.number == 0) & (j.links != 0) {
+            linked = link_row(
+                file,
+                row,
+                lines,
+                &starts,
+                &numbers,
+                linked.links,
+                materials,
+                meshes,
+                bones,
+                files,
+            );
         }
         let more = j.faces;
         faces += more.0;
@@ -136,12 +226,15 @@ fn rules_of(file: &[u8], table: &[u32], nodes: usize, bones: &[u32]) -> Ruled
         links += j.links;
         i += 1;
     }
-    Ruled {
-        number: 0,
-        place: 0,
-        faces,
-        degenerate,
-        links,
+    Judgement {
+        rules: Ruled {
+            number: 0,
+            place: 0,
+            faces,
+            degenerate,
+            links,
+        },
+        links: linked,
     }
 }
 
@@ -159,45 +252,121 @@ fn has_kind(table: &[u32], nodes: usize, kind: u32) -> bool
     false
 }
 
+// The same, by the hashes of the four kinds that links reach, one kind after the other, which end at these places.
+fn rules_among(
+    file: &[u8],
+    table: &[u32],
+    nodes: usize,
+    counts: &[u32],
+    hashes: &[u64],
+    m: usize,
+    s: usize,
+    b: usize,
+    f: usize,
+) -> Judgement
+    requires rows { ⌜ (nodes ≤ mostRows) × RowsOk (now file) (now table) nodes × BonesCounted (now counts) (rowsAt (now table) 0 nodes) ⌝ }
+    requires places { ⌜ (m ≤ s) × (s ≤ b) × (b ≤ f) × (f ≤ length (now hashes)) ⌝ }
+    requires sorted { ⌜ AllAscending (between 0 m (now hashes)) (between m s (now hashes)) (between s b (now hashes)) (between b f (now hashes)) ⌝ }
+    ensures result { λ r. ⌜ r .rules ≡ ruled (now (file .entry)) (rowsAt (now (table .entry)) 0 nodes) (rowsAt (now (table .entry)) 0 nodes) ⌝ }
+    ensures place { λ r. ⌜ r .rules .place ≤ length (now (file .entry)) ⌝ }
+    ensures links { λ r. ⌜ (r .rules .number ≡ 0 → continued
+        (countIn (between 0 m (now (hashes .entry))) (between m s (now (hashes .entry))) (between s b (now (hashes .entry))) (between b f (now (hashes .entry))))
+        (now (file .entry)) (r .links) []
+        ≡ rowsLinked
+        (countIn (between 0 m (now (hashes .entry))) (between m s (now (hashes .entry))) (between s b (now (hashes .entry))) (between b f (now (hashes .entry))))
+        (now (file .entry)) 0 (rowsAt (now (table .entry)) 0 nodes)) ⌝ }
+{
+    rules_of(
+        file,
+        table,
+        nodes,
+        counts,
+        &hashes[0..m],
+        &hashes[m..s],
+        &hashes[s..b],
+        &hashes[b..f],
+    )
+}
+
+// The same, with the hashes sorted first.
+fn rules_by_hashes(file: &[u8], table: &[u32], nodes: usize, counts: &[u32]) -> Judgement
+    requires { ⌜ (nodes ≤ mostRows) × RowsOk (now file) (now table) nodes × BonesCounted (now counts) (rowsAt (now table) 0 nodes) ⌝ }
+    ensures { λ r. ⌜ JudgedAll (now (file .entry)) (rowsAt (now (table .entry)) 0 nodes) (r .rules) (r .links) ⌝ }
+{
+    let mut hashes = [0u64; base::MOST_ROWS];
+    let m = targets::collect(table, nodes, kinds::MATERIAL, &mut hashes, 0);
+    let s = targets::collect(table, nodes, kinds::MESH, &mut hashes, m);
+    let b = targets::collect(table, nodes, kinds::BONE, &mut hashes, s);
+    let f = targets::collect(table, nodes, kinds::FILE, &mut hashes, b);
+    rules_among(file, table, nodes, counts, &hashes, m, s, b, f)
+}
+
+// Whether a row looks as if it had links. It only spares sorting hashes for nothing.
+fn looks_linked(row: table::Row) -> bool {
+    let kind = row.kind;
+    match kind {
+        kinds::MESH | kinds::MATERIAL => 2 < row.properties,
+        kinds::BLEND_SHAPE | kinds::IK_HANDLE | kinds::CONSTRAINT | kinds::INSTANCE => true,
+        _ => false,
+    }
+}
+
+fn any_looks_linked(table: &[u32], nodes: usize) -> bool {
+    let mut i: usize = 0;
+    while i < nodes {
+        if looks_linked(table::row_at(table, i)) {
+            return true;
+        }
+        i += 1;
+    }
+    false
+}
+
+// The rules and the links of rows beside which Bones are counted. Where none seems to have links they are judged without hashes, and again with
+// them where that was wrong.
+fn rules_beside(file: &[u8], table: &[u32], nodes: usize, bones: &[u32]) -> Judgement
+    requires { ⌜ (nodes ≤ mostRows) × RowsOk (now file) (now table) nodes × BonesCounted (now bones) (rowsAt (now table) 0 nodes) ⌝ }
+    ensures { λ r. ⌜ JudgedAll (now (file .entry)) (rowsAt (now (table .entry)) 0 nodes) (r .rules) (r .links) ⌝ }
+{
+    if any_looks_linked(table, nodes) {
+        return rules_by_hashes(file, table, nodes, bones);
+    }
+    let none = [0u64; 1];
+    let j = rules_among(file, table, nodes, bones, &none, 0, 0, 0, 0);
+    let rules = j.rules;
+    if rules.links != 0 {
+        return rules_by_hashes(file, table, nodes, bones);
+    }
+    Judgement {
+        rules,
+        links: links::Linked {
+            number: 0,
+            place: 0,
+            links: 0,
+        },
+    }
+}
+
 // The rules of rows of which some are Bones, which are counted first.
-fn rules_with_bones(file: &[u8], table: &[u32], nodes: usize) -> Ruled
+fn rules_with_bones(file: &[u8], table: &[u32], nodes: usize) -> Judgement
     requires { ⌜ (nodes ≤ mostRows) × RowsOk (now file) (now table) nodes ⌝ }
-    ensures result { λ r. ⌜ r ≡ ruled (now (file .entry)) (rowsAt (now (table .entry)) 0 nodes) (rowsAt (now (table .entry)) 0 nodes) ⌝ }
-    ensures place { λ r. ⌜ r .place ≤ length (now (file .entry)) ⌝ }
+    ensures { λ r. ⌜ JudgedAll (now (file .entry)) (rowsAt (now (table .entry)) 0 nodes) (r .rules) (r .links) ⌝ }
 {
     let mut bones = [0u32; base::MOST_ROWS];
     table::count_under(table, nodes, table::Which::OfKind(kinds::BONE), &mut bones);
-    rules_of(file, table, nodes, &bones)
+    rules_beside(file, table, nodes, &bones)
 }
 
 // The rules of all rows. Without Bones none are counted, and none are beside a node.
-fn all_rules(file: &[u8], table: &[u32], nodes: usize) -> Ruled
+fn all_rules(file: &[u8], table: &[u32], nodes: usize) -> Judgement
     requires { ⌜ (nodes ≤ mostRows) × RowsOk (now file) (now table) nodes ⌝ }
-    ensures result { λ r. ⌜ r ≡ ruled (now (file .entry)) (rowsAt (now (table .entry)) 0 nodes) (rowsAt (now (table .entry)) 0 nodes) ⌝ }
-    ensures place { λ r. ⌜ r .place ≤ length (now (file .entry)) ⌝ }
+    ensures { λ r. ⌜ JudgedAll (now (file .entry)) (rowsAt (now (table .entry)) 0 nodes) (r .rules) (r .links) ⌝ }
 {
     if has_kind(table, nodes, kinds::BONE) {
         return rules_with_bones(file, table, nodes);
     }
     let none = [0u32; 1];
-    rules_of(file, table, nodes, &none[..0])
-}
-
-// ---- 16 and 17
-
-// The links of a file, of which the rules have counted `links`.
-fn links_of(file: &[u8], table: &[u32], nodes: usize, links: u32) -> links::Linked
-    requires { ⌜ (nodes ≤ mostRows) × (links ≡ length (linksOf (now file) (rowsAt (now table) 0 nodes))) ⌝ }
-    ensures { λ r. ⌜ r ≡ linked (now (file .entry)) (rowsAt (now (table .entry)) 0 nodes) ⌝ }
-{
-    if links == 0 {
-        return links::Linked {
-            number: 0,
-            place: 0,
-            links: 0,
-        };
-    }
-    links::resolve(file, table, nodes)
+    rules_beside(file, table, nodes, &none[..0])
 }
 
 // ---- charges
@@ -249,11 +418,12 @@ fn checked(file: &[u8], table: &mut [u32], nodes: u32, flags: u32) -> Reading
     ensures table { λ r. ⌜ now (table .exit) ≡ leftIn r (now (table .entry)) ⌝ }
 {
     let n = nodes as usize;
-    let rules = all_rules(file, table, n);
+    let judged = all_rules(file, table, n);
+    let rules = judged.rules;
     if rules.number != 0 {
         return refuse_and_clear(rules.number, rules.place as u32, table);
     }
-    let links = links_of(file, table, n, rules.links);
+    let links = judged.links;
     if links.number != 0 {
         return refuse_and_clear(links.number, links.place as u32, table);
     }

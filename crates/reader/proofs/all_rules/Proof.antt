@@ -17,11 +17,11 @@ returns c = search needs
 array-share-prefix-none : tie.Need-array-share-prefix-none
 array-share-prefix-none c = search needs
 
-slice-aggregate-rules-of : tie.Need-slice-aggregate-rules-of
-slice-aggregate-rules-of c = search needs
+slice-aggregate-rules-beside : tie.Need-slice-aggregate-rules-beside
+slice-aggregate-rules-beside c = search needs
 
-rules-of-requires : tie.Need-rules-of-requires
-rules-of-requires c κs =
+rules-beside-requires : tie.Need-rules-beside-requires
+rules-beside-requires c κs =
     let k = c .before .before in
     let s = k .before .before .before in
     (s .pre .0, s .pre .1, none-counted _ (sym (k .has-kind .ensures) ∙ c .before .if1 .left) refl)
@@ -37,6 +37,6 @@ all-rules-spec =
     rules-with-bones-requires
     returns
     array-share-prefix-none
-    slice-aggregate-rules-of
-    rules-of-requires
+    slice-aggregate-rules-beside
+    rules-beside-requires
     returns-2)

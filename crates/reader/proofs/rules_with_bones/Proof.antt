@@ -12,11 +12,11 @@ slice-aggregate-count-under c = search needs
 count-under-requires : tie.Need-count-under-requires
 count-under-requires c κs = search needs
 
-slice-aggregate-rules-of : tie.Need-slice-aggregate-rules-of
-slice-aggregate-rules-of c = search needs
+slice-aggregate-rules-beside : tie.Need-slice-aggregate-rules-beside
+slice-aggregate-rules-beside c = search needs
 
-rules-of-requires : tie.Need-rules-of-requires
-rules-of-requires c κs =
+rules-beside-requires : tie.Need-rules-beside-requires
+rules-beside-requires c κs =
     let k = c .before .before in
     let s = k .before .before .before .before in
     let a = s .args in
@@ -31,6 +31,6 @@ rules-with-bones-spec =
     (tie.spec
     slice-aggregate-count-under
     count-under-requires
-    slice-aggregate-rules-of
-    rules-of-requires
+    slice-aggregate-rules-beside
+    rules-beside-requires
     returns)
