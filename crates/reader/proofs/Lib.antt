@@ -17,3 +17,4 @@ pub mod NodeLinks
 pub mod Leaves
 pub mod Passing
 pub mod Linking
+pub mod Bare

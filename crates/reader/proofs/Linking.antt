@@ -34,7 +34,7 @@ use Rattle.links.specs.declared.Linked.{Linked}
 use Rattle.links.specs.Links.{acceptedLinks, linked}
 use Rattle.links.specs.Private.{Count, nodeLinked, rowLinked, rowsLinked}
 use Rattle.reader.specs.declared.Ruled.{Ruled}
-use Rattle.reader.specs.Reading.{judgedWith, ruled}
+use Rattle.reader.specs.Reading.{judgedWith, ruled, ownUnknown}
 use Rattle.reader.specs.Private.{NotedIs, Noted, continued, JudgedAll}
 use Rattle.reader.proofs.Judging.{judged-known, judged-unknown, links-counted, no-links}
 
@@ -189,22 +189,25 @@ module _ (failed links : ℕ) where
   passed-over e z = by-test (eqb links 0) (λ t. eqb-true links 0 t) (λ t. absurd (true≢false (sym (rw (eq-eqb failed 0 z, t)) ∙ e)))
 
 -- ---- all rows
-module _ (s : List ℕ) (rows : List Row) {rules : Ruled} (are : rules ≡ ruled s rows rows) (place : rules .place ≤ length s) where
+module _ (s : List ℕ) (rows : List Row) {rules : Ruled} {unknown : ℕ} (are : rules ≡ ruled s rows rows) (place : rules .place ≤ length s)
+    (own : rules .number ≡ 0 → unknown ≡ ownUnknown rows) where
   pub all-judged : (count : Count) {links : Linked} → (rules .number ≡ 0 → continued count s links [] ≡ rowsLinked count s 0 rows) →
-      rowsLinked count s 0 rows ≡ linked s rows → JudgedAll s rows rules links
+      rowsLinked count s 0 rows ≡ linked s rows → JudgedAll s rows rules links unknown
   unfolding rowsLinked
-  all-judged count e f = record { rulesAre = are; place = place; linksAre = λ z. e z ∙ f }
+  all-judged count e f = record { rulesAre = are; place = place; linksAre = λ z. e z ∙ f; unknownIs = own }
 
   -- without links
-  pub none-judged : rules .links ≡ 0 → JudgedAll s rows rules (acceptedLinks 0)
+  pub none-judged : rules .links ≡ 0 → JudgedAll s rows rules (acceptedLinks 0) unknown
   none-judged none = record {
     rulesAre = are;
     place = place;
     linksAre = λ z. no-links s rows (sym none ∙ ap (λ u. u .links) are ∙ links-counted s rows 0 rows (ap (λ u. u .number) (sym are) ∙ z));
+    unknownIs = own;
   }
 
 -- the links of rows that pass: a refusal, or their number
-module _ {s : List ℕ} {rows : List Row} {rules : Ruled} {links : Linked} (j : JudgedAll s rows rules links) (z : rules .number ≡ 0) where
+module _ {s : List ℕ} {rows : List Row} {rules : Ruled} {links : Linked} {unknown : ℕ} (j : JudgedAll s rows rules links unknown)
+    (z : rules .number ≡ 0) where
   pub links-refused : (links .number ≡ 0 → ⊥) → links ≡ linked s rows
   links-refused h = sym (is-refused (links .number) links _ h) ∙ j .linksAre z
 

@@ -3,7 +3,7 @@ use Prim.Native.Nat.{ℕ, zero, suc, _+_, _≤_, _<_, min}
 use native.Mathlib.Nat.{min-eq-left}
 use native.Mathlib.Omega.{arith}
 use mathlib.Core.Path.{_≡_, refl, ap, sym, _∙_, subst}
-use mathlib.Core.Bool.{true, false}
+use mathlib.Core.Bool.{true, false, true≢false}
 use mathlib.Core.List.{List, [], _∷_, _++_}
 use lib.Dec.{eqb, ltb}
 use lib.ListN.{length, getD, length-append, List·getD-eq-default}
@@ -16,19 +16,21 @@ use Rattle.kinds.specs.declared.Parent.the-variants.{None}
 use Rattle.kinds.specs.Kinds.{bone}
 use Rattle.table.specs.declared.Row.{Row}
 use Rattle.table.specs.declared.Which.the-variants.{OfKind}
-use Rattle.table.specs.Table.{blank, noParent, rowAt, rowsAt, putRows, hasRoom, cleared}
+use Rattle.table.specs.Table.{blank, noParent, rowAt, rowsAt, putRows, hasRoom, cleared, clearedFrom}
 use Rattle.table.specs.Counts.{countsUnder}
-use Rattle.table.proofs.Clearing.{cleared-again, filled-putRows, rowAt-filled}
-use Rattle.table.proofs.Plans.{rows-filled}
+use Rattle.table.proofs.Rows.{rowAt-putRows}
+use Rattle.table.proofs.Clearing.{hasRoom-hasRow, cleared-putRows}
+use Rattle.table.proofs.ClearingFrom.{filled-from}
+use Rattle.table.proofs.Plans.{rows-are}
 use Rattle.table.proofs.Counts.{counted-none, counts-length, counts-tell}
 use Rattle.format.specs.declared.OwnBytes.{OwnBytes}
 use Rattle.format.specs.Forest.{Forest, nodes, encode, count, fileHeader, fileOf}
-use Rattle.format.specs.Rows.{rows, rowsOf}
+use Rattle.format.specs.Rows.{rows, rowsOf, allOwnBytes}
 use Rattle.base.specs.Lists.{Each}
 use Rattle.format.specs.Layout.{WellFormedFile, Placed}
 use Rattle.base.proofs.Lists.{each-both, each-map}
 use Rattle.format.proofs.Headers.{length-fileHeader}
-use Rattle.format.proofs.Rows.{length-rows}
+use Rattle.format.proofs.Rows.{length-rows, ownBytesAddUp}
 use Rattle.format.proofs.Within.{Lies, BoneUnder, rows-lie, bones-under}
 use Rattle.links.specs.Links.{linksOf, linked}
 use Rattle.walk.specs.declared.Answer.{Answer}
@@ -38,7 +40,7 @@ use Rattle.walk.proofs.Sound.{sound}
 use Rattle.reader.specs.declared.Reading.{Reading}
 use Rattle.reader.specs.declared.Reading.the-variants.{Accepted, Refused}
 use Rattle.reader.specs.Reading.{bonesUnder, ruled, ownKnown, ownUnknown, checked, verdict, readingOf, tableLeft, tableAfter}
-use Rattle.reader.specs.Private.{Passed, RowOk, RowsOk, BonesCounted, leftIn}
+use Rattle.reader.specs.Private.{Passed, RowOk, RowsOk, BonesCounted, isAccepted, leftAfter}
 use Rattle.reader.proofs.Bounds.{links-lie, resolved-lies}
 use Rattle.reader.proofs.Exactly.{short, checked-right}
 use Rattle.reader.proofs.Passing.{file-passed}
@@ -58,15 +60,18 @@ each-rows P t k (suc n) h =
       each-rows P t (suc k) n (λ i b. let next : k + suc i ≡ suc k + i = omega arith in subst (λ j. P (rowAt t j)) next (h (suc i) (omega arith))),
     )
 
--- rows that were put into a cleared table with room
+-- rows that were put into a table with room
 module _ (t : List ℕ) (rs : List Row) (room : hasRoom t ≡ true) (few : length rs ≤ 1024) where
-  put-rowAt : (j : ℕ) → j < length rs → rowAt (putRows (cleared t) 0 rs) j ≡ getD rs j blank
-  put-rowAt j b = ap (λ u. rowAt u j) (filled-putRows t rs room few) ∙ rowAt-filled t rs room few j (omega arith)
+  put-at : (j : ℕ) → j < length rs → rowAt (putRows t 0 rs) (0 + j) ≡ getD rs j blank
+  put-at j b = rowAt-putRows t 0 rs j b (hasRoom-hasRow t (0 + j) room (omega arith))
 
-  pub put-rows : rowsAt (putRows (cleared t) 0 rs) 0 (length rs) ≡ rs
-  put-rows = ap (λ u. rowsAt u 0 (length rs)) (filled-putRows t rs room few) ∙ rows-filled t rs room few
+  put-rowAt : (j : ℕ) → j < length rs → rowAt (putRows t 0 rs) j ≡ getD rs j blank
+  put-rowAt j b = (let z : j ≡ 0 + j = omega arith in ap (rowAt (putRows t 0 rs)) z) ∙ put-at j b
 
-  pub put-ok : (s : List ℕ) → Each (RowOk s (length rs)) rs → RowsOk s (putRows (cleared t) 0 rs) (length rs)
+  pub put-rows : rowsAt (putRows t 0 rs) 0 (length rs) ≡ rs
+  put-rows = rows-are (putRows t 0 rs) 0 rs put-at
+
+  pub put-ok : (s : List ℕ) → Each (RowOk s (length rs)) rs → RowsOk s (putRows t 0 rs) (length rs)
   put-ok s h i b = subst (RowOk s (length rs)) (sym (put-rowAt i b)) (each-get (RowOk s (length rs)) rs blank h i b)
 
 -- ---- the rows of a file that was walked
@@ -93,6 +98,14 @@ walked-ok s bytes e =
     let are : limited s .rows ≡ rowsOf (walk .forest) = ap (λ w. w .rows) lim ∙ walk .rows in
     subst (λ rs. Each (RowOk s (length rs)) rs) (sym are)
     (rows-ok s (flagsOf s) (walk .forest) (walk .holds .placed) (walk .holds .wellFormed) (walk .holds .bytes))
+
+-- the header and the own bytes are its length
+pub walked-own : (s : List ℕ) → AreBytes s → limited s .number ≡ 0 → 16 + allOwnBytes (limited s .rows) ≡ length s
+walked-own s bytes e =
+    let lim = limited-is s .0 (short s e) in
+    let walk = sound s bytes (ap (λ w. w .number) (sym lim) ∙ e) in
+    let are : limited s .rows ≡ rowsOf (walk .forest) = ap (λ w. w .rows) lim ∙ walk .rows in
+    ap (λ rs. 16 + allOwnBytes rs) are ∙ ownBytesAddUp (flagsOf s) (walk .forest) ∙ ap length (sym (walk .holds .bytes))
 
 -- ---- the stages after the walk
 module _ (s : List ℕ) (rs : List Row) where
@@ -137,6 +150,14 @@ bones-counted s t n few ok places here {bones} e p =
     ∙ sym (counted-none (OfKind bone) (rowsAt t 0 n) p (each-map (past q) (rowsAt t 0 n) (table-ok s t n ok))))
 
 -- ---- the reading
+pub left-accepted : (r : Reading) (n : ℕ) (t : List ℕ) → isAccepted r ≡ true → clearedFrom n t ≡ leftAfter r n t
+left-accepted (Accepted a) n t e = refl
+left-accepted (Refused m place) n t e = absurd (true≢false (sym e))
+
+pub left-refused : (r : Reading) (n : ℕ) (t : List ℕ) → isAccepted r ≡ false → cleared t ≡ leftAfter r n t
+left-refused (Accepted a) n t e = absurd (true≢false e)
+left-refused (Refused m place) n t e = refl
+
 module _ (s t : List ℕ) where
   pub short-table : hasRoom t ≡ false → (Refused 1 0 ≡ readingOf s t) × (t ≡ tableAfter s t)
   unfolding readingOf tableAfter
@@ -162,11 +183,11 @@ module _ (s t : List ℕ) where
 
   -- what is answered, and what is left in a table with room
   module _ (room : hasRoom t ≡ true) (few : length (limited s .rows) ≤ 1024) where
-    left : (r : Reading) → leftIn r (putRows (cleared t) 0 (limited s .rows)) ≡ tableLeft r (limited s .rows) t
-    left (Accepted a) = filled-putRows t (limited s .rows) room few
-    left (Refused n place) = cleared-again t (limited s .rows) room few
+    left : (r : Reading) → leftAfter r (length (limited s .rows)) (putRows t 0 (limited s .rows)) ≡ tableLeft r (limited s .rows) t
+    left (Accepted a) = filled-from t (limited s .rows) room few
+    left (Refused n place) = cleared-putRows t 0 (limited s .rows) room (omega arith)
 
-    pub checked-read : limited s .number ≡ 0 → {r : Reading} → r ≡ checked s (limited s .rows) → {u : List ℕ} → u ≡ putRows (cleared t) 0 (limited s .rows)
-        → (r ≡ readingOf s t) × (leftIn r u ≡ tableAfter s t) × (r ≡ verdict s)
+    pub checked-read : limited s .number ≡ 0 → {r : Reading} → r ≡ checked s (limited s .rows) → {u : List ℕ} → u ≡ putRows t 0 (limited s .rows)
+        → (r ≡ readingOf s t) × (leftAfter r (length (limited s .rows)) u ≡ tableAfter s t) × (r ≡ verdict s)
     unfolding readingOf tableAfter verdict
-    checked-read h {r} e f = (rw (room, h) e, rw (room, h, ← e) (ap (leftIn r) f ∙ left r), rw h e)
+    checked-read h {r} e f = (rw (room, h) e, rw (room, h, ← e) (ap (leftAfter r (length (limited s .rows))) f ∙ left r), rw h e)

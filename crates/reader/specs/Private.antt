@@ -1,15 +1,15 @@
 -- What private functions promise each other; nothing here need be believed.
 use Prim.Native.Nat.{ℕ, _≤_, _<_}
 use mathlib.Core.Path.{_≡_}
-use mathlib.Core.Bool.{Bool, true, false, _||_}
+use mathlib.Core.Bool.{Bool, true, false, cond, _||_}
 use mathlib.Core.List.{List, [], _∷_, map}
 use lib.Dec.{eqb}
 use lib.ListN.{length, take, getD}
 use Rattle.kinds.specs.Kinds.{bone, isKnown}
 use Rattle.table.specs.declared.Row.{Row}
-use Rattle.table.specs.Table.{rowAt, cleared}
+use Rattle.table.specs.Table.{rowAt, cleared, clearedFrom}
 use Rattle.body.specs.Body.{properties}
-use Rattle.format.specs.Rows.{bodyOf}
+use Rattle.format.specs.Rows.{bodyOf, ownBytes}
 use Rattle.base.specs.Refusals.{refusedOr}
 use Rattle.rules.specs.Rules.{linesOf}
 use Rattle.judge.specs.Properties.{lineNumber}
@@ -17,7 +17,7 @@ use Rattle.links.specs.declared.Linked.{Linked}
 use Rattle.links.specs.Private.{Count, rowsLinked}
 use Rattle.links.specs.Links.{acceptedLinks, linked}
 use Rattle.reader.specs.declared.Ruled.{Ruled}
-use Rattle.reader.specs.Reading.{bonesUnder, ruled}
+use Rattle.reader.specs.Reading.{bonesUnder, ruled, ownUnknown}
 use Rattle.reader.specs.declared.Reading.{Reading}
 use Rattle.reader.specs.declared.Reading.the-variants.{Accepted, Refused}
 
@@ -45,10 +45,18 @@ hasKind kind (r ∷ rs) = eqb (r .kind) kind || hasKind kind rs
 abbrev pub BonesCounted : (bones : List ℕ) (rows : List Row) → Type 0
 BonesCounted bones rows = (p : ℕ) → getD bones p 0 ≡ bonesUnder rows p
 
--- rows are left where they are, and cleared on a refusal
-abbrev pub leftIn : Reading → List ℕ → List ℕ
-leftIn (Accepted a) t = t
-leftIn (Refused n place) t = cleared t
+abbrev pub isAccepted : Reading → Bool
+isAccepted (Accepted a) = true
+isAccepted (Refused n place) = false
+
+-- of a table with rows at its start: n of them are left alone, and none on a refusal
+abbrev pub leftAfter : Reading → (n : ℕ) → List ℕ → List ℕ
+leftAfter (Accepted a) n t = clearedFrom n t
+leftAfter (Refused m place) n t = cleared t
+
+-- the own bytes of an unknown row
+abbrev pub unknownBytes : Row → ℕ
+unknownBytes r = cond (isKnown (r .kind)) 0 (ownBytes r)
 
 -- what a judgement notes of a known row: where its properties start, and their lines
 pub record NotedIs (s : List ℕ) (r : Row) (starts numbers : List ℕ) : Type 0 where
@@ -64,8 +72,9 @@ Noted s r starts numbers = NotedIs s r (take (r .properties) starts) (take (r .p
 abbrev pub continued : Count → (s : List ℕ) → Linked → List Row → Linked
 continued count s l rs = refusedOr (l .number) l (rowsLinked count s (l .links) rs)
 
--- what the rules and the links of all rows of a file give
-pub record JudgedAll (s : List ℕ) (rows : List Row) (rules : Ruled) (links : Linked) : Type 0 where
+-- what all rows of a file give
+pub record JudgedAll (s : List ℕ) (rows : List Row) (rules : Ruled) (links : Linked) (unknown : ℕ) : Type 0 where
   pub rulesAre : rules ≡ ruled s rows rows
   pub place : rules .place ≤ length s
   pub linksAre : rules .number ≡ 0 → refusedOr (links .number) links (acceptedLinks (links .links)) ≡ linked s rows
+  pub unknownIs : rules .number ≡ 0 → unknown ≡ ownUnknown rows

@@ -1,21 +1,21 @@
 // The reader: refusals 1 to 17 in order, the rows in the lent table, and the charges.
 ghost use mathlib.Core.Path.{_≡_};
-ghost use mathlib.Core.Bool.{true};
+ghost use mathlib.Core.Bool.{true, not};
 ghost use Prim.Native.Nat.{_+_, _^_, _≤_, _<_};
 ghost use mathlib.Core.List.{[], map};
 ghost use lib.ListN.{length, getD};
 ghost use Rattle.base.specs.Limits.{mostBytes, mostProperties, mostRows};
 ghost use Rattle.kinds.specs.Kinds.{isKnown};
-ghost use Rattle.table.specs.Table.{cleared, rowsAt};
+ghost use Rattle.table.specs.Table.{rowsAt};
 ghost use Rattle.rules.specs.Table.{lines as allLines};
-ghost use Rattle.rules.specs.Packing.{columnsOf};
+ghost use Rattle.rules.specs.Packing.{columnsOf, linesFrom};
+ghost use Rattle.judge.specs.Missing.{misses};
 ghost use Rattle.judge.specs.Judge.{Bounded};
-ghost use Rattle.format.specs.Rows.{bodyOf};
+ghost use Rattle.format.specs.Rows.{bodyOf, allOwnBytes};
 ghost use Rattle.links.specs.Private.{AllAscending, between, countIn, rowLinked, rowsLinked};
 ghost use Rattle.walk.specs.Walk.{flagsOf};
-ghost use Rattle.reader.specs.declared.Reading.the-variants.{Refused};
-ghost use Rattle.reader.specs.Reading.{judgedWith, ruled, ownKnown, ownUnknown, checked, readingOf, tableAfter, numbersOf, Small};
-ghost use Rattle.reader.specs.Private.{Passed, RowsOk, BonesCounted, hasKind, Noted, continued, JudgedAll, leftIn};
+ghost use Rattle.reader.specs.Reading.{unjudged, judgedWith, ruled, ownUnknown, checked, readingOf, tableAfter, numbersOf, Small};
+ghost use Rattle.reader.specs.Private.{Passed, RowsOk, BonesCounted, hasKind, Noted, unknownBytes, continued, JudgedAll, isAccepted, leftAfter};
 
 mod targets;
 
@@ -50,10 +50,52 @@ fn beside(bones: &[u32], parent: u32) -> u32
     0
 }
 
-// The rules of the node in a row, by all lines and with buffers for what is noted of its properties. An unknown node has none.
+// Whether none of some lines is required.
+fn none_required(lines: &[rules::Columns]) -> bool
+    ensures { λ r. ⌜ r ≡ not (misses (linesFrom (now (lines .entry))) [] []) ⌝ }
+{
+    let mut k: usize = 0;
+    while k < lines.len() {
+        let e = rules::line_in(lines, k);
+        if e.required == rules::columns::REQUIRED {
+            return false;
+        }
+        k += 1;
+    }
+    true
+}
+
+// The own bytes of a row whose node is unknown; 0 of another.
+fn unknown_bytes(row: table::Row, known: bool) -> u64
+    requires { ⌜ known ≡ isKnown (row .kind) ⌝ }
+    ensures { λ r. ⌜ (r ≡ unknownBytes row) × (r < 2 ^ 33) ⌝ }
+{
+    if known {
+        return 0;
+    }
+    let own = format::own_bytes(row);
+    own.0
+}
+
+// What a node has that nothing is to be judged of.
+fn unjudged() -> judge::Judged
+    ensures { λ r. ⌜ r ≡ unjudged ⌝ }
+{
+    judge::Judged {
+        number: 0,
+        place: 0,
+        faces: faces::Faces(0),
+        degenerate: 0,
+        links: 0,
+    }
+}
+
+// The rules of the node in a row, by all lines and with buffers for what is noted of its properties. An unknown node has none, nor has
+// one without properties where none is required.
 fn judge_row(
     file: &[u8],
     row: table::Row,
+    known: bool,
     bones: u32,
     lines: &[rules::Columns],
     starts: &mut [usize; 64],
@@ -61,23 +103,20 @@ fn judge_row(
     marks: &mut [u16; 1024],
     mark: u16,
 ) -> judge::Judged
-    requires row { ⌜ (now lines ≡ map columnsOf allLines) × Passed (now file) row ⌝ }
+    requires row { ⌜ (now lines ≡ map columnsOf allLines) × Passed (now file) row × (known ≡ isKnown (row .kind)) ⌝ }
     requires sizes { ⌜ (length (now starts) ≡ mostProperties) × (length (now numbers) ≡ mostProperties) ⌝ }
     ensures { λ r. ⌜ (r ≡ judgedWith (now (file .entry)) row bones) × Bounded r (length (bodyOf (now (file .entry)) row)) ⌝ }
     ensures noted { λ r. ⌜ (r .number ≡ 0 → isKnown (row .kind) ≡ true → Noted (now (file .entry)) row (now (starts .exit)) (now (numbers .exit))) ⌝ }
     ensures sizes { λ r. ⌜ (length (now (starts .exit)) ≡ mostProperties) × (length (now (numbers .exit)) ≡ mostProperties) ⌝ }
 {
-    if !kinds::known(row.kind) {
-        return judge::Judged {
-            number: 0,
-            place: 0,
-            faces: faces::Faces(0),
-            degenerate: 0,
-            links: 0,
-        };
+    if !known {
+        return unjudged();
+    }
+    let own = rules::lines_of(lines, row.kind);
+    if (row.properties == 0) & none_required(own) {
+        return unjudged();
     }
     let body = format::body_of(file, row);
-    let own = rules::lines_of(lines, row.kind);
     judge::judge(
         row.kind,
         own,
@@ -139,10 +178,12 @@ fn link_row<'a>(
     )
 }
 
-// What the rules and the links of some rows give: links that end before the last row are those of the first that fails.
+// What some rows give: their rules; their links, those that end before the last row being those of the first that fails; and the own
+// bytes of the unknown nodes.
 struct Judgement {
     rules: Ruled,
     links: links::Linked,
+    unknown: u64,
 }
 
 // The rules and the links, row by row: the first link that fails is kept until all rows have passed.
@@ -165,6 +206,7 @@ fn rules_of<'a>(
         (now (file .entry)) (r .links) []
         ≡ rowsLinked (countIn (now (materials .entry)) (now (meshes .entry)) (now (bones .entry)) (now (files .entry)))
         (now (file .entry)) 0 (rowsAt (now (table .entry)) 0 nodes)) ⌝ }
+    ensures unknown { λ r. ⌜ (r .rules .number ≡ 0 → r .unknown ≡ ownUnknown (rowsAt (now (table .entry)) 0 nodes)) ⌝ }
 {
     let table_lines = rules::table();
     let lines: &[rules::Columns] = &table_lines;
@@ -179,12 +221,15 @@ fn rules_of<'a>(
     let mut faces: u64 = 0;
     let mut degenerate: u64 = 0;
     let mut links: u32 = 0;
+    let mut unknown: u64 = 0;
     let mut i: usize = 0;
     while i < nodes {
         let row = table::row_at(table, i);
+        let known = kinds::known(row.kind);
         let j = judge_row(
             file,
             row,
+            known,
             beside(counts, row.parent),
             lines,
             &mut starts,
@@ -204,6 +249,7 @@ fn rules_of<'a>(
                     links,
                 },
                 links: linked,
+                unknown,
             };
         }
         if (linked.number == 0) & (j.links != 0) {
@@ -224,6 +270,7 @@ fn rules_of<'a>(
         faces += more.0;
         degenerate += j.degenerate;
         links += j.links;
+        unknown += unknown_bytes(row, known);
         i += 1;
     }
     Judgement {
@@ -235,6 +282,7 @@ fn rules_of<'a>(
             links,
         },
         links: linked,
+        unknown,
     }
 }
 
@@ -275,6 +323,7 @@ fn rules_among(
         ≡ rowsLinked
         (countIn (between 0 m (now (hashes .entry))) (between m s (now (hashes .entry))) (between s b (now (hashes .entry))) (between b f (now (hashes .entry))))
         (now (file .entry)) 0 (rowsAt (now (table .entry)) 0 nodes)) ⌝ }
+    ensures unknown { λ r. ⌜ (r .rules .number ≡ 0 → r .unknown ≡ ownUnknown (rowsAt (now (table .entry)) 0 nodes)) ⌝ }
 {
     rules_of(
         file,
@@ -291,7 +340,7 @@ fn rules_among(
 // The same, with the hashes sorted first.
 fn rules_by_hashes(file: &[u8], table: &[u32], nodes: usize, counts: &[u32]) -> Judgement
     requires { ⌜ (nodes ≤ mostRows) × RowsOk (now file) (now table) nodes × BonesCounted (now counts) (rowsAt (now table) 0 nodes) ⌝ }
-    ensures { λ r. ⌜ JudgedAll (now (file .entry)) (rowsAt (now (table .entry)) 0 nodes) (r .rules) (r .links) ⌝ }
+    ensures { λ r. ⌜ JudgedAll (now (file .entry)) (rowsAt (now (table .entry)) 0 nodes) (r .rules) (r .links) (r .unknown) ⌝ }
 {
     let mut hashes = [0u64; base::MOST_ROWS];
     let m = targets::collect(table, nodes, kinds::MATERIAL, &mut hashes, 0);
@@ -326,7 +375,7 @@ fn any_looks_linked(table: &[u32], nodes: usize) -> bool {
 // them where that was wrong.
 fn rules_beside(file: &[u8], table: &[u32], nodes: usize, bones: &[u32]) -> Judgement
     requires { ⌜ (nodes ≤ mostRows) × RowsOk (now file) (now table) nodes × BonesCounted (now bones) (rowsAt (now table) 0 nodes) ⌝ }
-    ensures { λ r. ⌜ JudgedAll (now (file .entry)) (rowsAt (now (table .entry)) 0 nodes) (r .rules) (r .links) ⌝ }
+    ensures { λ r. ⌜ JudgedAll (now (file .entry)) (rowsAt (now (table .entry)) 0 nodes) (r .rules) (r .links) (r .unknown) ⌝ }
 {
     if any_looks_linked(table, nodes) {
         return rules_by_hashes(file, table, nodes, bones);
@@ -344,13 +393,14 @@ fn rules_beside(file: &[u8], table: &[u32], nodes: usize, bones: &[u32]) -> Judg
             place: 0,
             links: 0,
         },
+        unknown: j.unknown,
     }
 }
 
 // The rules of rows of which some are Bones, which are counted first.
 fn rules_with_bones(file: &[u8], table: &[u32], nodes: usize) -> Judgement
     requires { ⌜ (nodes ≤ mostRows) × RowsOk (now file) (now table) nodes ⌝ }
-    ensures { λ r. ⌜ JudgedAll (now (file .entry)) (rowsAt (now (table .entry)) 0 nodes) (r .rules) (r .links) ⌝ }
+    ensures { λ r. ⌜ JudgedAll (now (file .entry)) (rowsAt (now (table .entry)) 0 nodes) (r .rules) (r .links) (r .unknown) ⌝ }
 {
     let mut bones = [0u32; base::MOST_ROWS];
     table::count_under(table, nodes, table::Which::OfKind(kinds::BONE), &mut bones);
@@ -360,7 +410,7 @@ fn rules_with_bones(file: &[u8], table: &[u32], nodes: usize) -> Judgement
 // The rules of all rows. Without Bones none are counted, and none are beside a node.
 fn all_rules(file: &[u8], table: &[u32], nodes: usize) -> Judgement
     requires { ⌜ (nodes ≤ mostRows) × RowsOk (now file) (now table) nodes ⌝ }
-    ensures { λ r. ⌜ JudgedAll (now (file .entry)) (rowsAt (now (table .entry)) 0 nodes) (r .rules) (r .links) ⌝ }
+    ensures { λ r. ⌜ JudgedAll (now (file .entry)) (rowsAt (now (table .entry)) 0 nodes) (r .rules) (r .links) (r .unknown) ⌝ }
 {
     if has_kind(table, nodes, kinds::BONE) {
         return rules_with_bones(file, table, nodes);
@@ -369,76 +419,64 @@ fn all_rules(file: &[u8], table: &[u32], nodes: usize) -> Judgement
     rules_beside(file, table, nodes, &none[..0])
 }
 
-// ---- charges
-
-// The own bytes of known and of unknown nodes.
-struct Own {
-    known: format::OwnBytes,
-    unknown: format::OwnBytes,
-}
-
-fn own_of(table: &[u32], nodes: usize) -> Own
-    requires { ⌜ nodes ≤ mostRows ⌝ }
-    ensures known { λ r. ⌜ r .known .0 ≡ ownKnown (rowsAt (now (table .entry)) 0 nodes) ⌝ }
-    ensures unknown { λ r. ⌜ r .unknown .0 ≡ ownUnknown (rowsAt (now (table .entry)) 0 nodes) ⌝ }
-{
-    let mut known: u64 = 0;
-    let mut unknown: u64 = 0;
-    let mut i: usize = 0;
-    while i < nodes {
-        let row = table::row_at(table, i);
-        let own = format::own_bytes(row);
-        if kinds::known(row.kind) {
-            known += own.0;
-        } else {
-            unknown += own.0;
-        }
-        i += 1;
-    }
-    Own {
-        known: format::OwnBytes(known),
-        unknown: format::OwnBytes(unknown),
-    }
-}
-
 // ---- the answer
 
-// A refusal, which clears the rows.
-fn refuse_and_clear(number: u32, place: u32, rows: &mut [u32]) -> Reading
-    ensures { λ r. ⌜ (r ≡ Refused number place) × (now (rows .exit) ≡ cleared (now (rows .entry))) ⌝ }
-{
-    table::clear(rows);
-    Reading::Refused { number, place }
-}
-
-// 13 to 17 of a file that was walked, its rows being the first of the table.
-fn checked(file: &[u8], table: &mut [u32], nodes: u32, flags: u32) -> Reading
+// 13 to 17 of a file that was walked, its rows being the first of the table. The own bytes of its nodes and 16 are its length.
+fn checked(file: &[u8], table: &[u32], nodes: u32, flags: u32) -> Reading
     requires { ⌜ (nodes ≤ mostRows) × RowsOk (now file) (now table) nodes × (length (now file) ≤ mostBytes) × (flags ≡ flagsOf (now file)) ⌝ }
-    ensures result { λ r. ⌜ r ≡ checked (now (file .entry)) (rowsAt (now (table .entry)) 0 nodes) ⌝ }
-    ensures table { λ r. ⌜ now (table .exit) ≡ leftIn r (now (table .entry)) ⌝ }
+    requires own { ⌜ 16 + allOwnBytes (rowsAt (now table) 0 nodes) ≡ length (now file) ⌝ }
+    ensures { λ r. ⌜ r ≡ checked (now (file .entry)) (rowsAt (now (table .entry)) 0 nodes) ⌝ }
 {
-    let n = nodes as usize;
-    let judged = all_rules(file, table, n);
+    let judged = all_rules(file, table, nodes as usize);
     let rules = judged.rules;
     if rules.number != 0 {
-        return refuse_and_clear(rules.number, rules.place as u32, table);
+        let place = rules.place as u32;
+        return Reading::Refused {
+            number: rules.number,
+            place,
+        };
     }
     let links = judged.links;
     if links.number != 0 {
-        return refuse_and_clear(links.number, links.place as u32, table);
+        let place = links.place as u32;
+        return Reading::Refused {
+            number: links.number,
+            place,
+        };
     }
-    let own = own_of(table, n);
-    let known = own.known;
-    let unknown = own.unknown;
+    let unknown = judged.unknown;
+    let known = file.len() as u64 - 16 - unknown;
     Reading::Accepted(Account {
         nodes,
         flags,
-        known,
-        unknown,
+        known: format::OwnBytes(known),
+        unknown: format::OwnBytes(unknown),
         faces: faces::Faces(rules.faces),
         degenerate: rules.degenerate,
         links: links.links,
     })
+}
+
+fn is_accepted(r: Reading) -> bool
+    ensures { λ q. ⌜ q ≡ isAccepted r ⌝ }
+{
+    match r {
+        Reading::Accepted(_) => true,
+        Reading::Refused { .. } => false,
+    }
+}
+
+// Hands an answer on, and leaves the rows of an accepted file alone in the table, of a refused one none.
+fn leave(r: Reading, table: &mut [u32], nodes: usize) -> Reading
+    ensures result { λ q. ⌜ q ≡ r ⌝ }
+    ensures table { λ q. ⌜ now (table .exit) ≡ leftAfter r nodes (now (table .entry)) ⌝ }
+{
+    if is_accepted(r) {
+        table::clear_from(table, nodes);
+        return r;
+    }
+    table::clear(table);
+    r
 }
 
 // Reads a file, and puts its rows into the table: zeros after them up to 8,192 numbers, and zeros alone on a refusal. A
@@ -457,8 +495,12 @@ pub fn read(file: &[u8], table: &mut [u32]) -> Reading
     }
     let w = walk::walk(file, table);
     if w.number != 0 {
-        return refuse_and_clear(w.number, w.place, table);
+        table::clear(table);
+        return Reading::Refused {
+            number: w.number,
+            place: w.place,
+        };
     }
-    table::clear_from(table, w.nodes as usize);
-    checked(file, table, w.nodes, w.flags)
+    let r = checked(file, table, w.nodes, w.flags);
+    leave(r, table, w.nodes as usize)
 }

@@ -32,7 +32,7 @@ returns-3 c =
     let r = c .before .before .before in
     let a = r .before .before .before .before .before .before .before .args in
     let x = r .rules-among .ensures in
-    none-judged (a .file .now) (rowsAt (a .table .now) 0 (a .nodes)) (x .0) (x .1 .0) (c .if2 .left)
+    none-judged (a .file .now) (rowsAt (a .table .now) 0 (a .nodes)) (x .0) (x .1 .0) (x .1 .1 .1) (c .if2 .left)
 
 pub rules-beside-spec : {M : Type 1} → statement M
 rules-beside-spec =

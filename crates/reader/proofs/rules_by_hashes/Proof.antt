@@ -110,7 +110,7 @@ returns c =
     let a = start r .args in
     let counts = counts-reached (rows r) _ _ _ _ (h .materials .same) (h .meshes .same) (h .bones .same) (h .files .same) in
     let x = c .rules-among .ensures in
-    all-judged (a .file .now) (rows r) (x .0) (x .1 .0) _ (x .1 .1) (linked-by _ (rows r) counts (a .file .now))
+    all-judged (a .file .now) (rows r) (x .0) (x .1 .0) (x .1 .1 .1) _ (x .1 .1 .0) (linked-by _ (rows r) counts (a .file .now))
 
 pub rules-by-hashes-spec : {M : Type 1} → statement M
 rules-by-hashes-spec =

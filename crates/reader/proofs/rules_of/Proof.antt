@@ -5,18 +5,19 @@ use mathlib.Core.Path.{_≡_, sym, ap, _∙_, subst}
 use mathlib.Core.Logic.{⊎-elim}
 use lib.ListN.{length}
 use Rattle.table.specs.Table.{rowAt, rowsAt}
-use Rattle.reader.specs.Reading.{bonesUnder, ruled}
+use Rattle.reader.specs.Reading.{bonesUnder, ruled, ownUnknown}
 use Rattle.links.specs.Private.{Count, countIn, rowsLinked}
 use Rattle.reader.specs.Private.{Passed, continued}
 use Rattle.table.proofs.Rests.{rest}
 use Rattle.reader.proofs.Loops.{onTop, row-place, rules-begun, rules-refused, rules-passed, rules-ended}
 use Rattle.reader.proofs.Linking.{linked-known, looked-at, passed-over, links-begun, links-ended, links-linked, links-kept}
+use Rattle.reader.proofs.Bare.{unknown-begun, unknown-passed, unknown-ended}
 use borrow.Author.Needs.{needs}
 use Rattle.reader.proofs.rules_of.Statement.{statement}
 use Rattle.reader.proofs.rules_of.Tie as tie
 
 abbrev Inv-loop : tie.InvT-loop
-Inv-loop file table nodes counts materials meshes bones files lines starts₀ numbers₀ marks₀ linked₀ faces₀ degenerate₀ links₀ i₀ starts numbers marks linked faces degenerate links i =
+Inv-loop file table nodes counts materials meshes bones files lines starts₀ numbers₀ marks₀ linked₀ faces₀ degenerate₀ links₀ unknown₀ i₀ starts numbers marks linked faces degenerate links unknown i =
     (i ≤ nodes) × (faces ≤ i * 274877906944) × (degenerate ≤ i * 274877906944) × (links ≤ i * 64)
     × (onTop faces degenerate links (ruled file (rowsAt table 0 nodes) (rest table nodes i))
     ≡ ruled file (rowsAt table 0 nodes) (rowsAt table 0 nodes))
@@ -24,9 +25,10 @@ Inv-loop file table nodes counts materials meshes bones files lines starts₀ nu
     × (continued (countIn materials meshes bones files) file linked (rest table nodes i)
     ≡ rowsLinked (countIn materials meshes bones files) file 0 (rowsAt table 0 nodes))
     × (length starts ≡ 64) × (length numbers ≡ 64)
+    × (unknown ≤ i * 8589934592) × (unknown + ownUnknown (rest table nodes i) ≡ ownUnknown (rowsAt table 0 nodes))
 
 abbrev μ-loop : tie.MeasureT-loop
-μ-loop file table nodes counts materials meshes bones files lines starts₀ numbers₀ marks₀ linked₀ faces₀ degenerate₀ links₀ i₀ starts numbers marks linked faces degenerate links i = nodes - i
+μ-loop file table nodes counts materials meshes bones files lines starts₀ numbers₀ marks₀ linked₀ faces₀ degenerate₀ links₀ unknown₀ i₀ starts numbers marks linked faces degenerate links unknown i = nodes - i
 
 table-requires : tie.Need-table-requires Inv-loop μ-loop
 table-requires c κs = search needs
@@ -36,10 +38,13 @@ slice-aggregate-lines c = search needs
 
 loop-holds : tie.Need-loop-holds Inv-loop μ-loop
 loop-holds c =
-    (omega arith, omega arith, omega arith, omega arith, rules-begun _ _ _, omega arith, links-begun _ _ _ _, omega arith, omega arith)
+    (omega arith, omega arith, omega arith, omega arith, rules-begun _ _ _, omega arith, links-begun _ _ _ _, omega arith, omega arith, omega arith, unknown-begun _ _)
 
 row-at-requires : tie.Need-row-at-requires Inv-loop μ-loop
 row-at-requires c κs = search needs
+
+known-requires : tie.Need-known-requires Inv-loop μ-loop
+known-requires c κs = search needs
 
 beside-requires : tie.Need-beside-requires Inv-loop μ-loop
 beside-requires c κs = search needs
@@ -47,7 +52,7 @@ beside-requires c κs = search needs
 -- where a row is judged: the row, the loop's test, the loop and the start
 module _ (m : tie.After-marks Inv-loop μ-loop) where
   abbrev row : tie.After-row-at Inv-loop μ-loop
-  row = m .before .before .before .before
+  row = m .before .before .before .before .before
 
   abbrev turn : tie.In-loop Inv-loop μ-loop
   turn = row .before
@@ -82,6 +87,7 @@ judge-row-requires c κs =
       (
         l .before .before .table .ensures,
         subst (Passed (s .args .file .now)) (sym is) (s .pre .1 (l .loop .i) (turn c .loop-test .taken) .passed),
+        c .before .before .before .before .known .ensures,
       ),
       (l .loop .inv .7, l .loop .inv .8),
     )
@@ -107,7 +113,7 @@ returns c =
     let m = j .before in
     let says = rules-refused _ _ _ _ _ _ _ (turn m .loop-test .taken) (row m .row-at .ensures) (beside-counted m) (j .judge-row .ensures .0 .0)
     (c .before .if1 .taken) in
-    (sym says ∙ at-loop m .loop .inv .4, (omega (arith, place j .1), λ z. absurd (c .before .if1 .taken z)))
+    (sym says ∙ at-loop m .loop .inv .4, (omega (arith, place j .1), (λ z. absurd (c .before .if1 .taken z), λ z. absurd (c .before .if1 .taken z))))
 
 -- a row that passed
 module _ (e : tie.After-struct-known5 Inv-loop μ-loop) where
@@ -154,17 +160,25 @@ add-links c =
     let j = judged (c .before .before .before .before .before) in
     omega (arith, few (j .before), at-loop (j .before) .loop .inv .3, j .judge-row .ensures .0 .1 .links)
 
+unknown-bytes-requires : tie.Need-unknown-bytes-requires Inv-loop μ-loop
+unknown-bytes-requires c κs = judged (c .before .before .before .before .before) .before .before .before .before .before .known .ensures
+
+add-unknown : tie.Need-add-unknown Inv-loop μ-loop
+add-unknown c =
+    let m = judged (c .before .before .before .before .before .before) .before in
+    omega (arith, few m, at-loop m .loop .inv .9, c .unknown-bytes .ensures .1)
+
 add-i : tie.Need-add-i Inv-loop μ-loop
-add-i c = omega (arith, few (judged (c .before .before .before .before .before) .before))
+add-i c = omega (arith, few (judged (c .before .before .before .before .before .before) .before))
 
 loop-less : tie.Need-loop-less Inv-loop μ-loop
 loop-less c =
-    let m = judged (c .before .before .before .before .before) .before in
+    let m = judged (c .before .before .before .before .before .before) .before in
     omega (arith, turn m .loop-test .taken)
 
 loop-again : tie.Need-loop-again Inv-loop μ-loop
 loop-again c =
-    let n = c .before .before .before .before in
+    let n = c .before .before .before .before .before in
     let e = n .before in
     let j = judged e in
     let m = j .before in
@@ -192,6 +206,8 @@ loop-again c =
           came ∙ l .6,
       j .judge-row .ensures .1 .1 .0,
       j .judge-row .ensures .1 .1 .1,
+      omega (arith, l .9, c .unknown-bytes .ensures .1),
+      unknown-passed (a .table .now) (a .nodes) i here is (at-loop m .loop .unknown) (c .unknown-bytes .ensures .0) ∙ l .10,
     )
 
 returns-2 : tie.Need-returns-2 Inv-loop μ-loop
@@ -201,7 +217,7 @@ returns-2 c =
     let end = c .loop-test .left in
     let count = countIn (a .materials .now) (a .meshes .now) (a .bones .now) (a .files .now) in
     let ended = links-ended count (a .file .now) (a .table .now) (a .nodes) (l .loop .i) (l .loop .linked) end in
-    (sym (rules-ended _ _ _ _ _ _ _ end) ∙ l .loop .inv .4, (omega arith, λ z. sym ended ∙ l .loop .inv .6))
+    (sym (rules-ended _ _ _ _ _ _ _ end) ∙ l .loop .inv .4, (omega arith, (λ z. sym ended ∙ l .loop .inv .6, λ z. unknown-ended (a .table .now) (a .nodes) (l .loop .i) end ∙ l .loop .inv .10)))
 
 pub rules-of-spec : {M : Type 1} → statement M
 rules-of-spec =
@@ -213,6 +229,7 @@ rules-of-spec =
     slice-aggregate-lines
     loop-holds
     row-at-requires
+    known-requires
     beside-requires
     add-judge-row
     cast-judge-row
@@ -227,6 +244,8 @@ rules-of-spec =
     add-faces
     add-degenerate
     add-links
+    unknown-bytes-requires
+    add-unknown
     add-i
     loop-less
     loop-again
