@@ -2,40 +2,21 @@
 use Prim.Native.Nat.{ℕ, _+_, _-_, _≤_, _<_}
 use native.Mathlib.Nat.{zero-add, add-zero, add-assoc}
 use native.Mathlib.Omega.{arith}
-use mathlib.Core.Path.{_≡_, refl, _∙_}
-use mathlib.Core.Bool.{true, false}
+use mathlib.Core.Path.{_≡_, _∙_}
 use mathlib.Core.List.{List}
 use lib.ListN.{length}
 use Rattle.base.specs.Refusals.{refusedOr}
 use Rattle.base.proofs.Refusals.{is-refused}
-use Rattle.kinds.specs.Kinds.{isKnown}
 use Rattle.table.specs.declared.Row.{Row}
 use Rattle.table.specs.Table.{rowAt, rowsAt}
 use Rattle.table.proofs.Rests.{rest, rest-all, rest-more, rest-none}
 use Rattle.judge.specs.declared.Judged.{Judged}
 use Rattle.judge.specs.Judge.{Bounded}
-use Rattle.format.specs.Rows.{ownBytes, bodyOf}
+use Rattle.format.specs.Rows.{bodyOf}
 use Rattle.format.proofs.Rows.{body-length}
 use Rattle.reader.specs.declared.Ruled.{Ruled}
-use Rattle.reader.specs.Reading.{bonesUnder, judgedWith, counted, uncounted, ruled, ownKnown, ownUnknown}
+use Rattle.reader.specs.Reading.{bonesUnder, judgedWith, counted, uncounted, ruled}
 use Rattle.reader.specs.Private.{RowOk, RowsOk}
-
--- ---- own bytes
-module _ (t : List ℕ) (n i : ℕ) where
-  module _ (h : i < n) {r : Row} {own : ℕ} (e : r ≡ rowAt t i) (f : own ≡ ownBytes r) where
-    pub own-known : isKnown (r .kind) ≡ true
-        → (ownKnown (rest t n i) ≡ own + ownKnown (rest t n (i + 1))) × (ownUnknown (rest t n i) ≡ ownUnknown (rest t n (i + 1)))
-    unfolding ownKnown ownUnknown
-    own-known k = rw (rest-more t n i h, ← e, k, f) (refl, refl)
-
-    pub own-unknown : isKnown (r .kind) ≡ false
-        → (ownKnown (rest t n i) ≡ ownKnown (rest t n (i + 1))) × (ownUnknown (rest t n i) ≡ own + ownUnknown (rest t n (i + 1)))
-    unfolding ownKnown ownUnknown
-    own-unknown k = rw (rest-more t n i h, ← e, k, f) (refl, refl)
-
-  pub own-ended : n ≤ i → (ownKnown (rest t n i) ≡ 0) × (ownUnknown (rest t n i) ≡ 0)
-  unfolding ownKnown ownUnknown
-  own-ended h = rw (rest-none t n i h) (refl, refl)
 
 -- ---- rules
 

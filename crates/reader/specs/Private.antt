@@ -1,18 +1,19 @@
 -- What private functions promise each other; nothing here need be believed.
-use Prim.Native.Nat.{ℕ, _≤_, _<_}
+use Prim.Native.Nat.{ℕ, _+_, _-_, _*_, _^_, _≤_, _<_}
 use mathlib.Core.Path.{_≡_}
-use mathlib.Core.Bool.{Bool, true, false, cond, _||_}
+use mathlib.Core.Bool.{Bool, true, false, cond, not, _&&_, _||_}
 use mathlib.Core.List.{List, [], _∷_, map}
 use lib.Dec.{eqb}
 use lib.ListN.{length, take, getD}
 use Rattle.kinds.specs.Kinds.{bone, isKnown}
 use Rattle.table.specs.declared.Row.{Row}
-use Rattle.table.specs.Table.{rowAt, cleared, clearedFrom}
+use Rattle.table.specs.Table.{rowAt, rowsAt, cleared, clearedFrom}
 use Rattle.body.specs.Body.{properties}
 use Rattle.format.specs.Rows.{bodyOf, ownBytes}
 use Rattle.base.specs.Refusals.{refusedOr}
 use Rattle.rules.specs.Rules.{linesOf}
 use Rattle.judge.specs.Properties.{lineNumber}
+use Rattle.judge.specs.Missing.{misses}
 use Rattle.links.specs.declared.Linked.{Linked}
 use Rattle.links.specs.Private.{Count, rowsLinked}
 use Rattle.links.specs.Links.{acceptedLinks, linked}
@@ -57,6 +58,19 @@ leftAfter (Refused m place) n t = cleared t
 -- the own bytes of an unknown row
 abbrev pub unknownBytes : Row → ℕ
 unknownBytes r = cond (isKnown (r .kind)) 0 (ownBytes r)
+
+-- a row that has rules: of a known node, with properties or with one that is required
+abbrev pub isJudged : Row → Bool
+isJudged r = isKnown (r .kind) && (not (eqb (r .properties) 0) || misses (linesOf (r .kind)) [] [])
+
+-- of n rows of a table, those from one on up to the next that is judged, or all of them
+pub record Skips (t : List ℕ) (n from before to unknown : ℕ) : Type 0 where
+  pub onward : from ≤ to
+  pub within : to ≤ n
+  pub unjudged : (i : ℕ) → from ≤ i → i < to → isJudged (rowAt t i) ≡ false
+  pub judged : to < n → isJudged (rowAt t to) ≡ true
+  pub bytes : unknown + ownUnknown (rowsAt t to (n - to)) ≡ before + ownUnknown (rowsAt t from (n - from))
+  pub small : unknown ≤ to * 2 ^ 33
 
 -- what a judgement notes of a known row: where its properties start, and their lines
 pub record NotedIs (s : List ℕ) (r : Row) (starts numbers : List ℕ) : Type 0 where

@@ -1,6 +1,6 @@
 // The reader: refusals 1 to 17 in order, the rows in the lent table, and the charges.
 ghost use mathlib.Core.Path.{_≡_};
-ghost use mathlib.Core.Bool.{true, not};
+ghost use mathlib.Core.Bool.{true};
 ghost use Prim.Native.Nat.{_+_, _^_, _≤_, _<_};
 ghost use mathlib.Core.List.{[], map};
 ghost use lib.ListN.{length, getD};
@@ -8,16 +8,16 @@ ghost use Rattle.base.specs.Limits.{mostBytes, mostProperties, mostRows};
 ghost use Rattle.kinds.specs.Kinds.{isKnown};
 ghost use Rattle.table.specs.Table.{rowsAt};
 ghost use Rattle.rules.specs.Table.{lines as allLines};
-ghost use Rattle.rules.specs.Packing.{columnsOf, linesFrom};
-ghost use Rattle.judge.specs.Missing.{misses};
+ghost use Rattle.rules.specs.Packing.{columnsOf};
 ghost use Rattle.judge.specs.Judge.{Bounded};
 ghost use Rattle.format.specs.Rows.{bodyOf, allOwnBytes};
 ghost use Rattle.links.specs.Private.{AllAscending, between, countIn, rowLinked, rowsLinked};
 ghost use Rattle.walk.specs.Walk.{flagsOf};
-ghost use Rattle.reader.specs.Reading.{unjudged, judgedWith, ruled, ownUnknown, checked, readingOf, tableAfter, numbersOf, Small};
-ghost use Rattle.reader.specs.Private.{Passed, RowsOk, BonesCounted, hasKind, Noted, unknownBytes, continued, JudgedAll, isAccepted, leftAfter};
+ghost use Rattle.reader.specs.Reading.{judgedWith, ruled, ownUnknown, checked, readingOf, tableAfter, numbersOf, Small};
+ghost use Rattle.reader.specs.Private.{Passed, RowsOk, BonesCounted, hasKind, Noted, continued, JudgedAll, isAccepted, leftAfter};
 
 mod targets;
+mod unjudged;
 
 // What is answered of an accepted file: its nodes and flags; the own bytes of its known and of its unknown nodes; its
 // faces, and how many of them are degenerate; its links.
@@ -50,73 +50,28 @@ fn beside(bones: &[u32], parent: u32) -> u32
     0
 }
 
-// Whether none of some lines is required.
-fn none_required(lines: &[rules::Columns]) -> bool
-    ensures { λ r. ⌜ r ≡ not (misses (linesFrom (now (lines .entry))) [] []) ⌝ }
-{
-    let mut k: usize = 0;
-    while k < lines.len() {
-        let e = rules::line_in(lines, k);
-        if e.required == rules::columns::REQUIRED {
-            return false;
-        }
-        k += 1;
-    }
-    true
-}
-
-// The own bytes of a row whose node is unknown; 0 of another.
-fn unknown_bytes(row: table::Row, known: bool) -> u64
-    requires { ⌜ known ≡ isKnown (row .kind) ⌝ }
-    ensures { λ r. ⌜ (r ≡ unknownBytes row) × (r < 2 ^ 33) ⌝ }
-{
-    if known {
-        return 0;
-    }
-    let own = format::own_bytes(row);
-    own.0
-}
-
-// What a node has that nothing is to be judged of.
-fn unjudged() -> judge::Judged
-    ensures { λ r. ⌜ r ≡ unjudged ⌝ }
-{
-    judge::Judged {
-        number: 0,
-        place: 0,
-        faces: faces::Faces(0),
-        degenerate: 0,
-        links: 0,
-    }
-}
-
-// The rules of the node in a row, by all lines and with buffers for what is noted of its properties. An unknown node has none, nor has
-// one without properties where none is required.
+// The rules of the node in a row, which is known, by all lines, by the Bones under each row, and with buffers for what is noted of its
+// properties.
 fn judge_row(
     file: &[u8],
     row: table::Row,
-    known: bool,
-    bones: u32,
+    counts: &[u32],
     lines: &[rules::Columns],
     starts: &mut [usize; 64],
     numbers: &mut [usize; 64],
     marks: &mut [u16; 1024],
     mark: u16,
 ) -> judge::Judged
-    requires row { ⌜ (now lines ≡ map columnsOf allLines) × Passed (now file) row × (known ≡ isKnown (row .kind)) ⌝ }
+    requires row { ⌜ (now lines ≡ map columnsOf allLines) × Passed (now file) row × (isKnown (row .kind) ≡ true) ⌝ }
     requires sizes { ⌜ (length (now starts) ≡ mostProperties) × (length (now numbers) ≡ mostProperties) ⌝ }
-    ensures { λ r. ⌜ (r ≡ judgedWith (now (file .entry)) row bones) × Bounded r (length (bodyOf (now (file .entry)) row)) ⌝ }
-    ensures noted { λ r. ⌜ (r .number ≡ 0 → isKnown (row .kind) ≡ true → Noted (now (file .entry)) row (now (starts .exit)) (now (numbers .exit))) ⌝ }
+    ensures { λ r. ⌜ (r ≡ judgedWith (now (file .entry)) row (getD (now (counts .entry)) (row .parent) 0))
+        × Bounded r (length (bodyOf (now (file .entry)) row)) ⌝ }
+    ensures noted { λ r. ⌜ (r .number ≡ 0 → Noted (now (file .entry)) row (now (starts .exit)) (now (numbers .exit))) ⌝ }
     ensures sizes { λ r. ⌜ (length (now (starts .exit)) ≡ mostProperties) × (length (now (numbers .exit)) ≡ mostProperties) ⌝ }
 {
-    if !known {
-        return unjudged();
-    }
-    let own = rules::lines_of(lines, row.kind);
-    if (row.properties == 0) & none_required(own) {
-        return unjudged();
-    }
     let body = format::body_of(file, row);
+    let own = rules::lines_of(lines, row.kind);
+    let bones = beside(counts, row.parent);
     judge::judge(
         row.kind,
         own,
@@ -186,7 +141,7 @@ struct Judgement {
     unknown: u64,
 }
 
-// The rules and the links, row by row: the first link that fails is kept until all rows have passed.
+// The rules and the links, row by row of those that have any: the first link that fails is kept until all rows have passed.
 fn rules_of<'a>(
     file: &[u8],
     table: &[u32],
@@ -221,16 +176,14 @@ fn rules_of<'a>(
     let mut faces: u64 = 0;
     let mut degenerate: u64 = 0;
     let mut links: u32 = 0;
-    let mut unknown: u64 = 0;
-    let mut i: usize = 0;
-    while i < nodes {
+    let mut next = unjudged::skip(table, nodes, 0, lines, 0);
+    while next.row < nodes {
+        let i = next.row;
         let row = table::row_at(table, i);
-        let known = kinds::known(row.kind);
         let j = judge_row(
             file,
             row,
-            known,
-            beside(counts, row.parent),
+            counts,
             lines,
             &mut starts,
             &mut numbers,
@@ -249,7 +202,7 @@ fn rules_of<'a>(
                     links,
                 },
                 links: linked,
-                unknown,
+                unknown: next.unknown,
             };
         }
         if (linked.number == 0) & (j.links != 0) {
@@ -270,8 +223,7 @@ fn rules_of<'a>(
         faces += more.0;
         degenerate += j.degenerate;
         links += j.links;
-        unknown += unknown_bytes(row, known);
-        i += 1;
+        next = unjudged::skip(table, nodes, i + 1, lines, next.unknown);
     }
     Judgement {
         rules: Ruled {
@@ -282,7 +234,7 @@ fn rules_of<'a>(
             links,
         },
         links: linked,
-        unknown,
+        unknown: next.unknown,
     }
 }
 

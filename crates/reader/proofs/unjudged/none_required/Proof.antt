@@ -1,4 +1,4 @@
--- `reader::none_required`: what the lines from k on say is what all say.
+-- `reader::unjudged::none_required`: what the lines from k on say is what all say.
 use Prim.Native.Nat.{_+_, _-_, _≤_, _<_}
 use native.Mathlib.Omega.{arith}
 use mathlib.Core.Path.{_≡_, refl, sym, ap, _∙_}
@@ -10,8 +10,8 @@ use Rattle.rules.specs.Packing.{lineOf, lineFrom, linesFrom}
 use Rattle.judge.specs.Missing.{isMissing, misses}
 use Rattle.judge.proofs.Presence.{next, ended, not-missing}
 use Rattle.reader.proofs.Bare.{missing-bare}
-use Rattle.reader.proofs.none_required.Statement.{statement}
-use Rattle.reader.proofs.none_required.Tie as tie
+use Rattle.reader.proofs.unjudged.none_required.Statement.{statement}
+use Rattle.reader.proofs.unjudged.none_required.Tie as tie
 
 abbrev Inv-loop : tie.InvT-loop
 Inv-loop lines k₀ k = (k ≤ length lines) × (misses (drop k (linesFrom lines)) [] [] ≡ misses (linesFrom lines) [] [])

@@ -1,11 +1,11 @@
--- `reader::unknown_bytes`: by whether the kind is known.
+-- `reader::unjudged::unknown_bytes`: by whether the kind is known.
 use native.Mathlib.Omega.{arith}
 use mathlib.Core.Path.{sym, _∙_}
 use borrow.Author.Needs.{needs}
 use borrow.Author.Tests.{not-true, not-false}
 use Rattle.reader.proofs.Bare.{bytes-known, bytes-unknown}
-use Rattle.reader.proofs.unknown_bytes.Statement.{statement}
-use Rattle.reader.proofs.unknown_bytes.Tie as tie
+use Rattle.reader.proofs.unjudged.unknown_bytes.Statement.{statement}
+use Rattle.reader.proofs.unjudged.unknown_bytes.Tie as tie
 
 returns : tie.Need-returns
 returns c = let s = c .before in (bytes-known (s .args .row) (sym (s .pre) ∙ c .if1 .taken), omega arith)

@@ -1,0 +1,85 @@
+// Rows of which nothing is judged: unknown nodes, and nodes without properties where none is required.
+ghost use mathlib.Core.Path.{_≡_};
+ghost use mathlib.Core.Bool.{true, not};
+ghost use mathlib.Core.List.{[], map};
+ghost use Prim.Native.Nat.{_+_, _*_, _^_, _≤_, _<_};
+ghost use Rattle.base.specs.Limits.{mostRows};
+ghost use Rattle.kinds.specs.Kinds.{isKnown};
+ghost use Rattle.table.specs.Table.{rowsAt};
+ghost use Rattle.rules.specs.Table.{lines as allLines};
+ghost use Rattle.rules.specs.Packing.{columnsOf, linesFrom};
+ghost use Rattle.judge.specs.Missing.{misses};
+ghost use Rattle.reader.specs.Private.{isJudged, unknownBytes, Skips};
+
+// Whether none of some lines is required.
+fn none_required(lines: &[rules::Columns]) -> bool
+    ensures { λ r. ⌜ r ≡ not (misses (linesFrom (now (lines .entry))) [] []) ⌝ }
+{
+    let mut k: usize = 0;
+    while k < lines.len() {
+        let e = rules::line_in(lines, k);
+        if e.required == rules::columns::REQUIRED {
+            return false;
+        }
+        k += 1;
+    }
+    true
+}
+
+// Whether the node in a row has rules.
+fn is_judged(row: table::Row, known: bool, lines: &[rules::Columns]) -> bool
+    requires { ⌜ (known ≡ isKnown (row .kind)) × (now lines ≡ map columnsOf allLines) ⌝ }
+    ensures { λ r. ⌜ r ≡ isJudged row ⌝ }
+{
+    if !known {
+        return false;
+    }
+    if row.properties != 0 {
+        return true;
+    }
+    !none_required(rules::lines_of(lines, row.kind))
+}
+
+// The own bytes of a row whose node is unknown; 0 of another.
+fn unknown_bytes(row: table::Row, known: bool) -> u64
+    requires { ⌜ known ≡ isKnown (row .kind) ⌝ }
+    ensures { λ r. ⌜ (r ≡ unknownBytes row) × (r < 2 ^ 33) ⌝ }
+{
+    if known {
+        return 0;
+    }
+    let own = format::own_bytes(row);
+    own.0
+}
+
+// A row, and the own bytes of the unknown nodes before it.
+pub(crate) struct Next {
+    pub row: usize,
+    pub unknown: u64,
+}
+
+// The next row from one on that is judged, or the number of all; with the own bytes of the unknown nodes before it, by those before the one.
+pub(crate) fn skip(
+    table: &[u32],
+    nodes: usize,
+    from: usize,
+    lines: &[rules::Columns],
+    before: u64,
+) -> Next
+    requires rows { ⌜ (from ≤ nodes) × (nodes ≤ mostRows) × (before ≤ from * 2 ^ 33) ⌝ }
+    requires lines { ⌜ now lines ≡ map columnsOf allLines ⌝ }
+    ensures { λ r. ⌜ Skips (now (table .entry)) nodes from before (r .row) (r .unknown) ⌝ }
+{
+    let mut unknown = before;
+    let mut i = from;
+    while i < nodes {
+        let row = table::row_at(table, i);
+        let known = kinds::known(row.kind);
+        if is_judged(row, known, lines) {
+            return Next { row: i, unknown };
+        }
+        unknown += unknown_bytes(row, known);
+        i += 1;
+    }
+    Next { row: i, unknown }
+}
