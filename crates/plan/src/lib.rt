@@ -69,7 +69,7 @@ fn row_refusal(
 }
 
 // The rows in turn.
-fn judge_rows(plan: &[u32], rows: usize, source: &[u8], counts: &[u32]) -> base::Refusal
+fn judge_rows(plan: &[u32], rows: usize, source: &[u8], counts: &[u16]) -> base::Refusal
     requires { ⌜ (rows ≤ mostRows) × (length (now counts) ≡ mostRows) × NamingCounted (now counts) (rowsAt (now plan) 0 rows) ⌝ }
     ensures { λ r. ⌜ (r ≡ planRefusal (now (source .entry)) (rowsAt (now (plan .entry)) 0 rows)) × (r .place < mostRows) ⌝ }
 {
@@ -79,7 +79,8 @@ fn judge_rows(plan: &[u32], rows: usize, source: &[u8], counts: &[u32]) -> base:
     while i < rows {
         let row = table::row_at(plan, i);
         let known = kinds::known(row.kind);
-        let number = row_refusal(plan, i, row, known, from, source, counts[i]);
+        let naming = table::count_at(counts, i);
+        let number = row_refusal(plan, i, row, known, from, source, naming);
         if number != 0 {
             return base::Refusal { number, place: i };
         }
@@ -106,7 +107,7 @@ pub fn plan_refusal(plan: &[u32], rows: usize, source: &[u8]) -> base::Refusal
     } else {
         base::MOST_ROWS
     };
-    let mut counts = [0u32; base::MOST_ROWS];
+    let mut counts = [0u16; base::MOST_ROWS];
     table::count_under(plan, n, table::Which::All, &mut counts);
     judge_rows(plan, n, source, &counts)
 }

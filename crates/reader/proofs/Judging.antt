@@ -32,9 +32,6 @@ module _ (s : List ℕ) (r : Row) (bones : ℕ) where
   unfolding judgedWith
   judged-unknown k = rw k
 
-pub unjudged-bounded : (size : ℕ) → Bounded unjudged size
-unjudged-bounded size = record { place = omega arith; faces = omega arith; degenerates = omega arith; links = omega arith }
-
 -- ---- links
 node-count : (all : List Row) (ls : List Line) (row start : ℕ) (s starts : List ℕ) → length (linksAt all ls row start s starts) ≡ nodeLinks ls s starts
 unfolding linksAt nodeLinks

@@ -173,11 +173,6 @@ module _ (count : Count) where
               (row-unlinked s (l .links) r b (ap (λ x. x .number) (sym f) ∙ z) (ap (λ x. x .links) (sym f) ∙ none y))
           by (suc k) y = on-refused s r (rest t n (i + 1)) l (λ y₀. omega (arith, y, y₀))
 
--- a node with links is known
-pub linked-known : (s : List ℕ) (r : Row) (b : ℕ) {j : Judged} → j ≡ judgedWith s r b → (j .links ≡ 0 → ⊥) → isKnown (r .kind) ≡ true
-linked-known s r b f some =
-    by-test (isKnown (r .kind)) (λ t. t) (λ t. absurd (some (ap (λ x. x .links) (f ∙ judged-unknown s r b t))))
-
 -- a row's links are looked at where none failed before and it has some
 module _ (failed links : ℕ) where
   pub looked-at : (eqb failed 0 && not (eqb links 0)) ≡ true → (failed ≡ 0) × (links ≡ 0 → ⊥)

@@ -39,23 +39,12 @@ pub enum Reading {
 
 // ---- 13 to 15
 
-// The Bones under a row; none where there is no such row.
-fn beside(bones: &[u32], parent: u32) -> u32
-    ensures { λ r. ⌜ r ≡ getD (now (bones .entry)) parent 0 ⌝ }
-{
-    let i = parent as usize;
-    if i < bones.len() {
-        return bones[i];
-    }
-    0
-}
-
 // The rules of the node in a row, which is known, by all lines, by the Bones under each row, and with buffers for what is noted of its
 // properties.
 fn judge_row(
     file: &[u8],
     row: table::Row,
-    counts: &[u32],
+    counts: &[u16],
     lines: &[rules::Columns],
     starts: &mut [usize; 64],
     numbers: &mut [usize; 64],
@@ -71,7 +60,7 @@ fn judge_row(
 {
     let body = format::body_of(file, row);
     let own = rules::lines_of(lines, row.kind);
-    let bones = beside(counts, row.parent);
+    let bones = table::count_at(counts, row.parent as usize);
     judge::judge(
         row.kind,
         own,
@@ -146,7 +135,7 @@ fn rules_of<'a>(
     file: &[u8],
     table: &[u32],
     nodes: usize,
-    counts: &[u32],
+    counts: &[u16],
     materials: &'a [u64],
     meshes: &'a [u64],
     bones: &'a [u64],
@@ -257,7 +246,7 @@ fn rules_among(
     file: &[u8],
     table: &[u32],
     nodes: usize,
-    counts: &[u32],
+    counts: &[u16],
     hashes: &[u64],
     m: usize,
     s: usize,
@@ -290,7 +279,7 @@ fn rules_among(
 }
 
 // The same, with the hashes sorted first.
-fn rules_by_hashes(file: &[u8], table: &[u32], nodes: usize, counts: &[u32]) -> Judgement
+fn rules_by_hashes(file: &[u8], table: &[u32], nodes: usize, counts: &[u16]) -> Judgement
     requires { ⌜ (nodes ≤ mostRows) × RowsOk (now file) (now table) nodes × BonesCounted (now counts) (rowsAt (now table) 0 nodes) ⌝ }
     ensures { λ r. ⌜ JudgedAll (now (file .entry)) (rowsAt (now (table .entry)) 0 nodes) (r .rules) (r .links) (r .unknown) ⌝ }
 {
@@ -325,7 +314,7 @@ fn any_looks_linked(table: &[u32], nodes: usize) -> bool {
 
 // The rules and the links of rows beside which Bones are counted. Where none seems to have links they are judged without hashes, and again with
 // them where that was wrong.
-fn rules_beside(file: &[u8], table: &[u32], nodes: usize, bones: &[u32]) -> Judgement
+fn rules_beside(file: &[u8], table: &[u32], nodes: usize, bones: &[u16]) -> Judgement
     requires { ⌜ (nodes ≤ mostRows) × RowsOk (now file) (now table) nodes × BonesCounted (now bones) (rowsAt (now table) 0 nodes) ⌝ }
     ensures { λ r. ⌜ JudgedAll (now (file .entry)) (rowsAt (now (table .entry)) 0 nodes) (r .rules) (r .links) (r .unknown) ⌝ }
 {
@@ -354,7 +343,7 @@ fn rules_with_bones(file: &[u8], table: &[u32], nodes: usize) -> Judgement
     requires { ⌜ (nodes ≤ mostRows) × RowsOk (now file) (now table) nodes ⌝ }
     ensures { λ r. ⌜ JudgedAll (now (file .entry)) (rowsAt (now (table .entry)) 0 nodes) (r .rules) (r .links) (r .unknown) ⌝ }
 {
-    let mut bones = [0u32; base::MOST_ROWS];
+    let mut bones = [0u16; base::MOST_ROWS];
     table::count_under(table, nodes, table::Which::OfKind(kinds::BONE), &mut bones);
     rules_beside(file, table, nodes, &bones)
 }
@@ -367,7 +356,7 @@ fn all_rules(file: &[u8], table: &[u32], nodes: usize) -> Judgement
     if has_kind(table, nodes, kinds::BONE) {
         return rules_with_bones(file, table, nodes);
     }
-    let none = [0u32; 1];
+    let none = [0u16; 1];
     rules_beside(file, table, nodes, &none[..0])
 }
 

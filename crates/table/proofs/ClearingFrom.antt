@@ -13,7 +13,7 @@ use Rattle.table.specs.declared.Row.{Row}
 use Rattle.table.specs.Table.{putRows, flat, hasRoom, zeroed, cleared, clearedFrom, filled}
 use Rattle.base.proofs.Stores.{drop-sets}
 use Rattle.table.proofs.Rows.{putRows-sets, length-putRows, length-flat}
-use Rattle.table.proofs.Clearing.{hasRoom-fits, hasRoom-length, filled-putRows}
+use Rattle.table.proofs.Clearing.{hasRoom-fits, hasRoom-length}
 
 -- n zeros stored into the part from a place on
 pub zeroed-part : (a n : ℕ) (t : List ℕ) {part : List ℕ} → part ≡ zeroed n (take (length t - a) (drop a t))
@@ -58,7 +58,3 @@ module _ (t : List ℕ) (rs : List Row) (h : hasRoom t ≡ true) (few : length r
   unfolding clearedFrom filled
   filled-from =
       rw (le-leb (length rs) 1024 few, hasRoom-length (putRows t 0 rs) t (length-putRows t 0 rs), h, first-put, after-put)
-
-  -- rows may be put first, and what is after them cleared then
-  pub clearedFrom-putRows : clearedFrom (length rs) (putRows t 0 rs) ≡ putRows (cleared t) 0 rs
-  clearedFrom-putRows = filled-from ∙ sym (filled-putRows t rs h few)

@@ -79,9 +79,6 @@ unfolding putRows
 length-putRows t k [] = refl
 length-putRows t k (r ∷ rs) = length-putRows (withRow t k r) (suc k) rs ∙ length-withRow t k r
 
-pub hasRow-putRows : (t : List ℕ) (k : ℕ) (rs : List Row) (j : ℕ) → hasRow (putRows t k rs) j ≡ hasRow t j
-hasRow-putRows t k rs j = hasRow-length (putRows t k rs) t j (length-putRows t k rs)
-
 -- a row before the rows put, or after them
 pub rowAt-putRows-other : (t : List ℕ) (k : ℕ) (rs : List Row) (j : ℕ) → (k ≤ j → k + length rs ≤ j) → rowAt (putRows t k rs) j ≡ rowAt t j
 unfolding putRows

@@ -1,7 +1,7 @@
 // The table: rows of eight numbers in a lent slice. No other crate knows where a row's numbers lie.
 ghost use mathlib.Core.Path.{_≡_};
 ghost use Prim.Native.Nat.{_+_, _*_, _≤_, min};
-ghost use lib.ListN.{length};
+ghost use lib.ListN.{length, getD};
 ghost use lib.Seq.{sets};
 ghost use Rattle.base.specs.Limits.{mostRows};
 ghost use Rattle.table.specs.Table.{blank, hasRow, rowFrom, rowAt, rowsAt, fields, withRow, hasRoom, zeroed, cleared, clearedFrom, rowCount, isPlan};
@@ -174,9 +174,19 @@ fn is_counted(which: Which, row: Row) -> bool
     }
 }
 
+fn zero_counts(counts: &mut [u16])
+    ensures { λ _. ⌜ now (counts .exit) ≡ zeroed (length (now (counts .entry))) (now (counts .entry)) ⌝ }
+{
+    let mut i: usize = 0;
+    while i < counts.len() {
+        counts[i] = 0;
+        i += 1;
+    }
+}
+
 // Counts, of the first rows of a table, at most 1,024, those under each parent: each place p of the counts then has the
 // count for row p, whatever it held.
-pub fn count_under(numbers: &[u32], rows: usize, which: Which, counts: &mut [u32])
+pub fn count_under(numbers: &[u32], rows: usize, which: Which, counts: &mut [u16])
     ensures { λ _. ⌜ now (counts .exit)
         ≡ countsUnder which (rowsAt (now (numbers .entry)) 0 (min rows mostRows)) (length (now (counts .entry))) ⌝ }
 {
@@ -186,7 +196,7 @@ pub fn count_under(numbers: &[u32], rows: usize, which: Which, counts: &mut [u32
         base::MOST_ROWS
     };
     let places = counts.len();
-    zero(counts, places);
+    zero_counts(counts);
     let mut i: usize = 0;
     while i < n {
         let row = row_at(numbers, i);
@@ -196,4 +206,20 @@ pub fn count_under(numbers: &[u32], rows: usize, which: Which, counts: &mut [u32
         }
         i += 1;
     }
+}
+
+fn wide(x: u16) -> u32
+    ensures { λ r. ⌜ r ≡ x ⌝ }
+{
+    x as u32
+}
+
+// What counts tell of a row; 0 of one for which they have no place.
+pub fn count_at(counts: &[u16], row: usize) -> u32
+    ensures { λ r. ⌜ r ≡ getD (now (counts .entry)) row 0 ⌝ }
+{
+    if row < counts.len() {
+        return wide(counts[row]);
+    }
+    0
 }

@@ -3,7 +3,6 @@ use Prim.Native.Nat.{_-_, _≤_, _<_}
 use native.Mathlib.Omega.{arith}
 use mathlib.Core.Path.{_≡_, refl, sym, _∙_}
 use mathlib.Core.Logic.{⊎-elim}
-use lib.ListN.{getD}
 use borrow.Author.Needs.{needs}
 use Rattle.table.specs.Table.{noParent, rowsAt}
 use Rattle.plan.specs.Plan.{naming, planRefusal}
@@ -30,11 +29,8 @@ row-at-requires c κs = search needs
 known-requires : tie.Need-known-requires Inv-loop μ-loop
 known-requires c κs = search needs
 
-mul-row-refusal : tie.Need-mul-row-refusal Inv-loop μ-loop
-mul-row-refusal c = search needs
-
-shared-slice-read-row-refusal : tie.Need-shared-slice-read-row-refusal Inv-loop μ-loop
-shared-slice-read-row-refusal c = search needs
+count-at-requires : tie.Need-count-at-requires Inv-loop μ-loop
+count-at-requires c κs = search needs
 
 row-refusal-requires : tie.Need-row-refusal-requires Inv-loop μ-loop
 row-refusal-requires c κs =
@@ -61,8 +57,8 @@ module _ (c : tie.After-row-refusal Inv-loop μ-loop) where
   few : at-loop .loop .i < 1024
   few = omega (arith, turn .loop-test .taken, start .pre .0)
 
-  named : getD (start .args .counts .now) (at-loop .loop .i) 0 ≡ naming (rowsAt (start .args .plan .now) 0 (start .args .rows)) (at-loop .loop .i)
-  named = start .pre .2 _ few
+  named : c .before .count-at .result ≡ naming (rowsAt (start .args .plan .now) 0 (start .args .rows)) (at-loop .loop .i)
+  named = c .before .count-at .ensures ∙ start .pre .2 _ few
 
 returns : tie.Need-returns Inv-loop μ-loop
 returns c =
@@ -106,8 +102,7 @@ judge-rows-spec =
     loop-holds
     row-at-requires
     known-requires
-    mul-row-refusal
-    shared-slice-read-row-refusal
+    count-at-requires
     row-refusal-requires
     returns
     cast-from

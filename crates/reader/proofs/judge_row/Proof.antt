@@ -21,8 +21,11 @@ body-of-requires c κs = search needs
 lines-of-requires : tie.Need-lines-of-requires
 lines-of-requires c κs = search needs
 
-beside-requires : tie.Need-beside-requires
-beside-requires c κs = search needs
+cast-count-at : tie.Need-cast-count-at
+cast-count-at c = search needs
+
+count-at-requires : tie.Need-count-at-requires
+count-at-requires c κs = search needs
 
 judge-requires : tie.Need-judge-requires
 judge-requires c κs = search needs
@@ -30,7 +33,7 @@ judge-requires c κs = search needs
 returns : tie.Need-returns
 returns c =
     let n = c .before .before .before .before in
-    let l = n .before in
+    let l = n .before .before in
     let b = l .before in
     let s = b .before .before .before in
     let a = s .args in
@@ -38,7 +41,7 @@ returns c =
     let body = b .body-of .ensures in
     let known = s .pre .0 .2 in
     let passed = s .pre .0 .1 known in
-    let bones = n .beside .result in
+    let bones = n .count-at .result in
     let lines : linesFrom (l .lines-of .result .now) ≡ linesOf kind
     = ap linesFrom (l .lines-of .ensures) ∙ ap (λ rows. linesFrom (rowsOf kind rows)) (s .pre .0 .0) ∙ lines-lent kind in
     let x = c .judge .ensures in
@@ -50,7 +53,7 @@ returns c =
         skims
             ∙ judged-skimmed kind (a .row .properties) (bodyOf (a .file .now) (a .row)) bones passed
             ∙ sym (judged-known (a .file .now) (a .row) bones known)
-            ∙ ap (judgedWith (a .file .now) (a .row)) (n .beside .ensures),
+            ∙ ap (judgedWith (a .file .now) (a .row)) (n .count-at .ensures),
         subst (λ l. Bounded (c .judge .result) (length l)) body (x .1 .1 .1 .1),
       ),
       (
@@ -61,4 +64,4 @@ returns c =
     )
 
 pub judge-row-spec : {M : Type 1} → statement M
-judge-row-spec = tie.close (tie.spec body-of-requires lines-of-requires beside-requires judge-requires returns)
+judge-row-spec = tie.close (tie.spec body-of-requires lines-of-requires cast-count-at count-at-requires judge-requires returns)

@@ -20,11 +20,11 @@ Inv-loop numbers rows which counts₀ n places i₀ counts i = (i ≤ n) × Coun
 abbrev μ-loop : tie.MeasureT-loop
 μ-loop numbers rows which counts₀ n places i₀ counts i = n - i
 
-zero-requires : tie.Need-zero-requires Inv-loop μ-loop
-zero-requires c κs = search needs
+zero-counts-requires : tie.Need-zero-counts-requires Inv-loop μ-loop
+zero-counts-requires c κs = search needs
 
 loop-holds : tie.Need-loop-holds Inv-loop μ-loop
-loop-holds c = let z = c .before .before in (omega arith, counting-begun _ _ _ _ (z .before .before .before .before .before .args .counts .now) refl (z .zero .ensures))
+loop-holds c = let z = c .before .before in (omega arith, counting-begun _ _ _ _ (z .before .before .before .before .before .args .counts .now) refl (z .zero-counts .ensures))
 
 row-at-requires : tie.Need-row-at-requires Inv-loop μ-loop
 row-at-requires c κs = search needs
@@ -120,7 +120,7 @@ count-under-spec =
     (tie.spec
     Inv-loop
     μ-loop
-    zero-requires
+    zero-counts-requires
     loop-holds
     row-at-requires
     cast-parent
