@@ -7,11 +7,11 @@ use mathlib.Core.Bool.{Bool, true, false, cond, _||_, or-false, or-assoc, true�
 use mathlib.Core.List.{List, [], _∷_, _++_}
 use lib.Dec.{leb}
 use lib.ListN.{length, take, drop, length-take, length-drop}
-use lib.Seq.{drop-drop, take-nil}
+use lib.Seq.{drop-drop}
 use borrow.Author.Tests.{leb-true, leb-false}
 use Rattle.base.proofs.Tests.{by-test}
 use Rattle.le.specs.Le.{numberAt}
-use Rattle.le.proofs.Laws.{take-part}
+use Rattle.le.proofs.Laws.{drop-take, take-part}
 use Rattle.faces.specs.declared.Face.{Face}
 use Rattle.faces.specs.declared.Values.{Values}
 use Rattle.faces.specs.declared.Values.the-variants.{NotBelow}
@@ -31,13 +31,6 @@ faces-split w (suc m) n bs =
     rw (suc-add m n, faces-split w m n (drop (3 * w) bs), drop-drop (m * (3 * w)) (3 * w) bs, more)
 
 -- ---- faces in a part that holds them all
-drop-take : (m n : ℕ) (l : List ℕ) → m ≤ n → drop m (take n l) ≡ take (n - m) (drop m l)
-drop-take zero n l h = let all : n - 0 ≡ n = omega arith in rw all
-drop-take (suc m) zero l h = absurd (omega arith)
-drop-take (suc m) (suc n) [] h = sym (take-nil (suc n - suc m))
-drop-take (suc m) (suc n) (x ∷ l) h =
-    let less : suc n - suc m ≡ n - m = omega arith in rw less (drop-take m n l (omega arith))
-
 numberAt-take : (w k n : ℕ) (l : List ℕ) → k + w ≤ n → numberAt w (take n l) k ≡ numberAt w l k
 unfolding numberAt
 numberAt-take w k n l h = rw (take-part w k n l h)

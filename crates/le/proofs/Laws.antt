@@ -55,6 +55,14 @@ length-rest l at = rw (rest-drop l at) (length-drop at l)
 pub drop-rest : (l : List ℕ) (at k : ℕ) → drop k (rest l at) ≡ drop (at + k) l
 drop-rest l at k = rw (rest-drop l at) (drop-drop k at l)
 
+-- what is left of a part
+pub drop-take : (m n : ℕ) (l : List ℕ) → m ≤ n → drop m (take n l) ≡ take (n - m) (drop m l)
+drop-take zero n l h = let all : n - 0 ≡ n = omega arith in rw all
+drop-take (suc m) zero l h = absurd (omega arith)
+drop-take (suc m) (suc n) [] h = sym (take-nil (suc n - suc m))
+drop-take (suc m) (suc n) (x ∷ l) h =
+    let less : suc n - suc m ≡ n - m = omega arith in rw less (drop-take m n l (omega arith))
+
 -- a part, and what is after it
 pub part-front : (w : ℕ) (l : List ℕ) (at next : ℕ) → at + w ≡ next → take w (drop at l) ++ drop next l ≡ drop at l
 part-front w l at next e = rw (← e, ← (drop-drop w at l)) (take-append-drop w (drop at l))

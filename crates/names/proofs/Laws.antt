@@ -11,7 +11,7 @@ use lib.ListN.{length, take, drop, getD, drop-of-length-le, length-drop, take-ap
 use lib.Seq.{drop-cons, drop-drop, take-all, take-take}
 use borrow.Author.Tests.{eq-eqb, ne-eqb, eqb-true, leb-true, le-leb, lt-leb}
 use Rattle.le.specs.Le.{val, le, numberAt, AreBytes}
-use Rattle.le.proofs.Laws.{rest-drop, bytes-drop, le-val}
+use Rattle.le.proofs.Laws.{rest-drop, drop-take, bytes-drop, le-val}
 use Rattle.names.specs.declared.Numeral.{Numeral}
 use Rattle.names.specs.declared.Numeral.the-variants.{Is, Not}
 use Rattle.names.specs.Names.{byteOk, bytesOk, same, isDigit, readDigits, number, numberAfter}
@@ -25,14 +25,30 @@ module _ (l : List ℕ) (i : ℕ) (h : i < length l) where
   unfolding bytesOk
   bytes-refused e = rw (drop-cons l i 0 h, e)
 
--- a block that is right is passed whole
-pub block-right : (k : ℕ) (l : List ℕ) → bytesOk (take k l) ≡ true → bytesOk l ≡ bytesOk (drop k l)
+-- bytes are right where those before a place and those from it on are
+bytes-split : (k : ℕ) (l : List ℕ) → bytesOk l ≡ (bytesOk (take k l) && bytesOk (drop k l))
 unfolding bytesOk
-block-right zero l e = refl
-block-right (suc k) [] e = refl
-block-right (suc k) (b ∷ l) e =
-    let both = and-eq-true-iff (byteOk b) (bytesOk (take k l)) .0 e in
-    rw (both .0) (block-right k l (both .1))
+bytes-split zero l = refl
+bytes-split (suc k) [] = refl
+bytes-split (suc k) (b ∷ l) = ap (λ t. byteOk b && t) (bytes-split k l) ∙ sym (and-assoc (byteOk b) (bytesOk (take k l)) (bytesOk (drop k l)))
+
+-- they are where the first k and the last k are, if these have every byte
+pub ends-are : (k : ℕ) (l : List ℕ) → k ≤ length l → length l ≤ k + k → (bytesOk (take k l) && bytesOk (drop (length l - k) l)) ≡ bytesOk l
+ends-are k l h g =
+    let m = length l - k in
+    let sum : m + (k - m) ≡ k = omega arith in
+    let both = drop m (take k l) in
+    let first : bytesOk (take k l) ≡ (bytesOk (take m (take k l)) && bytesOk both) = bytes-split m (take k l) in
+    let last : bytesOk (drop m l) ≡ (bytesOk both && bytesOk (drop k l))
+    = bytes-split (k - m) (drop m l)
+    ∙ ap (λ t. bytesOk t && bytesOk (drop (k - m) (drop m l))) (sym (drop-take m k l (omega arith)))
+    ∙ ap (λ t. bytesOk both && bytesOk t) (drop-drop (k - m) m l ∙ ap (λ n. drop n l) sum) in
+    rw (bytes-split k l, first, last) (twice (bytesOk (take m (take k l))) (bytesOk both) (bytesOk (drop k l)))
+  where
+    twice : (x o z : Bool) → ((x && o) && (o && z)) ≡ ((x && o) && z)
+    twice true true z = refl
+    twice true false z = refl
+    twice false o z = refl
 
 module _ (ok : Bool) (l : List ℕ) (i : ℕ) where
   pub block-next : i < length l → ((ok && byteOk (getD l i 0)) && bytesOk (drop (i + 1) l)) ≡ (ok && bytesOk (drop i l))

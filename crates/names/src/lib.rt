@@ -1,6 +1,6 @@
 // Names of properties: which bytes may be one, whether two are the same, and the number in a name such as `c12`.
 ghost use mathlib.Core.Path.{_≡_};
-ghost use Prim.Native.Nat.{_≤_};
+ghost use Prim.Native.Nat.{_+_, _≤_};
 ghost use Rattle.names.specs.Names.{sizeOk, byteOk, bytesOk, same, readDigits, number, numberAfter, numeralNumbers};
 ghost use lib.ListN.{length, drop};
 
@@ -31,26 +31,20 @@ fn block_ok(block: &[u8]) -> bool
     ok
 }
 
-// A place up to which each byte may stand in a name, found by blocks.
-fn ok_up_to(name: &[u8]) -> usize
-    ensures { λ r. ⌜ (r ≤ length (now (name .entry))) × (bytesOk (drop r (now (name .entry))) ≡ bytesOk (now (name .entry))) ⌝ }
-{
-    let mut i: usize = 0;
-    while 16 <= name.len() - i {
-        let end = i + 16;
-        if !block_ok(&name[i..end]) {
-            return i;
-        }
-        i = end;
-    }
-    i
-}
-
-// Whether each byte may stand in a name.
-pub fn bytes_ok(name: &[u8]) -> bool
+// The same of a name by its first and its last k bytes, which meet or overlap.
+fn ends_ok(name: &[u8], k: usize) -> bool
+    requires { ⌜ (k ≤ length (now name)) × (length (now name) ≤ k + k) ⌝ }
     ensures { λ r. ⌜ r ≡ bytesOk (now (name .entry)) ⌝ }
 {
-    let mut i = ok_up_to(name);
+    let last = name.len() - k;
+    block_ok(&name[..k]) & block_ok(&name[last..])
+}
+
+// The same of any bytes, one at a time.
+fn each_ok(name: &[u8]) -> bool
+    ensures { λ r. ⌜ r ≡ bytesOk (now (name .entry)) ⌝ }
+{
+    let mut i: usize = 0;
     while i < name.len() {
         if !byte_ok(name[i]) {
             return false;
@@ -58,6 +52,26 @@ pub fn bytes_ok(name: &[u8]) -> bool
         i += 1;
     }
     true
+}
+
+// Whether each byte may stand in a name. Two blocks of 4, 8 or 16 are enough for a name that has as many bytes.
+pub fn bytes_ok(name: &[u8]) -> bool
+    ensures { λ r. ⌜ r ≡ bytesOk (now (name .entry)) ⌝ }
+{
+    let n = name.len();
+    if n < 4 {
+        return each_ok(name);
+    }
+    if 32 < n {
+        return each_ok(name);
+    }
+    if 16 <= n {
+        return ends_ok(name, 16);
+    }
+    if 8 <= n {
+        return ends_ok(name, 8);
+    }
+    ends_ok(name, 4)
 }
 
 // A place up to which two names of one size are the same, found by eight bytes at a time.

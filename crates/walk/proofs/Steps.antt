@@ -10,7 +10,6 @@ use lib.Seq.{drop-drop}
 use lib.Dec.{ltb}
 use borrow.Author.Tests.{ltb-true, ltb-false}
 use Rattle.base.proofs.Tests.{by-test}
-use Rattle.le.proofs.Laws.{rest, rest-drop}
 use Rattle.kinds.specs.declared.Parent.{Parent}
 use Rattle.table.specs.declared.Row.{Row}
 use Rattle.table.specs.Table.{withRow, putRows}
@@ -73,56 +72,53 @@ none-left parent above depth {at} {row} {n} {bs} e few =
 pub came-length : {r : Reached} {w : Walked} {at row : ℕ} {bs t t′ : List ℕ} → Came r w at row bs t t′ → length t′ ≡ length t
 came-length c = ap length (c .table) ∙ length-putRows _ _ _
 
--- where the loop over `count` nodes stands: the rows put, and what is left
-pub record Going (parent : Parent) (above depth count start row : ℕ) (bs t u : List ℕ) (at rows left : ℕ) : Type 0 where
+-- where the loop over `count` nodes from a place on stands: the rows put, and what is left
+pub record Going (parent : Parent) (above depth count start row : ℕ) (bytes t u : List ℕ) (at rows left : ℕ) : Type 0 where
   pub put : List Row
-  pub came : Came (record { number = 0; at = at; rows = rows }) (record { number = 0; at = at; rows = put }) start row bs t u
-  pub whole : childrenAt parent above depth count start row bs ≡ afterRows put (childrenAt parent above depth left at rows (drop (at - start) bs))
+  pub came : Came (record { number = 0; at = at; rows = rows }) (record { number = 0; at = at; rows = put }) start row (drop start bytes) t u
+  pub whole : childrenAt parent above depth count start row (drop start bytes) ≡ afterRows put (childrenAt parent above depth left at rows (drop at bytes))
 
 -- the loop starts with all of them left
-pub going : {parent : Parent} {above depth count start row : ℕ} {bs t : List ℕ} → row ≤ 1024
-    → Going parent above depth count start row bs t t start row count
-going {parent} {above} {depth} {count} {start} {row} {bs} few = record {
-  put = [];
-  came = stops refl few (omega arith) (omega arith);
-  whole = let none : start - start ≡ 0 = omega arith in rw none;
-}
+pub going : {parent : Parent} {above depth count start row : ℕ} {bytes t : List ℕ} → row ≤ 1024
+    → Going parent above depth count start row bytes t t start row count
+going few = record { put = []; came = stops refl few (omega arith) (omega arith); whole = refl }
 
-module _ {parent : Parent} {above depth count start row : ℕ} {bs t u : List ℕ} {at rows left : ℕ} (g : Going parent above depth count start row bs t u at rows left) where
+module _ {parent : Parent} {above depth count start row : ℕ} {bytes t u : List ℕ} {at rows left : ℕ} (g : Going parent above depth count start row bytes t u at rows left) where
+  -- it stands within the bytes
+  pub stands : start ≤ length bytes → at ≤ length bytes
+  stands h = omega (arith, g .came .within, length-drop start bytes)
+
   -- a walk from where the loop stands
-  from : {r : Reached} {w : Walked} {t′ : List ℕ} → Came r w at rows (drop (at - start) bs) u t′ → Came r (afterRows (g .put) w) start row bs t t′
-  from c = then (g .came) c (simp length-drop (omega (arith, g .came .onward, g .came .within)))
+  from : {r : Reached} {w : Walked} {t′ : List ℕ} → Came r w at rows (drop at bytes) u t′ → Came r (afterRows (g .put) w) start row (drop start bytes) t t′
+  from c = then (g .came) c (omega (arith, g .came .within, length-drop start bytes, length-drop at bytes))
 
   -- none is left
-  pub all-walked : left ≤ 0 → {n : ℕ} → n ≡ leftOver (length bs - (at - start))
-      → Came (record { number = n; at = at; rows = rows }) (childrenAt parent above depth count start row bs) start row bs t u
+  pub all-walked : left ≤ 0 → {n : ℕ} → n ≡ leftOver (length bytes - at)
+      → Came (record { number = n; at = at; rows = rows }) (childrenAt parent above depth count start row (drop start bytes)) start row (drop start bytes) t u
   all-walked none e =
       let zero : left ≡ 0 = omega arith in
-      rw (g .whole, zero) (from (none-left parent above depth (e ∙ ap leftOver (sym (length-drop (at - start) bs))) (g .came .few)))
+      rw (g .whole, zero) (from (none-left parent above depth (e ∙ ap leftOver (sym (length-drop at bytes))) (g .came .few)))
 
   -- a node is walked
-  module _ {r : Reached} {t′ : List ℕ} (more : 0 < left) (c : Came r (nodeAt parent above depth at rows (rest bs (at - start))) at rows (rest bs (at - start)) u t′) where
-    here : Came r (nodeAt parent above depth at rows (drop (at - start) bs)) at rows (drop (at - start) bs) u t′
-    here = rw (rest-drop bs (at - start)) at c
-
+  module _ {r : Reached} {t′ : List ℕ} (more : 0 < left) (c : Came r (nodeAt parent above depth at rows (drop at bytes)) at rows (drop at bytes) u t′) where
     next : left ≡ suc (left - 1)
     next = omega arith
 
-    pub turn-refused : (r .number ≡ 0 → ⊥) → Came r (childrenAt parent above depth count start row bs) start row bs t t′
+    pub turn-refused : (r .number ≡ 0 → ⊥) → Came r (childrenAt parent above depth count start row (drop start bytes)) start row (drop start bytes) t t′
     turn-refused z =
-        rw (g .whole, next, list-refused parent above depth at rows (drop (at - start) bs) (left - 1) (λ e. z (here .number ∙ e))) (from here)
+        rw (g .whole, next, list-refused parent above depth at rows (drop at bytes) (left - 1) (λ e. z (c .number ∙ e))) (from c)
 
-    pub turn : r .number ≡ 0 → Going parent above depth count start row bs t t′ (r .at) (r .rows) (left - 1)
+    pub turn : r .number ≡ 0 → Going parent above depth count start row bytes t t′ (r .at) (r .rows) (left - 1)
     turn z =
-        let w = nodeAt parent above depth at rows (drop (at - start) bs) in
-        let all = from here in
-        let sum : at - start + (r .at - at) ≡ r .at - start = omega (arith, g .came .onward, here .onward) in
+        let w = nodeAt parent above depth at rows (drop at bytes) in
+        let all = from c in
+        let sum : at + (r .at - at) ≡ r .at = omega (arith, c .onward) in
         record {
           put = g .put ++ w .rows;
           came = record { number = refl; reached = refl; rows = all .rows; table = all .table; few = all .few; onward = all .onward; within = all .within };
           whole =
               g .whole
-              ∙ ap (λ k. afterRows (g .put) (childrenAt parent above depth k at rows (drop (at - start) bs))) next
-              ∙ ap (afterRows (g .put)) (list-next parent above depth at rows (drop (at - start) bs) (left - 1) refl (sym (here .number) ∙ z))
-              ∙ rw (← here .reached, ← here .rows, drop-drop (r .at - at) (at - start) bs, sum, append-assoc);
+              ∙ ap (λ k. afterRows (g .put) (childrenAt parent above depth k at rows (drop at bytes))) next
+              ∙ ap (afterRows (g .put)) (list-next parent above depth at rows (drop at bytes) (left - 1) refl (sym (c .number) ∙ z))
+              ∙ rw (← c .reached, ← c .rows, drop-drop (r .at - at) at bytes, sum, append-assoc);
         }

@@ -6,12 +6,11 @@ use mathlib.Core.Path.{_≡_, refl, sym, _∙_}
 use mathlib.Core.Bool.{true, false, and-eq-true-iff}
 use mathlib.Core.List.{List}
 use lib.Dec.{leb, eqb}
-use lib.ListN.{length}
+use lib.ListN.{length, drop}
 use borrow.Author.Tests.{eq-eqb, ne-eqb, leb-true}
 use Rattle.base.specs.Refusals.{refusedOr}
 use Rattle.base.proofs.Refusals.{goes-on, is-refused}
 use Rattle.le.specs.Le.{numberAt}
-use Rattle.le.proofs.Laws.{rest, rest-drop}
 use Rattle.kinds.specs.declared.Parent.the-variants.{None}
 use Rattle.table.specs.Table.{noParent, putRows}
 use Rattle.walk.specs.declared.Answer.{Answer}
@@ -51,13 +50,13 @@ module _ (s t : List ℕ) where
 
       -- its nodes are walked
       module _ (version : numberAt 4 s 4 ≡ 1) {roots : ℕ} (counted : roots ≡ numberAt 4 s 8) {r : Reached} {t′ : List ℕ}
-          (c : Came r (childrenAt None noParent 1 roots 16 0 (rest s 16)) 16 0 (rest s 16) t t′) where
+          (c : Came r (childrenAt None noParent 1 roots 16 0 (drop 16 s)) 16 0 (drop 16 s) t t′) where
         abbrev w : Walked
-        w = childrenAt None noParent 1 roots 16 0 (rest s 16)
+        w = childrenAt None noParent 1 roots 16 0 (drop 16 s)
 
         is : limited s ≡ w
         unfolding walkOf
-        is = walked (rw (cast, eq-eqb _ _ version, counted, rest-drop s 16))
+        is = walked (rw (cast, eq-eqb _ _ version, counted))
 
         by-nodes : {a : Answer} → a ≡ refusedOr (w .number) (refusedAnswer (w .number) (w .at)) (acceptedAnswer (length (w .rows)) (flagsOf s))
             → Ends a t′

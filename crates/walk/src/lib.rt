@@ -1,12 +1,11 @@
 // The walk over a file's nodes: refusals 2 to 12, and a row for each node.
 ghost use mathlib.Core.Path.{_≡_};
 ghost use Prim.Native.Nat.{_+_, _≤_};
-ghost use lib.ListN.{length};
+ghost use lib.ListN.{length, drop};
 ghost use Rattle.base.specs.Limits.{mostBytes, mostRows};
 ghost use Rattle.table.specs.Table.{withRow};
-ghost use Rattle.body.specs.Body.{properties, endOf};
 ghost use Rattle.walk.specs.Walk.{headerAt, illSized, rowOfHeader, nodeAt, childrenAt, isCast, limited, refusedAnswer, answer, tableWalked};
-ghost use Rattle.walk.specs.Private.{isBarred, knownThere, tooManyThere, refusalThere, leftOver, Came};
+ghost use Rattle.walk.specs.Private.{isBarred, knownThere, refusalThere, passedAt, leftOver, Came};
 
 // The numbers of a node's header, the hash in its halves.
 pub struct Header {
@@ -65,23 +64,11 @@ fn is_known(standing: kinds::Standing) -> bool
     }
 }
 
-fn too_many(standing: kinds::Standing, properties: u32) -> bool
-    ensures { λ r. ⌜ r ≡ tooManyThere standing properties ⌝ }
+// What a node's header is refused with, 5 to 8, where `room` bytes are left from it on: 0 for nothing.
+fn node_refusal(size: u32, room: usize, standing: kinds::Standing, row: usize, depth: u32) -> u32
+    ensures { λ r. ⌜ r ≡ refusalThere size room standing row depth ⌝ }
 {
-    is_known(standing) & (base::MOST_PROPERTIES < properties)
-}
-
-// What a node's header is refused with, 5 to 9, where `room` bytes are left from it on: 0 for nothing.
-fn node_refusal(
-    header: Header,
-    room: usize,
-    standing: kinds::Standing,
-    row: usize,
-    depth: u32,
-) -> u32
-    ensures { λ r. ⌜ r ≡ refusalThere header room standing row depth ⌝ }
-{
-    if ill_sized(header.size, room) {
+    if ill_sized(size, room) {
         return 5;
     }
     if is_barred(standing) {
@@ -93,20 +80,29 @@ fn node_refusal(
     if 8 < depth {
         return 8;
     }
-    if too_many(standing, header.properties) {
-        return 9;
-    }
     0
 }
 
-// Where the properties of a node end; without any, the body is not looked at.
-fn pass_properties(inside: &[u8], count: u32) -> body::Passed
-    ensures { λ r. ⌜ r ≡ endOf (properties (now (inside .entry)) count) ⌝ }
+// The properties of a known node at `at`, in what follows its header: 0 and where they end; or 9 at the node, or 10 or 11 at a property.
+// Without any, the body is not looked at.
+fn pass_properties(inside: &[u8], at: usize, count: u32) -> body::Passed
+    requires { ⌜ at + 24 + length (now inside) ≤ mostBytes ⌝ }
+    ensures { λ r. ⌜ r ≡ passedAt at (now (inside .entry)) count ⌝ }
 {
+    let start = at + 24;
     if count == 0 {
-        return body::Passed { number: 0, at: 0 };
+        return body::Passed {
+            number: 0,
+            at: start,
+        };
     }
-    body::pass(inside, count)
+    if base::MOST_PROPERTIES < count {
+        return body::Passed { number: 9, at };
+    }
+    let p = body::pass(inside, count);
+    let number = p.number;
+    let end = start + p.at;
+    body::Passed { number, at: end }
 }
 
 // What bytes after the last of some nodes are refused with: 0 for nothing, where none are left.
@@ -124,31 +120,35 @@ struct Reached {
     rows: usize,
 }
 
-// A row from a node's header, its parent's row, and where its body starts and ends.
-fn row_of(h: Header, above: u32, start: u32, end: u32) -> table::Row
-    ensures { λ r. ⌜ r ≡ rowOfHeader h above start end ⌝ }
-{
-    table::Row {
-        kind: h.kind,
-        low: h.low,
-        high: h.high,
-        parent: above,
-        start,
-        end,
-        properties: h.properties,
-        children: h.children,
-    }
-}
-
-// Puts a node's row into the table.
-fn put_node(table: &mut [u32], row: usize, h: Header, above: u32, start: usize, end: usize)
-    requires { ⌜ (start ≤ mostBytes) × (end ≤ mostBytes) ⌝ }
+// Puts a node's row into the table. Its hash is read here, from the header's bytes, so that nothing holds it while the node is judged.
+fn put_node(
+    table: &mut [u32],
+    row: usize,
+    h: Header,
+    head: &[u8],
+    above: u32,
+    start: usize,
+    end: usize,
+)
+    requires { ⌜ (h ≡ headerAt (now head)) × (start ≤ mostBytes) × (end ≤ mostBytes) ⌝ }
     ensures { λ _. ⌜ now (table .exit) ≡ withRow (now (table .entry)) row (rowOfHeader h above start end) ⌝ }
 {
-    table::put_row(table, row, row_of(h, above, start as u32, end as u32));
+    let low = le::u32_at(head, 8);
+    let high = le::u32_at(head, 12);
+    let r = table::Row {
+        kind: h.kind,
+        low,
+        high,
+        parent: above,
+        start: start as u32,
+        end: end as u32,
+        properties: h.properties,
+        children: h.children,
+    };
+    table::put_row(table, row, r);
 }
 
-// The node at the start of `bytes`, which end with what encloses it. Its place is `at`, its row `row`.
+// The node at `at`, whose row is `row`. The bytes are the file's, up to where what encloses the node ends.
 fn walk_node(
     bytes: &[u8],
     table: &mut [u32],
@@ -158,12 +158,12 @@ fn walk_node(
     row: usize,
     depth: u32,
 ) -> Reached
-    requires { ⌜ (at + length (now bytes) ≤ mostBytes) × (row ≤ mostRows) × (depth ≤ row + 1) ⌝ }
+    requires { ⌜ (at ≤ length (now bytes)) × (length (now bytes) ≤ mostBytes) × (row ≤ mostRows) × (depth ≤ row + 1) ⌝ }
     ensures { λ r. ⌜ Came r
-        (nodeAt parent above depth at row (now (bytes .entry)))
-        at row (now (bytes .entry)) (now (table .entry)) (now (table .exit)) ⌝ }
+        (nodeAt parent above depth at row (drop at (now (bytes .entry))))
+        at row (drop at (now (bytes .entry))) (now (table .entry)) (now (table .exit)) ⌝ }
 {
-    let room = bytes.len();
+    let room = bytes.len() - at;
     if room < 24 {
         return Reached {
             number: 5,
@@ -171,9 +171,11 @@ fn walk_node(
             rows: row,
         };
     }
-    let h = header_at(&bytes[..24]);
+    let start = at + 24;
+    let head = &bytes[at..start];
+    let h = header_at(head);
     let standing = kinds::standing_of(parent, h.kind);
-    let number = node_refusal(h, room, standing, row, depth);
+    let number = node_refusal(h.size, room, standing, row, depth);
     if number != 0 {
         return Reached {
             number,
@@ -182,22 +184,19 @@ fn walk_node(
         };
     }
     let size = h.size as usize;
-    let start = at + 24;
+    let past = at + size;
     let rows = row + 1;
     if !is_known(standing) {
-        let end = at + size;
-        put_node(table, row, h, above, start, end);
+        put_node(table, row, h, head, above, start, past);
         return Reached {
             number: 0,
-            at: end,
+            at: past,
             rows,
         };
     }
-    let inside = &bytes[24..size];
-    let p = pass_properties(inside, h.properties);
+    let p = pass_properties(&bytes[start..past], at, h.properties);
     let number = p.number;
-    let passed = p.at;
-    let end = start + passed;
+    let end = p.at;
     if number != 0 {
         return Reached {
             number,
@@ -205,17 +204,23 @@ fn walk_node(
             rows: row,
         };
     }
-    put_node(table, row, h, above, start, end);
+    put_node(table, row, h, head, above, start, end);
     if h.children == 0 {
-        let number = left_over(inside.len() - passed);
+        if end < past {
+            return Reached {
+                number: 12,
+                at: end,
+                rows,
+            };
+        }
         return Reached {
-            number,
+            number: 0,
             at: end,
             rows,
         };
     }
     walk_children(
-        &inside[passed..],
+        &bytes[..past],
         table,
         end,
         kinds::Parent::Kind(h.kind),
@@ -226,7 +231,7 @@ fn walk_node(
     )
 }
 
-// `count` nodes, one after the other, which fill `bytes`. The first one's place is `start`, its row `row`.
+// `count` nodes, one after the other, from `start` on, which fill the bytes. The first one's row is `row`.
 fn walk_children(
     bytes: &[u8],
     table: &mut [u32],
@@ -237,17 +242,16 @@ fn walk_children(
     depth: u32,
     count: u32,
 ) -> Reached
-    requires { ⌜ (start + length (now bytes) ≤ mostBytes) × (row ≤ mostRows) × (depth ≤ row + 1) ⌝ }
+    requires { ⌜ (start ≤ length (now bytes)) × (length (now bytes) ≤ mostBytes) × (row ≤ mostRows) × (depth ≤ row + 1) ⌝ }
     ensures { λ r. ⌜ Came r
-        (childrenAt parent above depth count start row (now (bytes .entry)))
-        start row (now (bytes .entry)) (now (table .entry)) (now (table .exit)) ⌝ }
+        (childrenAt parent above depth count start row (drop start (now (bytes .entry))))
+        start row (drop start (now (bytes .entry))) (now (table .entry)) (now (table .exit)) ⌝ }
 {
     let mut at = start;
     let mut rows = row;
     let mut left = count;
     while 0 < left {
-        let done = at - start;
-        let w = walk_node(&bytes[done..], table, at, parent, above, rows, depth);
+        let w = walk_node(bytes, table, at, parent, above, rows, depth);
         if w.number != 0 {
             return w;
         }
@@ -255,7 +259,7 @@ fn walk_children(
         rows = w.rows;
         left -= 1;
     }
-    let number = left_over(bytes.len() - (at - start));
+    let number = left_over(bytes.len() - at);
     Reached { number, at, rows }
 }
 
@@ -304,7 +308,7 @@ pub fn walk(file: &[u8], table: &mut [u32]) -> Answer
     let roots = le::u32_at(file, 8);
     let flags = le::u32_at(file, 12);
     let w = walk_children(
-        &file[16..],
+        file,
         table,
         16,
         kinds::Parent::None,

@@ -1,66 +1,50 @@
--- `names::bytes_ok`: what the bytes from i on say is what all say.
-use Prim.Native.Nat.{_≤_, _-_}
+-- `names::bytes_ok`: by its size, one byte at a time or its two ends.
 use native.Mathlib.Omega.{arith}
-use mathlib.Core.Path.{_≡_, sym, _∙_}
-use lib.ListN.{length, drop}
 use borrow.Author.Needs.{needs}
-use borrow.Author.Tests.{not-true, not-false}
-use Rattle.names.specs.Names.{bytesOk}
-use Rattle.names.proofs.Laws.{bytes-passed, bytes-refused, bytes-ended}
 use Rattle.names.proofs.bytes_ok.Statement.{statement}
 use Rattle.names.proofs.bytes_ok.Tie as tie
 
-abbrev Inv-loop : tie.InvT-loop
-Inv-loop name i₀ i = (i ≤ length name) × (bytesOk (drop i name) ≡ bytesOk name)
+each-ok-requires : tie.Need-each-ok-requires
+each-ok-requires c κs = search needs
 
-abbrev μ-loop : tie.MeasureT-loop
-μ-loop name i₀ i = length name - i
+returns : tie.Need-returns
+returns c = search needs
 
-ok-up-to-requires : tie.Need-ok-up-to-requires Inv-loop μ-loop
-ok-up-to-requires c κs = search needs
+each-ok-requires-2 : tie.Need-each-ok-requires-2
+each-ok-requires-2 c κs = search needs
 
-loop-holds : tie.Need-loop-holds Inv-loop μ-loop
-loop-holds c = c .ok-up-to .ensures
+returns-2 : tie.Need-returns-2
+returns-2 c = search needs
 
-shared-slice-read-byte-ok : tie.Need-shared-slice-read-byte-ok Inv-loop μ-loop
-shared-slice-read-byte-ok c = search needs
+ends-ok-requires : tie.Need-ends-ok-requires
+ends-ok-requires c κs = omega arith
 
-byte-ok-requires : tie.Need-byte-ok-requires Inv-loop μ-loop
-byte-ok-requires c κs = search needs
+returns-3 : tie.Need-returns-3
+returns-3 c = search needs
 
-returns : tie.Need-returns Inv-loop μ-loop
-returns c =
-    let l = c .before .before .before .before in
-    sym (bytes-refused (l .before .before .before .args .name .now) (l .loop .i) (omega arith) (sym (c .before .byte-ok .ensures) ∙ not-true _ (c .if1 .taken))) ∙ l .loop .inv .1
+ends-ok-requires-2 : tie.Need-ends-ok-requires-2
+ends-ok-requires-2 c κs = omega arith
 
-add-i : tie.Need-add-i Inv-loop μ-loop
-add-i c = omega arith
+returns-4 : tie.Need-returns-4
+returns-4 c = search needs
 
-loop-less : tie.Need-loop-less Inv-loop μ-loop
-loop-less c = omega arith
+ends-ok-requires-3 : tie.Need-ends-ok-requires-3
+ends-ok-requires-3 c κs = omega arith
 
-loop-again : tie.Need-loop-again Inv-loop μ-loop
-loop-again c =
-    let l = c .before .before .before .before in
-    (omega arith, sym (bytes-passed (l .before .before .before .args .name .now) (l .loop .i) (omega arith) (sym (c .before .byte-ok .ensures) ∙ not-false _ (c .if1 .left))) ∙ l .loop .inv .1)
-
-returns-2 : tie.Need-returns-2 Inv-loop μ-loop
-returns-2 c =
-    let l = c .before in
-    sym (bytes-ended (l .before .before .before .args .name .now) (l .loop .i) (omega arith)) ∙ l .loop .inv .1
+returns-5 : tie.Need-returns-5
+returns-5 c = search needs
 
 pub bytes-ok-spec : {M : Type 1} → statement M
 bytes-ok-spec =
     tie.close
     (tie.spec
-    Inv-loop
-    μ-loop
-    ok-up-to-requires
-    loop-holds
-    shared-slice-read-byte-ok
-    byte-ok-requires
+    each-ok-requires
     returns
-    add-i
-    loop-less
-    loop-again
-    returns-2)
+    each-ok-requires-2
+    returns-2
+    ends-ok-requires
+    returns-3
+    ends-ok-requires-2
+    returns-4
+    ends-ok-requires-3
+    returns-5)

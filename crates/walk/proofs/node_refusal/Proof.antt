@@ -1,7 +1,7 @@
 -- `walk::node_refusal`: the definition's tests in their order.
 use mathlib.Core.Path.{sym, _∙_}
 use borrow.Author.Needs.{needs}
-use Rattle.walk.proofs.Cases.{ill, misplaced, rowless, deep, crowded, right}
+use Rattle.walk.proofs.Cases.{ill, misplaced, rowless, deep, right}
 use Rattle.walk.proofs.node_refusal.Statement.{statement}
 use Rattle.walk.proofs.node_refusal.Tie as tie
 
@@ -36,26 +36,13 @@ returns-4 c =
     (sym (two .before .is-barred .ensures) ∙ two .if2 .left)
     (c .before .if3 .left) (c .if4 .taken)
 
-too-many-requires : tie.Need-too-many-requires
-too-many-requires c κs = search needs
-
 returns-5 : tie.Need-returns-5
 returns-5 c =
-    let four = c .before .before in
-    let two = four .before .before in
-    let one = two .before .before in
-    crowded _ _ _ _ _ (sym (one .before .ill-sized .ensures) ∙ one .if1 .left)
-    (sym (two .before .is-barred .ensures) ∙ two .if2 .left)
-    (four .before .if3 .left) (four .if4 .left) (sym (c .before .too-many .ensures) ∙ c .if5 .taken)
-
-returns-6 : tie.Need-returns-6
-returns-6 c =
-    let four = c .before .before in
-    let two = four .before .before in
+    let two = c .before .before in
     let one = two .before .before in
     right _ _ _ _ _ (sym (one .before .ill-sized .ensures) ∙ one .if1 .left)
     (sym (two .before .is-barred .ensures) ∙ two .if2 .left)
-    (four .before .if3 .left) (four .if4 .left) (sym (c .before .too-many .ensures) ∙ c .if5 .left)
+    (c .before .if3 .left) (c .if4 .left)
 
 pub node-refusal-spec : {M : Type 1} → statement M
 node-refusal-spec =
@@ -67,6 +54,4 @@ node-refusal-spec =
     returns-2
     returns-3
     returns-4
-    too-many-requires
-    returns-5
-    returns-6)
+    returns-5)

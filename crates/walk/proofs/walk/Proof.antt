@@ -1,5 +1,7 @@
 -- `walk::walk`: the file's header, and then its nodes.
+use native.Mathlib.Omega.{arith}
 use mathlib.Core.Path.{sym, _∙_}
+use lib.ListN.{length-drop}
 use borrow.Author.Tests.{not-true, not-false}
 use Rattle.base.proofs.Answers.{clauses}
 use Rattle.walk.proofs.Whole.{header-there, too-long, no-cast, no-version, nodes-refused, nodes-done}
@@ -45,26 +47,18 @@ u32-at-requires-2 c κs = search needs
 u32-at-requires-3 : tie.Need-u32-at-requires-3
 u32-at-requires-3 c κs = search needs
 
-sub-walk-children : tie.Need-sub-walk-children
-sub-walk-children c =
-    let two = c .before .before .before .before in
-    let k = two .before in
-    header-there (k .before .before .before .before .args .file .now) (sym (k .is-cast .ensures) ∙ not-false _ (two .if2 .left))
-
-part-walk-children-start : tie.Need-part-walk-children-start
-part-walk-children-start c =
-    let two = c .before .before .before .before in
-    let k = two .before in
-    header-there (k .before .before .before .before .args .file .now) (sym (k .is-cast .ensures) ∙ not-false _ (two .if2 .left))
-
-part-walk-children-end : tie.Need-part-walk-children-end
-part-walk-children-end c = search needs
-
 walk-children-requires : tie.Need-walk-children-requires
-walk-children-requires c κs = search needs
+walk-children-requires c κs =
+    let two = c .before .before .before .before .before in
+    let k = two .before in
+    omega (arith, header-there (k .before .before .before .before .args .file .now) (sym (k .is-cast .ensures) ∙ not-false _ (two .if2 .left)))
 
 cast-refused-answer : tie.Need-cast-refused-answer
-cast-refused-answer c = search needs
+cast-refused-answer c =
+    let w = c .before .before .before .before .before in
+    let two = w .before .before .before .before .before .before in
+    let file = two .before .before .before .before .before .args .file .now in
+    omega (arith, w .walk-children .ensures .within, length-drop 16 file)
 
 refused-answer-requires-4 : tie.Need-refused-answer-requires-4
 refused-answer-requires-4 c κs = search needs
@@ -75,7 +69,7 @@ same-length c = search needs
 returns-4 : tie.Need-returns-4
 returns-4 c =
     let w = c .before .before .before .before .before .before in
-    let r = w .before .before .before .before in
+    let r = w .before .before .before in
     let three = r .before in
     let v = three .before in
     let two = v .before in
@@ -93,7 +87,7 @@ same-length-2 c = search needs
 returns-5 : tie.Need-returns-5
 returns-5 c =
     let w = c .before .before .before .before .before in
-    let f = w .before .before .before in
+    let f = w .before .before in
     let r = f .before in
     let three = r .before in
     let v = three .before in
@@ -117,9 +111,6 @@ walk-spec =
     returns-3
     u32-at-requires-2
     u32-at-requires-3
-    sub-walk-children
-    part-walk-children-start
-    part-walk-children-end
     walk-children-requires
     cast-refused-answer
     refused-answer-requires-4

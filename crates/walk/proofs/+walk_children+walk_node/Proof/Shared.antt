@@ -1,5 +1,5 @@
--- The measures of the cycle, twice the bytes and one more for a list of nodes; and what each member is handed.
-use Prim.Native.Nat.{ℕ, _<_, _+_, _*_}
+-- The measures of the cycle, twice the bytes from its place on and one more for a list of nodes; and what each member is handed.
+use Prim.Native.Nat.{ℕ, _<_, _+_, _-_, _*_}
 use lib.ListN.{length}
 use borrow.Fn.Kinds.{In}
 use borrow.Fn.PlainCycle.{Measures, is, falls, and}
@@ -18,10 +18,10 @@ use Rattle.walk.proofs.walk_node.Kinds as walk-node-kinds
 use Rattle.walk.proofs.+walk_children+walk_node.Lts-walk_node as walk-node-lts
 
 abbrev pub μ-walk-children : Measures 2 walk-children-kinds.ps ℕ
-μ-walk-children κs a = 2 * length (a .0 .now) + 1
+μ-walk-children κs a = 2 * (length (a .0 .now) - a .1 .1 .0) + 1
 
 abbrev pub μ-walk-node : Measures 2 walk-node-kinds.ps ℕ
-μ-walk-node κs a = 2 * length (a .0 .now)
+μ-walk-node κs a = 2 * (length (a .0 .now) - a .1 .1 .0)
 
 abbrev pub walk-children-at : ℕ → In 2 walk-children-kinds.ps
 walk-children-at t =
@@ -59,8 +59,6 @@ walk-node-calls t = (
   put-node-reads.Learnt,
   pass-properties-reads.Asked,
   pass-properties-reads.Learnt,
-  left-over-reads.Asked,
-  left-over-reads.Learnt,
   walk-children-below t,
   walk-children.Post,
 )

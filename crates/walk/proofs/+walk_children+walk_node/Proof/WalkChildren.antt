@@ -3,7 +3,7 @@ use Prim.Native.Nat.{ℕ}
 use native.Mathlib.Omega.{arith}
 use mathlib.Core.Path.{_∙_}
 use borrow.Author.Needs.{needs}
-use Rattle.walk.proofs.Steps.{Going, going, turn, turn-refused, all-walked, came-length}
+use Rattle.walk.proofs.Steps.{Going, going, stands, turn, turn-refused, all-walked, came-length}
 use Rattle.walk.proofs.walk_children.Reads as walk-children
 use Rattle.walk.proofs.+walk_children+walk_node.Lts-walk_children as walk-children-lts
 use Rattle.walk.proofs.+walk_children+walk_node.Proof.Shared.{walk-children-at, walk-children-calls}
@@ -18,30 +18,21 @@ abbrev μ-loop : walk-children-lts.MeasureT-loop
 loop-holds : (t : ℕ) → walk-children-lts.Need-loop-holds (walk-children-calls t) (walk-children-at t) walk-children.Post Inv-loop μ-loop
 loop-holds t c = going (omega arith)
 
-sub-done : (t : ℕ) → walk-children-lts.Need-sub-done (walk-children-calls t) (walk-children-at t) walk-children.Post Inv-loop μ-loop
-sub-done t c = search needs
-
-sub-walk-node : (t : ℕ) → walk-children-lts.Need-sub-walk-node (walk-children-calls t) (walk-children-at t) walk-children.Post Inv-loop μ-loop
-sub-walk-node t c = search needs
-
-part-walk-node-start : (t : ℕ) → walk-children-lts.Need-part-walk-node-start (walk-children-calls t) (walk-children-at t) walk-children.Post Inv-loop μ-loop
-part-walk-node-start t c = search needs
-
-part-walk-node-end : (t : ℕ) → walk-children-lts.Need-part-walk-node-end (walk-children-calls t) (walk-children-at t) walk-children.Post Inv-loop μ-loop
-part-walk-node-end t c = search needs
-
 walk-node-requires : (t : ℕ) → walk-children-lts.Need-walk-node-requires (walk-children-calls t) (walk-children-at t) walk-children.Post Inv-loop μ-loop
-walk-node-requires t c κs = search needs
+walk-node-requires t c κs =
+    let l = c .before .before in
+    let p = l .before .before .before .pre in
+    omega (arith, l .loop .inv .came .onward, stands (l .loop .inv) (p .1 .0), l .loop .inv .came .few, p)
 
 same-length : (t : ℕ) → walk-children-lts.Need-same-length (walk-children-calls t) (walk-children-at t) walk-children.Post Inv-loop μ-loop
 same-length t c =
     let m = c .before .before .before .before in
-    came-length (m .walk-node .ensures) ∙ came-length (m .before .before .before .before .loop .inv .came)
+    came-length (m .walk-node .ensures) ∙ came-length (m .before .before .before .loop .inv .came)
 
 returns : (t : ℕ) → walk-children-lts.Need-returns (walk-children-calls t) (walk-children-at t) walk-children.Post Inv-loop μ-loop
 returns t c =
     let m = c .before .before .before .before in
-    let i = m .before .before .before in
+    let i = m .before .before in
     turn-refused (i .before .loop .inv) (i .loop-test .taken) (m .walk-node .ensures) (c .if1 .taken)
 
 sub-left : (t : ℕ) → walk-children-lts.Need-sub-left (walk-children-calls t) (walk-children-at t) walk-children.Post Inv-loop μ-loop
@@ -53,14 +44,13 @@ loop-less t c = search needs
 loop-again : (t : ℕ) → walk-children-lts.Need-loop-again (walk-children-calls t) (walk-children-at t) walk-children.Post Inv-loop μ-loop
 loop-again t c =
     let m = c .before .before .before .before in
-    let i = m .before .before .before in
+    let i = m .before .before in
     turn (i .before .loop .inv) (i .loop-test .taken) (m .walk-node .ensures) (c .if1 .left)
 
 sub-left-over : (t : ℕ) → walk-children-lts.Need-sub-left-over (walk-children-calls t) (walk-children-at t) walk-children.Post Inv-loop μ-loop
-sub-left-over t c = search needs
-
-sub-left-over-2 : (t : ℕ) → walk-children-lts.Need-sub-left-over-2 (walk-children-calls t) (walk-children-at t) walk-children.Post Inv-loop μ-loop
-sub-left-over-2 t c = search needs
+sub-left-over t c =
+    let l = c .before in
+    stands (l .loop .inv) (l .before .before .before .pre .1 .0)
 
 left-over-requires : (t : ℕ) → walk-children-lts.Need-left-over-requires (walk-children-calls t) (walk-children-at t) walk-children.Post Inv-loop μ-loop
 left-over-requires t c κs = search needs
@@ -80,10 +70,6 @@ closed t =
     Inv-loop
     μ-loop
     (loop-holds t)
-    (sub-done t)
-    (sub-walk-node t)
-    (part-walk-node-start t)
-    (part-walk-node-end t)
     (walk-node-requires t)
     (same-length t)
     (returns t)
@@ -91,7 +77,6 @@ closed t =
     (loop-less t)
     (loop-again t)
     (sub-left-over t)
-    (sub-left-over-2 t)
     (left-over-requires t)
     (same-length-2 t)
     (returns-2 t)
