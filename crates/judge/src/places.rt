@@ -26,17 +26,11 @@ fn first_number(numbers: &[usize], k: usize) -> usize
     i
 }
 
-// Whether a number is among some. It has no early way out, so that it is compiled to a few wide comparisons.
+// Whether a number is among some.
 pub(crate) fn has_number(numbers: &[usize], k: usize) -> bool
     ensures { λ r. ⌜ r ≡ hasNumber (now (numbers .entry)) k ⌝ }
 {
-    let mut any = false;
-    let mut i: usize = 0;
-    while i < numbers.len() {
-        any = any | (numbers[i] == k);
-        i += 1;
-    }
-    any
+    first_number(numbers, k) < numbers.len()
 }
 
 // Whether a line is there, and is that of one name.
