@@ -16,7 +16,7 @@ use Rattle.props.specs.declared.Offsets.{Offsets}
 use Rattle.props.specs.declared.Step.{Step}
 use Rattle.props.specs.declared.Step.the-variants.{Past, Refused}
 use Rattle.props.specs.Types.{elementSize, noSuch}
-use Rattle.props.specs.Step.{headerAt, codeAt, sizeAt, lengthAt, nameAt, startAt, lengthOk, dataSize, stepAt}
+use Rattle.props.specs.Step.{codeAt, sizeAt, lengthAt, nameAt, startAt, lengthOk, dataSize, stepAt}
 use Rattle.props.proofs.Within.{StepWithin, within, StepEnds, ends}
 use Rattle.body.specs.Body.{byStep, pass, properties, nextBy, nextAt, skim, skimmed}
 

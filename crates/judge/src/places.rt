@@ -41,8 +41,8 @@ fn is_plain(lines: &[rules::Columns], k: usize) -> bool
     (k < lines.len()) & (e.numbered != rules::columns::NUMBERED)
 }
 
-// The first of some properties that has a name; their number where none has. Names are compared only where the name's line
-// does not tell it from others.
+// The first of some properties that has a name; their number where none has. Names are compared where there are fewer
+// properties than lines to look through, or where the name's line does not tell it from others.
 pub(crate) fn place_named(
     lines: &[rules::Columns],
     body: &[u8],
@@ -54,6 +54,9 @@ pub(crate) fn place_named(
     ensures result { λ r. ⌜ r ≡ firstNamed (now (body .entry)) (now (name .entry)) (now (starts .entry)) ⌝ }
     ensures within { λ r. ⌜ r ≤ length (now (starts .entry)) ⌝ }
 {
+    if starts.len() < lines.len() {
+        return body::first_named(body, starts, name);
+    }
     let k = rules::line_named(lines, name);
     if is_plain(lines, k) {
         return first_number(numbers, k);
