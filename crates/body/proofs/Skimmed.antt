@@ -16,9 +16,9 @@ use Rattle.props.specs.declared.Offsets.{Offsets}
 use Rattle.props.specs.declared.Step.{Step}
 use Rattle.props.specs.declared.Step.the-variants.{Past, Refused}
 use Rattle.props.specs.Types.{elementSize, noSuch}
-use Rattle.props.specs.Step.{headerAt, codeAt, sizeAt, lengthAt, nameAt, startAt, lengthOk, dataSize, stepAt}
+use Rattle.props.specs.Step.{codeAt, sizeAt, lengthAt, nameAt, startAt, lengthOk, dataSize, stepAt}
 use Rattle.props.proofs.Within.{StepWithin, within, StepEnds, ends}
-use Rattle.body.specs.Body.{byStep, pass, properties, nextAt, skim, skimmed}
+use Rattle.body.specs.Body.{byStep, pass, properties, nextBy, nextAt, skim, skimmed}
 
 -- a step that refuses has a number
 abbrev Told : Step → Type 0
@@ -34,38 +34,34 @@ module _ (s : List ℕ) where
   unfolding nextAt
   next-most at = omega arith
 
-  next-cut : (at : ℕ) → length s ≤ ended at → length s ≡ nextAt s at
-  unfolding nextAt
-  next-cut at h = omega (arith, h)
-
   next-inside : (at : ℕ) → ended at ≤ length s → ended at ≡ nextAt s at
   unfolding nextAt
   next-inside at h = omega (arith, h)
 
-  pub next-past : (at : ℕ) → length s ≤ at → (length s ≡ nextAt s at) × (length s ≤ length s)
-  next-past at h = (next-cut at (omega (arith, h)), omega arith)
+  -- by a header, and how many bytes its data takes
+  module _ (at : ℕ) (h : PropertyHeader) where
+    abbrev endedBy : ℕ
+    endedBy = at + 8 + h .size + dataSize (elementSize (h .code)) (h .length) (drop (at + 8 + h .size) s)
 
-  -- by the header that was read, and how many bytes its data takes
-  module _ (at : ℕ) {h : PropertyHeader} {w : ℕ} (e : h ≡ headerAt s at) (q : w ≡ h .size) where
-    size : w ≡ sizeAt s at
-    size = q ∙ ap (λ (h : PropertyHeader). h .size) e
+    cut : length s ≤ endedBy → (length s ≡ nextBy s at h) × (length s ≤ length s)
+    cut l = (omega (arith, l), omega arith)
 
-    pub next-short : length s ≤ at + (8 + w) → (length s ≡ nextAt s at) × (length s ≤ length s)
-    next-short l = (next-cut at (omega (arith, l, size)), omega arith)
+    pub next-past : length s ≤ at → (length s ≡ nextBy s at h) × (length s ≤ length s)
+    next-past l = cut (omega (arith, l))
 
-    module _ {taken : ℕ} (d : taken ≡ dataSize (elementSize (h .code)) (h .length) (rest s (at + (8 + w)))) where
-      is-end : at + (8 + w) + taken ≡ ended at
-      is-end =
-          let code : h .code ≡ codeAt s at = ap (λ (h : PropertyHeader). h .code) e in
-          let len : h .length ≡ lengthAt s at = ap (λ (h : PropertyHeader). h .length) e in
-          let start : at + (8 + w) ≡ startAt s at = omega (arith, size) in
-          rw (d, rest-drop s (at + (8 + w)), code, len, start)
+    module _ {w : ℕ} (q : w ≡ h .size) where
+      pub next-short : length s ≤ at + (8 + w) → (length s ≡ nextBy s at h) × (length s ≤ length s)
+      next-short l = cut (omega (arith, l, q))
 
-      pub next-long : length s ≤ at + (8 + w) + taken → (length s ≡ nextAt s at) × (length s ≤ length s)
-      next-long l = (next-cut at (omega (arith, l, is-end)), omega arith)
+      module _ {taken : ℕ} (d : taken ≡ dataSize (elementSize (h .code)) (h .length) (rest s (at + (8 + w)))) where
+        is-end : at + (8 + w) + taken ≡ endedBy
+        is-end = let start : at + (8 + w) ≡ at + 8 + h .size = omega (arith, q) in rw (d, rest-drop s (at + (8 + w)), start)
 
-      pub next-whole : at + (8 + w) + taken ≤ length s → (at + (8 + w) + taken ≡ nextAt s at) × (at + (8 + w) + taken ≤ length s)
-      next-whole l = (is-end ∙ next-inside at (omega (arith, l, is-end)), l)
+        pub next-long : length s ≤ at + (8 + w) + taken → (length s ≡ nextBy s at h) × (length s ≤ length s)
+        next-long l = cut (omega (arith, l, is-end))
+
+        pub next-whole : at + (8 + w) + taken ≤ length s → (at + (8 + w) + taken ≡ nextBy s at h) × (at + (8 + w) + taken ≤ length s)
+        next-whole l = (omega (arith, l, is-end), l)
 
   -- ---- the places
   pub length-skim : (k at : ℕ) → length (skim s k at) ≡ k

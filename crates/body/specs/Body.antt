@@ -8,10 +8,11 @@ use lib.ListN.{length, drop, replicate}
 use lib.Seq.{sets}
 use Rattle.base.specs.Limits.{mostProperties}
 use Rattle.names.specs.Names.{same}
+use Rattle.props.specs.declared.PropertyHeader.{PropertyHeader}
 use Rattle.props.specs.declared.Step.{Step}
 use Rattle.props.specs.declared.Step.the-variants.{Past, Refused}
 use Rattle.props.specs.Types.{elementSize}
-use Rattle.props.specs.Step.{codeAt, lengthAt, startAt, dataSize, stepAt, nameAt}
+use Rattle.props.specs.Step.{headerAt, dataSize, stepAt, nameAt}
 use Rattle.body.specs.declared.Passed.{Passed}
 use Rattle.body.specs.declared.Index.{Index}
 
@@ -61,9 +62,12 @@ indexOf w = record { number = w .number; count = length (w .starts); starts = se
 
 -- ---- a second pass over properties that were passed already judges none of them
 
--- where the property at a place ends by its header's numbers, at most at the end of the bytes
+-- where a property at a place ends by a header's numbers, at most at the end of the bytes; and by its own
+abbrev pub nextBy : List ℕ → (at : ℕ) → PropertyHeader → ℕ
+nextBy s at h = let start = at + 8 + h .size in min (start + dataSize (elementSize (h .code)) (h .length) (drop start s)) (length s)
+
 unfoldable pub nextAt : List ℕ → (at : ℕ) → ℕ
-nextAt s at = min (startAt s at + dataSize (elementSize (codeAt s at)) (lengthAt s at) (drop (startAt s at) s)) (length s)
+nextAt s at = nextBy s at (headerAt s at)
 
 -- where k properties start, from a place on; and from the start on, at most 64
 unfoldable pub skim : List ℕ → (k at : ℕ) → List ℕ

@@ -3,7 +3,7 @@ ghost use mathlib.Core.Path.{_≡_};
 ghost use Prim.Native.Nat.{_≤_, _<_};
 ghost use lib.ListN.{length};
 ghost use Rattle.base.specs.Limits.{mostProperties};
-ghost use Rattle.body.specs.Body.{pass, properties, exactly, endOf, indexOf, nextAt, firstNamed};
+ghost use Rattle.body.specs.Body.{pass, properties, exactly, endOf, indexOf, nextBy, nextAt, firstNamed};
 
 fn wide(x: u16) -> usize
     ensures { λ r. ⌜ (r ≡ x) × (r < 65536) ⌝ }
@@ -100,16 +100,15 @@ pub fn index_of(body: &[u8], count: u32) -> Index
     }
 }
 
-// Where the property at a place ends by its header, at most at the end of the body: for one that was passed already.
-pub fn next_at(body: &[u8], at: usize) -> usize
-    ensures result { λ r. ⌜ r ≡ nextAt (now (body .entry)) at ⌝ }
+// Where a property at a place ends by a header, at most at the end of the body: for one that was passed already.
+pub fn next_by(body: &[u8], at: usize, h: props::PropertyHeader) -> usize
+    ensures result { λ r. ⌜ r ≡ nextBy (now (body .entry)) at h ⌝ }
     ensures within { λ r. ⌜ r ≤ length (now (body .entry)) ⌝ }
 {
     let n = body.len();
     if n < at {
         return n;
     }
-    let h = props::header_at(body, at);
     let data = 8 + wide(h.size);
     if n - at < data {
         return n;
@@ -120,6 +119,14 @@ pub fn next_at(body: &[u8], at: usize) -> usize
         return n;
     }
     start + taken
+}
+
+// The same by its own header.
+pub fn next_at(body: &[u8], at: usize) -> usize
+    ensures result { λ r. ⌜ r ≡ nextAt (now (body .entry)) at ⌝ }
+    ensures within { λ r. ⌜ r ≤ length (now (body .entry)) ⌝ }
+{
+    next_by(body, at, props::header_at(body, at))
 }
 
 // The first of the properties that start at these places which has the name; their number where none has.

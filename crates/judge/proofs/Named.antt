@@ -3,9 +3,9 @@ use Prim.Native.Nat.{ℕ, suc, _+_, _≤_, _<_}
 use native.Mathlib.Numerals.{add-one}
 use native.Mathlib.Omega.{arith}
 use mathlib.Core.Path.{_≡_, refl, sym, ap, _∙_}
-use mathlib.Core.Bool.{Bool, true, false, cond, not, _&&_, _||_, and-false, and-eq-true-iff, or-assoc, or-false, true≢false}
+use mathlib.Core.Bool.{Bool, true, false, cond, not, _&&_, and-false, and-eq-true-iff, true≢false}
 use mathlib.Core.List.{List, [], _∷_, map}
-use lib.Dec.{eqb, ltb, leb·suc-suc}
+use lib.Dec.{eqb, ltb}
 use lib.ListN.{length, drop, getD, drop-of-length-le, length-map}
 use lib.Seq.{drop-cons}
 use borrow.Author.Tests.{eq-eqb, ne-eqb, eqb-true, lt-ltb, ltb-true, not-true}
@@ -35,24 +35,6 @@ module _ (ns : List ℕ) (k i : ℕ) where
   pub number-nowhere : length ns ≤ i → i + firstNumber (drop i ns) k ≡ i
   unfolding firstNumber
   number-nowhere h = rw (drop-of-length-le ns {i = i} h) (omega arith)
-
-among : (n : ℕ) (ns : List ℕ) (k : ℕ) → hasNumber (n ∷ ns) k ≡ (eqb n k || hasNumber ns k)
-unfolding firstNumber
-among n ns k = by (eqb n k)
-  where
-    by : (b : Bool) → ltb (cond b 0 (suc (firstNumber ns k))) (suc (length ns)) ≡ (b || hasNumber ns k)
-    by true = lt-ltb 0 (suc (length ns)) (omega arith)
-    by false = leb·suc-suc (suc (firstNumber ns k)) (length ns)
-
-module _ (any : Bool) (ns : List ℕ) (k i : ℕ) where
-  pub among-next : i < length ns → ((any || eqb (getD ns i 0) k) || hasNumber (drop (i + 1) ns) k) ≡ (any || hasNumber (drop i ns) k)
-  among-next h =
-      rw (add-one i, drop-cons ns i 0 h, among (getD ns i 0) (drop (suc i) ns) k)
-      (or-assoc any (eqb (getD ns i 0) k) (hasNumber (drop (suc i) ns) k))
-
-  pub among-ended : length ns ≤ i → any ≡ (any || hasNumber (drop i ns) k)
-  unfolding firstNumber
-  among-ended h = rw (drop-of-length-le ns {i = i} h) (sym (or-false any))
 
 -- ---- a line and its names
 pub is-plain : (rows : List (List ℕ)) (k : ℕ) → (ltb k (length rows) && not (getD (linesFrom rows) k free .numbered)) ≡ true →

@@ -1,8 +1,8 @@
--- 14: a line at a time.
+-- 14: a line at a time, and partners.
 use Prim.Native.Nat.{ℕ, _+_, _≤_, _<_}
 use native.Mathlib.Numerals.{add-one}
 use mathlib.Core.Path.{_≡_}
-use mathlib.Core.Bool.{false, not, _||_}
+use mathlib.Core.Bool.{Bool, true, false, not, _&&_, _||_}
 use mathlib.Core.List.{List}
 use lib.ListN.{length, drop, getD, drop-of-length-le}
 use lib.Seq.{drop-cons}
@@ -11,7 +11,7 @@ use Rattle.rules.specs.declared.Entry.{Entry}
 use Rattle.rules.specs.Table.{Line, free}
 use Rattle.rules.specs.Packing.{lineOf}
 use Rattle.judge.specs.Properties.{has}
-use Rattle.judge.specs.Missing.{isMissing, misses}
+use Rattle.judge.specs.Missing.{isMissing, misses, partnered}
 
 module _ (s starts : List ℕ) where
   -- ---- one line
@@ -31,3 +31,11 @@ module _ (s starts : List ℕ) where
     pub ended : length ls ≤ k → misses (drop k ls) s starts ≡ false
     unfolding misses
     ended h = rw (drop-of-length-le ls {i = k} h)
+
+-- ---- partners: mi is asked for only where wb or wv is there
+module _ (wb wv mi : Bool) where
+  pub without-weights : (not wb && not wv) ≡ true → false ≡ not (partnered wb wv mi)
+  without-weights e = rw e
+
+  pub with-weights : (not wb && not wv) ≡ false → not ((wb && wv) && mi) ≡ not (partnered wb wv mi)
+  with-weights e = rw e

@@ -1,29 +1,32 @@
 -- 13: a name whose slot is not marked is a new name; a property that is right is passed; and what is noted of those passed.
-use Prim.Native.Nat.{ℕ, zero, suc, _+_, _-_, _/_, _%_, _^_, _≤_, _<_}
+use Prim.Native.Nat.{ℕ, zero, suc, _+_, _-_, _*_, _/_, _%_, _^_, _≤_, _<_}
 use native.Mathlib.Omega.{arith}
+use native.Mathlib.Nat.{pow-succ'}
 use native.Mathlib.Numerals.{add-one}
 use mathlib.Core.Path.{_≡_, refl, sym, ap, _∙_, subst}
 use mathlib.Core.Bool.{Bool, true, false, cond, _||_, true≢false}
 use mathlib.Core.List.{List, [], _∷_, _++_, map, map-append, append-assoc, append-nil}
 use lib.Dec.{eqb}
-use lib.ListN.{length, take, drop, getD, set, length-map, length-set, drop-of-length-le}
-use lib.Seq.{getD-set-same, getD-set-other, drop-cons, drop-drop, take-suc, take-append-seam, length-take-le, sets, sets-eq, length-sets}
+use lib.Pow.{pow-add}
+use lib.ListN.{length, take, drop, getD, set, length-map, length-set, length-take, length-drop, drop-of-length-le}
+use lib.Seq.{getD-set-same, getD-set-other, drop-cons, drop-drop, take-suc, take-all, take-length, take-take, take-append-seam, length-take-le, sets, sets-eq, length-sets}
 use borrow.Author.Tests.{eq-eqb, eqb-true, eqb-false, le-ltb}
-use Rattle.le.specs.Le.{numberAt}
+use Rattle.le.specs.Le.{val, numberAt, AreBytes}
+use Rattle.le.proofs.Laws.{numberAt-past, numberAt-high}
 use Rattle.base.proofs.Stores.{sets-more}
 use Rattle.base.proofs.Tests.{by-test}
 use Rattle.names.specs.Names.{same}
 use Rattle.names.proofs.Laws.{same-eq}
 use Rattle.props.specs.declared.PropertyHeader.{PropertyHeader}
-use Rattle.props.specs.Step.{headerAt, codeAt, lengthAt, nameAt}
-use Rattle.body.specs.Body.{nextAt, skim, firstNamed}
+use Rattle.props.specs.Step.{headerAt, codeAt, sizeAt, lengthAt, nameAt}
+use Rattle.body.specs.Body.{nextBy, nextAt, skim, firstNamed}
 use Rattle.body.proofs.Skimmed.{length-skim}
 use Rattle.rules.specs.Table.{Line, free}
 use Rattle.rules.specs.Rules.{misfits, findIn}
 use Rattle.rules.proofs.Laws.{found}
 use Rattle.base.specs.declared.Refusal.{Refusal}
 use Rattle.judge.specs.Properties.{lineNumber, has}
-use Rattle.judge.specs.Typed.{isMistyped, typed, rightlyTyped, keyFrom, keyOf, slotOf, slotAt, marked}
+use Rattle.judge.specs.Typed.{isMistyped, typed, rightlyTyped, lastLetters, summed, keyFrom, keyOf, slotOf, slotAt, marked}
 use Rattle.base.specs.Refusals.{refusal, noRefusal}
 use Rattle.judge.specs.Private.{hasKey, Noted}
 
@@ -83,33 +86,74 @@ unseen s name starts marks₀ m {marks₁} slot e k h n =
     let end = unnamed s name starts out in
     le-ltb (firstNamed s name starts) (length starts) (omega arith)
 
+two-eights : (w : ℕ) → 2 ^ (8 * w) ≡ 256 ^ w
+two-eights zero = refl
+two-eights (suc w) =
+    let more : 8 * suc w ≡ 8 + 8 * w = omega arith in
+    ap (λ k. 2 ^ k) more ∙ pow-add 2 8 (8 * w) ∙ ap (λ k. 256 * k) (two-eights w) ∙ sym (pow-succ' 256 w)
+
+-- the last letters of a name
+pub no-letters : (name : List ℕ) → length name ≡ 0 → 0 ≡ lastLetters name
+unfolding lastLetters
+no-letters name e = sym (numberAt-past 8 name (length name - 8) (omega (arith, e)))
+
+pub some-letters : (name : List ℕ) {n : ℕ} → n ≡ numberAt 8 name (length name - 8) → n ≡ lastLetters name
+unfolding lastLetters
+some-letters name e = e
+
+module _ (s : List ℕ) (at : ℕ) {name : List ℕ} (e : name ≡ nameAt s at) where
+  is-part : name ≡ take (length name) (drop (at + 8) s)
+  unfolding nameAt
+  is-part =
+      let most : length name ≤ sizeAt s at = omega (arith, ap length e, length-take (sizeAt s at) (drop (at + 8) s)) in
+      sym (take-length name) ∙ ap (take (length name)) e ∙ take-take (length name) (sizeAt s at) (drop (at + 8) s) most
+
+  pub name-within : length name ≤ length s - (at + 8)
+  name-within = omega (arith, ap length is-part, length-take (length name) (drop (at + 8) s), length-drop (at + 8) s)
+
+  module _ (b : AreBytes s) (few : length name ≤ 8) where
+    all-letters : lastLetters name ≡ numberAt (length name) s (at + 8)
+    unfolding lastLetters numberAt
+    all-letters =
+        let first : length name - 8 ≡ 0 = omega (arith, few) in
+        ap (λ k. val (take 8 (drop k name))) first ∙ ap val (take-all 8 name few ∙ is-part)
+
+    pub short-letters : {n : ℕ} → n ≡ numberAt 8 s (at + length name) → n / 2 ^ (64 - 8 * length name) ≡ lastLetters name
+    short-letters {n} q =
+        let w = 8 - length name in
+        let eights : 64 - 8 * length name ≡ 8 * w = omega (arith, few) in
+        let whole : 8 ≡ w + length name = omega (arith, few) in
+        let place : at + length name + w ≡ at + 8 = omega (arith, few) in
+        ap (λ k. n / 2 ^ k) eights ∙ ap (λ k. n / k) (two-eights w) ∙ ap (λ m. m / 256 ^ w) (q ∙ ap (λ k. numberAt k s (at + length name)) whole)
+        ∙ numberAt-high w (length name) s (at + length name) b ∙ ap (numberAt (length name) s) place ∙ sym all-letters
+
 -- the key, eight letters at a time
 module _ (name : List ℕ) where
-  -- what is left of it from a place on, with the sum of the letters before
+  -- what is left of it from a place on, with the sum so far
   abbrev pub keyLeft : (sum i : ℕ) → ℕ
-  keyLeft sum i = keyFrom ((length name - i + 7) / 8) sum (drop i name)
+  keyLeft sum i = keyFrom ((length name - 1 - i) / 8) sum (drop i name)
 
-  module _ (sum i : ℕ) (h : i < length name) where
+  module _ (sum i : ℕ) (h : 8 < length name - i) where
     pub key-step : {eight twice next : ℕ} → eight ≡ numberAt 8 name i → twice ≡ (sum + sum) % 2 ^ 64 → next ≡ (twice + eight) % 2 ^ 64 →
         keyLeft next (i + 8) ≡ keyLeft sum i
     unfolding keyFrom numberAt
     key-step {eight} {twice} {next} e t n =
-        let left = (length name - (i + 8) + 7) / 8 in
-        let more : (length name - i + 7) / 8 ≡ suc left = omega (arith, h) in
+        let left = (length name - 1 - (i + 8)) / 8 in
+        let more : (length name - 1 - i) / 8 ≡ suc left = omega (arith, h) in
         let letters : numberAt 8 (drop i name) 0 ≡ eight = sym e in
-        let summed : ((sum + sum) % 2 ^ 64 + numberAt 8 (drop i name) 0) % 2 ^ 64 ≡ next =
-        ap (λ m. ((sum + sum) % 2 ^ 64 + m) % 2 ^ 64) letters ∙ ap (λ m. (m + eight) % 2 ^ 64) (sym t) ∙ sym n in
-        sym (ap (λ k. keyFrom k sum (drop i name)) more ∙ ap (λ m. keyFrom left m (drop 8 (drop i name))) summed ∙ ap (keyFrom left next) (drop-drop 8 i name))
+        let added : summed sum (numberAt 8 (drop i name) 0) ≡ next = ap (summed sum) letters ∙ ap (λ m. (m + eight) % 2 ^ 64) (sym t) ∙ sym n in
+        sym (ap (λ k. keyFrom k sum (drop i name)) more ∙ ap (λ m. keyFrom left m (drop 8 (drop i name))) added ∙ ap (keyFrom left next) (drop-drop 8 i name))
 
-  pub key-done : (sum i : ℕ) → length name ≤ i → sum ≡ keyLeft sum i
-  unfolding keyFrom
-  key-done sum i h =
-      let none : (length name - i + 7) / 8 ≡ 0 = omega (arith, h) in
-      sym (ap (λ k. keyFrom k sum (drop i name)) none)
+  pub key-start : keyLeft 0 0 ≡ keyFrom ((length name - 1) / 8) 0 name
+  key-start = let whole : length name - 1 - 0 ≡ length name - 1 = omega arith in ap (λ n. keyFrom (n / 8) 0 name) whole
 
-  pub key-start : keyLeft 0 0 ≡ keyOf name
-  unfolding keyOf
-  key-start = let whole : length name - 0 + 7 ≡ length name + 7 = omega arith in ap (λ n. keyFrom (n / 8) 0 name) whole
+  pub key-done : (sum i : ℕ) → length name - i ≤ 8 → keyLeft sum i ≡ keyFrom ((length name - 1) / 8) 0 name → {last twice key : ℕ} →
+      last ≡ lastLetters name → twice ≡ (sum + sum) % 2 ^ 64 → key ≡ (twice + last) % 2 ^ 64 → key ≡ keyOf name
+  unfolding keyFrom keyOf
+  key-done sum i h left {last} {twice} {key} e t k =
+      let none : (length name - 1 - i) / 8 ≡ 0 = omega (arith, h) in
+      let all : sum ≡ keyFrom ((length name - 1) / 8) 0 name = sym (ap (λ k. keyFrom k sum (drop i name)) none) ∙ left in
+      k ∙ ap (λ m. (m + last) % 2 ^ 64) t ∙ ap (λ m. summed m last) all ∙ ap (summed (keyFrom ((length name - 1) / 8) 0 name)) e
 
 -- ---- properties
 
@@ -223,6 +267,10 @@ module _ {ls : List Line} {s : List ℕ} {m count : ℕ} {starts₀ numbers₀ m
           let len : hd .length ≡ lengthAt s at = ap (λ (h : PropertyHeader). h .length) e in
           rw (er, em, code, len, g, n, numbered, found ls (nameAt s at))
 
+      by-own : nextBy s at hd ≡ nextAt s at
+      unfolding nextAt
+      by-own = ap (nextBy s at) e
+
       step : typed ls s done (drop i all) ≡ cond (r || x) (refusal 13 (24 + at)) (typed ls s (take (i + 1) all) (drop (i + 1) all))
       unfolding typed
       step = rw (mistyped, here, longer, onward)
@@ -235,12 +283,12 @@ module _ {ls : List Line} {s : List ℕ} {m count : ℕ} {starts₀ numbers₀ m
       refused t =
           (sym (rw t at step) ∙ o .passes, noted-as done refl (sym (o .rights) ∙ ap (λ l. done ++ l) (rw t at kept) ∙ append-nil done))
 
-      pub passed : (r || x) ≡ false → {slot next : ℕ} → slot ≡ slotOf name → next ≡ nextAt s at → next ≤ length s →
+      pub passed : (r || x) ≡ false → {slot next : ℕ} → slot ≡ slotOf name → next ≡ nextBy s at hd → next ≤ length s →
           Noting ls s m count starts₀ numbers₀ marks₀ (set starts₁ i at) (set numbers₁ i k) (set marks₁ slot m) next (i + 1)
       passed t {slot} {next} q y b = record {
         within = omega arith;
         inside = b;
-        left = onward ∙ ap (skim s (count - (i + 1))) (sym y);
+        left = onward ∙ ap (skim s (count - (i + 1))) (sym (y ∙ by-own));
         starts = sets-more (λ x. x) all i 0 inner (sym there) starts₀ (o .starts);
         numbers = sets-more (lineNumber ls s) all i 0 inner (numbered ∙ ap (lineNumber ls s) (sym there)) numbers₀ (o .numbers);
         marks =

@@ -1,6 +1,6 @@
 -- 13: "name twice on a node; listed name with another type or length", at the property. The lines of the node's kind are ls, its body
 -- is s. A place is an offset from the node's header: 24 is the first byte of its body.
-use Prim.Native.Nat.{ℕ, zero, suc, _+_, _*_, _/_, _%_, _^_}
+use Prim.Native.Nat.{ℕ, zero, suc, _+_, _-_, _*_, _/_, _%_, _^_}
 use mathlib.Core.Bool.{Bool, cond, _||_}
 use mathlib.Core.List.{List, [], _∷_, _++_}
 use lib.ListN.{length, drop, set}
@@ -31,13 +31,20 @@ unfoldable pub rightlyTyped : List Line → (s before starts : List ℕ) → Lis
 rightlyTyped ls s before [] = []
 rightlyTyped ls s before (at ∷ more) = cond (isMistyped ls s before at) [] (at ∷ rightlyTyped ls s (before ++ (at ∷ [])) more)
 
--- a number that equal names share: of k numbers of eight letters, each is added to twice the sum of those before, at 64 bits
+-- the last eight letters of a name, as a number; of a shorter one, all of them
+unfoldable pub lastLetters : List ℕ → ℕ
+lastLetters name = numberAt 8 name (length name - 8)
+
+-- a number that equal names share: k numbers of eight letters and the last ones, each added to twice the sum so far, at 64 bits
+abbrev pub summed : (sum eight : ℕ) → ℕ
+summed sum eight = ((sum + sum) % 2 ^ 64 + eight) % 2 ^ 64
+
 unfoldable pub keyFrom : (k sum : ℕ) → List ℕ → ℕ
 keyFrom zero sum name = sum
-keyFrom (suc k) sum name = keyFrom k (((sum + sum) % 2 ^ 64 + numberAt 8 name 0) % 2 ^ 64) (drop 8 name)
+keyFrom (suc k) sum name = keyFrom k (summed sum (numberAt 8 name 0)) (drop 8 name)
 
 unfoldable pub keyOf : List ℕ → ℕ
-keyOf name = keyFrom ((length name + 7) / 8) 0 name
+keyOf name = summed (keyFrom ((length name - 1) / 8) 0 name) (lastLetters name)
 
 -- one of 1,024 slots, by sums and products at 64 bits
 unfoldable pub slotOf : List ℕ → ℕ

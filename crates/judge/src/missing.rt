@@ -72,8 +72,11 @@ fn mesh_unpartnered(
 {
     let wb = places::place_named(lines, body, starts, numbers, b"wb") < starts.len();
     let wv = places::place_named(lines, body, starts, numbers, b"wv") < starts.len();
+    if !wb & !wv {
+        return false;
+    }
     let mi = places::place_named(lines, body, starts, numbers, b"mi") < starts.len();
-    !((!wb & !wv) | (wb & wv & mi))
+    !(wb & wv & mi)
 }
 
 // Whether a partner is missing. What is of a mesh alone stands apart, so that nothing is stored for it at another kind.

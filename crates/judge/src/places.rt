@@ -26,17 +26,11 @@ fn first_number(numbers: &[usize], k: usize) -> usize
     i
 }
 
-// Whether a number is among some. It has no early way out, so that it is compiled to a few wide comparisons.
+// Whether a number is among some.
 pub(crate) fn has_number(numbers: &[usize], k: usize) -> bool
     ensures { λ r. ⌜ r ≡ hasNumber (now (numbers .entry)) k ⌝ }
 {
-    let mut any = false;
-    let mut i: usize = 0;
-    while i < numbers.len() {
-        any = any | (numbers[i] == k);
-        i += 1;
-    }
-    any
+    first_number(numbers, k) < numbers.len()
 }
 
 // Whether a line is there, and is that of one name.
@@ -47,8 +41,8 @@ fn is_plain(lines: &[rules::Columns], k: usize) -> bool
     (k < lines.len()) & (e.numbered != rules::columns::NUMBERED)
 }
 
-// The first of some properties that has a name; their number where none has. Names are compared only where the name's line
-// does not tell it from others.
+// The first of some properties that has a name; their number where none has. Names are compared where there are fewer
+// properties than lines to look through, or where the name's line does not tell it from others.
 pub(crate) fn place_named(
     lines: &[rules::Columns],
     body: &[u8],
@@ -60,6 +54,9 @@ pub(crate) fn place_named(
     ensures result { λ r. ⌜ r ≡ firstNamed (now (body .entry)) (now (name .entry)) (now (starts .entry)) ⌝ }
     ensures within { λ r. ⌜ r ≤ length (now (starts .entry)) ⌝ }
 {
+    if starts.len() < lines.len() {
+        return body::first_named(body, starts, name);
+    }
     let k = rules::line_named(lines, name);
     if is_plain(lines, k) {
         return first_number(numbers, k);

@@ -5,34 +5,56 @@ ghost use Prim.Native.Nat.{_+_, _≤_, _<_};
 ghost use mathlib.Core.List.{[]};
 ghost use lib.ListN.{length};
 ghost use Rattle.base.specs.Limits.{mostProperties};
+ghost use Rattle.props.specs.Step.{nameAt};
 ghost use Rattle.body.specs.Body.{skim};
 ghost use Rattle.rules.specs.Packing.{linesFrom};
 ghost use Rattle.judge.specs.Properties.{has};
-ghost use Rattle.judge.specs.Typed.{typed, keyOf, slotOf};
+ghost use Rattle.judge.specs.Typed.{typed, lastLetters, keyOf, slotOf};
 ghost use Rattle.judge.specs.Private.{Noted};
 
-// A number that equal names share: their letters in numbers of eight, each added to twice the sum of those before. Few other
-// names share it.
-fn key_of(name: &[u8]) -> u64
+// The last eight letters of a property's name, as a number; of a shorter name, all of them. As the header stands before the
+// name, there are eight bytes that end with it, and those that are none of it are shifted out.
+fn last_letters(body: &[u8], at: usize, name: &[u8]) -> u64
+    requires { ⌜ now name ≡ nameAt (now body) at ⌝ }
+    ensures { λ r. ⌜ r ≡ lastLetters (now (name .entry)) ⌝ }
+{
+    let n = name.len();
+    if n == 0 {
+        return 0;
+    }
+    if 8 < n {
+        return le::u64_at(name, n - 8);
+    }
+    let from = at + n;
+    let end = from + 8;
+    le::u64_at(&body[from..end], 0) >> (64 - 8 * n)
+}
+
+// A number that equal names share: their letters in numbers of eight, of which the last may share letters with the one
+// before, each added to twice the sum of those before. Few other names share it.
+fn key_of(name: &[u8], last: u64) -> u64
+    requires { ⌜ last ≡ lastLetters (now name) ⌝ }
     ensures { λ r. ⌜ r ≡ keyOf (now (name .entry)) ⌝ }
 {
     let n = name.len();
     let mut key: u64 = 0;
     let mut i: usize = 0;
-    while i < n {
-        let eight = le::u64_at(name, i);
+    while 8 < n - i {
+        let end = i + 8;
+        let eight = le::u64_at(&name[i..end], 0);
         key = std::num::wrapping_add_u64(std::num::wrapping_add_u64(key, key), eight);
-        i += 8;
+        i = end;
     }
-    key
+    std::num::wrapping_add_u64(std::num::wrapping_add_u64(key, key), last)
 }
 
 // One of 1,024 slots, the same for equal names.
-fn slot_of(name: &[u8]) -> usize
+fn slot_at(body: &[u8], at: usize, name: &[u8]) -> usize
+    requires { ⌜ now name ≡ nameAt (now body) at ⌝ }
     ensures result { λ r. ⌜ r ≡ slotOf (now (name .entry)) ⌝ }
     ensures bound { λ r. ⌜ r < 1024 ⌝ }
 {
-    let key = key_of(name);
+    let key = key_of(name, last_letters(body, at, name));
     let low = key % 4294967296 * 0x9E37_79B1;
     let high = key / 4294967296 * 0x85EB_CA77;
     let mixed = std::num::wrapping_add_u64(low, high);
@@ -72,7 +94,7 @@ pub(crate) fn typed(
     while i < count {
         let h = props::header_at(body, at);
         let name = props::name_at(body, at);
-        let slot = slot_of(name);
+        let slot = slot_at(body, at, name);
         let k = rules::line_named(lines, name);
         let repeats = is_before(body, &starts[..i], name, marks[slot] == mark);
         let misfits = rules::misfits(rules::line_in(lines, k), h.code, h.length);
@@ -83,7 +105,7 @@ pub(crate) fn typed(
         starts[i] = at;
         numbers[i] = k;
         marks[slot] = mark;
-        at = body::next_at(body, at);
+        at = body::next_by(body, at, h);
         i += 1;
     }
     base::Refusal {

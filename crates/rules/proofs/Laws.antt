@@ -5,21 +5,18 @@ use native.Mathlib.Numerals.{add-one}
 use mathlib.Core.Path.{_≡_, refl, sym, ap, _∙_}
 use mathlib.Core.Logic.{_⊎_, inl, inr}
 use mathlib.Core.Bool.{Bool, true, false, _&&_, _||_, and-false, and-eq-true-iff}
-use mathlib.Core.List.{List, [], _∷_, _++_, map}
+use mathlib.Core.List.{List, [], _∷_, map}
 use lib.Dec.{eqb}
-use lib.ListN.{length, take, drop, getD, length-map, drop-of-length-le, List·getD-eq-default, List·getD-map}
+use lib.ListN.{length, take, drop, getD, drop-of-length-le, List·getD-eq-default, List·getD-map}
 use lib.Seq.{drop-cons}
-use borrow.Author.Tests.{eq-eqb, ne-eqb, eqb-true}
+use borrow.Author.Tests.{eqb-true}
 use Rattle.base.proofs.Tests.{by-test}
-use Rattle.base.specs.Letters.{letters}
-use Rattle.le.specs.Le.{val, le, numberAt}
 use Rattle.names.specs.Names.{same}
 use Rattle.rules.specs.declared.Entry.{Entry}
-use Rattle.rules.specs.declared.Text.{Text}
 use Rattle.rules.specs.Table.{Line, lines, free}
-use Rattle.rules.specs.Packing.{stringSets, stringsOf, unpacked, lineOf, entryFrom, lineFrom, linesFrom, columnsOf, PackedTable}
+use Rattle.rules.specs.Packing.{stringSets, stringsOf, lineOf, entryFrom, lineFrom, linesFrom, columnsOf, PackedTable}
 use Rattle.rules.specs.Rules.{lists, ruleIn, findIn, ofKind, linesOf, isText, isOneOf}
-use Rattle.rules.specs.Private.{textFrom, stringOf}
+use Rattle.rules.specs.Private.{stringFrom}
 
 -- the line of a kind and name
 abbrev pub ruleOf : (kind : ℕ) (name : List ℕ) → Line
@@ -100,60 +97,27 @@ module _ (test : Line → Bool) (kind : ℕ) (name : List ℕ) where
 
 -- ---- the strings of a set
 
-abbrev text : (set : ℕ) → List ℕ → Text
-text set string = record { set = set; size = length string; first = numberAt 4 string 0; second = numberAt 4 string 4; third = numberAt 4 string 8 }
+module _ (rows : List (List ℕ)) (bytes : List ℕ) (i : ℕ) where
+  module _ (h : i < length rows) {row : List ℕ} (e : row ≡ getD rows i []) where
+    next-row : isOneOf (map stringFrom (drop i rows)) bytes ≡ (isText bytes (stringFrom row) || isOneOf (map stringFrom (drop (i + 1) rows)) bytes)
+    unfolding isOneOf
+    next-row = rw (add-one i, e, drop-cons rows i [] h)
 
--- those of some sets, the first of which has a number
-unfoldable textsFrom : (set : ℕ) → List (List (List ℕ)) → List Text
-textsFrom set [] = []
-textsFrom set (strings ∷ more) = map (text set) strings ++ textsFrom (suc set) more
+    pub text-passed : isText bytes (stringFrom row) ≡ false → isOneOf (map stringFrom (drop i rows)) bytes ≡ isOneOf (map stringFrom (drop (i + 1) rows)) bytes
+    text-passed n = rw (next-row, n)
 
-unfoldable pub texts : List Text
-unfolding textsFrom
-texts = textsFrom 1 stringSets
+    pub text-hit : isText bytes (stringFrom row) ≡ true → isOneOf (map stringFrom (drop i rows)) bytes ≡ true
+    text-hit n = rw (next-row, n)
 
-count : length texts ≡ 20
-unfolding texts textsFrom
-count = refl
+  pub text-ended : length rows ≤ i → isOneOf (map stringFrom (drop i rows)) bytes ≡ false
+  unfolding isOneOf
+  text-ended h = rw (drop-of-length-le rows {i = i} h)
 
--- the string at the start of some bytes is of a set
-unfoldable pub inSet : List Text → (set : ℕ) → List ℕ → Bool
-inSet [] set bytes = false
-inSet (t ∷ ts) set bytes = (eqb (t .set) set && isText bytes (stringOf t)) || inSet ts set bytes
-
--- what the table says is what the sets say
-pub set-says : (set : ℕ) (bytes : List ℕ) → inSet texts set bytes ≡ isOneOf (stringsOf set) bytes
-unfolding texts textsFrom inSet isOneOf stringsOf unpacked letters numberAt val le
-set-says zero bytes = refl
-set-says (suc zero) bytes = refl
-set-says (suc (suc zero)) bytes = refl
-set-says (suc (suc (suc zero))) bytes = refl
-set-says (suc (suc (suc (suc zero)))) bytes = refl
-set-says (suc (suc (suc (suc (suc zero))))) bytes = refl
-set-says (suc (suc (suc (suc (suc (suc n)))))) bytes =
-    let other : (k : ℕ) → k ≤ 5 → eqb k (suc (suc (suc (suc (suc (suc n)))))) ≡ false = λ k h. ne-eqb k _ (λ e. omega (arith, h, e)) in
-    rw (other 1 (omega arith), other 2 (omega arith), other 3 (omega arith), other 4 (omega arith), other 5 (omega arith))
-
-module _ (set : ℕ) (bytes : List ℕ) (i : ℕ) where
-  module _ (h : i < 20) {t : Text} (e : t ≡ getD texts i (textFrom [])) where
-    next-text : drop i texts ≡ t ∷ drop (i + 1) texts
-    next-text = rw (add-one i, e) (drop-cons texts i (textFrom []) (omega (arith, count)))
-
-    pub set-passed : (t .set ≡ set → ⊥) → inSet (drop i texts) set bytes ≡ inSet (drop (i + 1) texts) set bytes
-    unfolding inSet
-    set-passed n = rw (next-text, ne-eqb (t .set) set n)
-
-    pub text-passed : isText bytes (stringOf t) ≡ false → inSet (drop i texts) set bytes ≡ inSet (drop (i + 1) texts) set bytes
-    unfolding inSet
-    text-passed n = rw (next-text, n, and-false (eqb (t .set) set))
-
-    pub text-hit : t .set ≡ set → isText bytes (stringOf t) ≡ true → inSet (drop i texts) set bytes ≡ true
-    unfolding inSet
-    text-hit n m = rw (next-text, eq-eqb (t .set) set n, m)
-
-  pub text-ended : 20 ≤ i → inSet (drop i texts) set bytes ≡ false
-  unfolding inSet
-  text-ended h = rw (drop-of-length-le texts {i = i} (omega (arith, count)))
+-- there are five sets
+pub no-set : (set : ℕ) (bytes : List ℕ) → (1 ≤ set → 5 < set) → false ≡ isOneOf (stringsOf set) bytes
+unfolding stringsOf isOneOf
+no-set zero bytes h = refl
+no-set (suc n) bytes h = rw (List·getD-eq-default ([] ∷ stringSets) [] {n = suc n} (omega (arith, h (omega arith))))
 
 -- ---- one string
 

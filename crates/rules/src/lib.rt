@@ -9,7 +9,7 @@ ghost use Rattle.names.specs.Names.{same, numberAfter};
 ghost use Rattle.rules.specs.Table.{lines, free};
 ghost use Rattle.rules.specs.Packing.{lettersOf, stringsOf, typesFrom, lineOf, entryFrom, linesFrom, columnsOf};
 ghost use Rattle.rules.specs.Rules.{takes, misfits, isNumber, lists, findIn, spanOf, rowsOf, isText, isOneOf};
-ghost use Rattle.rules.specs.Private.{textFrom, stringOf};
+ghost use Rattle.rules.specs.Private.{stringFrom};
 
 pub mod columns;
 mod lines;
@@ -216,28 +216,6 @@ pub fn lines_of(rows: &[Columns], kind: u32) -> &[Columns]
     &rows[from..to]
 }
 
-// A string of a set.
-struct Text {
-    set: u32,
-    size: u32,
-    first: u32,
-    second: u32,
-    third: u32,
-}
-
-// A string from its row of the table.
-fn text_from(row: [u32; 5]) -> Text
-    ensures { λ r. ⌜ r ≡ textFrom row ⌝ }
-{
-    Text {
-        set: row[0],
-        size: row[1],
-        first: row[2],
-        second: row[3],
-        third: row[4],
-    }
-}
-
 // Whether a string stands at the start of some bytes: its letters, and then a zero.
 pub fn is_text(bytes: &[u8], string: &[u8]) -> bool
     ensures { λ r. ⌜ r ≡ isText (now (bytes .entry)) (now (string .entry)) ⌝ }
@@ -249,30 +227,41 @@ pub fn is_text(bytes: &[u8], string: &[u8]) -> bool
     names::same(&bytes[..n], string) & (bytes[n] == 0)
 }
 
-fn stands(t: Text, bytes: &[u8]) -> bool
-    ensures { λ r. ⌜ r ≡ isText (now (bytes .entry)) (stringOf t) ⌝ }
+// Whether a string of a row stands there.
+fn stands(row: [u32; 4], bytes: &[u8]) -> bool
+    ensures { λ r. ⌜ r ≡ isText (now (bytes .entry)) (stringFrom row) ⌝ }
 {
-    let letters = unpack(t.size, t.first, t.second, t.third);
+    let letters = unpack(row[0], row[1], row[2], row[3]);
     let size = letters.size;
     let string = letters.bytes;
     is_text(bytes, &string[..size])
+}
+
+// Whether one of some strings stands there.
+fn some_stands(strings: &[[u32; 4]], bytes: &[u8]) -> bool
+    ensures { λ r. ⌜ r ≡ isOneOf (map stringFrom (now (strings .entry))) (now (bytes .entry)) ⌝ }
+{
+    let mut i: usize = 0;
+    while i < strings.len() {
+        let row = strings[i];
+        if stands(row, bytes) {
+            return true;
+        }
+        i += 1;
+    }
+    false
 }
 
 // Whether the string at the start of some bytes is of a set.
 pub fn one_of(set: u32, bytes: &[u8]) -> bool
     ensures { λ r. ⌜ r ≡ isOneOf (stringsOf set) (now (bytes .entry)) ⌝ }
 {
-    let strings = lines::STRINGS;
-    let mut i: usize = 0;
-    while i < 20 {
-        let row = strings[i];
-        let t = text_from(row);
-        if t.set == set {
-            if stands(t, bytes) {
-                return true;
-            }
-        }
-        i += 1;
+    match set {
+        1 => some_stands(&lines::SKINNING, bytes),
+        2 => some_stands(&lines::CONSTRAINTS, bytes),
+        3 => some_stands(&lines::KEY_PROPERTIES, bytes),
+        4 => some_stands(&lines::MODES, bytes),
+        5 => some_stands(&lines::AXES, bytes),
+        _ => false,
     }
-    false
 }

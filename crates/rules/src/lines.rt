@@ -161,26 +161,38 @@ pub const LINES: [[u32; 12]; 81] = [
 // The line of the names that are not listed: any type and any length.
 pub const FREE: [u32; 12] = [0, 0, 0, 0, 0, 0, columns::ANY_TYPE, 1, 0, 0, 0, 0];
 
-// The strings that a set has: the set, the string's size and its letters, four to a number.
-pub const STRINGS: [[u32; 5]; 20] = [
-    [1, 6, 0x656E696C, 0x7261, 0], // linear
-    [1, 10, 0x74617571, 0x696E7265, 0x6E6F], // quaternion
-    [2, 2, 0x7470, 0, 0], // pt
-    [2, 2, 0x726F, 0, 0], // or
-    [2, 2, 0x6373, 0, 0], // sc
-    [3, 2, 0x7172, 0, 0], // rq
-    [3, 2, 0x7874, 0, 0], // tx
-    [3, 2, 0x7974, 0, 0], // ty
-    [3, 2, 0x7A74, 0, 0], // tz
-    [3, 2, 0x7873, 0, 0], // sx
-    [3, 2, 0x7973, 0, 0], // sy
-    [3, 2, 0x7A73, 0, 0], // sz
-    [3, 2, 0x7362, 0, 0], // bs
-    [3, 2, 0x6276, 0, 0], // vb
-    [4, 8, 0x69646461, 0x65766974, 0], // additive
-    [4, 8, 0x6F736261, 0x6574756C, 0], // absolute
-    [4, 8, 0x616C6572, 0x65766974, 0], // relative
-    [5, 1, 0x78, 0, 0], // x
-    [5, 1, 0x79, 0, 0], // y
-    [5, 1, 0x7A, 0, 0], // z
+// The sets of strings: the size and the letters of each string, four to a number.
+pub const SKINNING: [[u32; 4]; 2] = [
+    [6, 0x656E696C, 0x7261, 0], // linear
+    [10, 0x74617571, 0x696E7265, 0x6E6F], // quaternion
+];
+
+pub const CONSTRAINTS: [[u32; 4]; 3] = [
+    [2, 0x7470, 0, 0], // pt
+    [2, 0x726F, 0, 0], // or
+    [2, 0x6373, 0, 0], // sc
+];
+
+pub const KEY_PROPERTIES: [[u32; 4]; 9] = [
+    [2, 0x7172, 0, 0], // rq
+    [2, 0x7874, 0, 0], // tx
+    [2, 0x7974, 0, 0], // ty
+    [2, 0x7A74, 0, 0], // tz
+    [2, 0x7873, 0, 0], // sx
+    [2, 0x7973, 0, 0], // sy
+    [2, 0x7A73, 0, 0], // sz
+    [2, 0x7362, 0, 0], // bs
+    [2, 0x6276, 0, 0], // vb
+];
+
+pub const MODES: [[u32; 4]; 3] = [
+    [8, 0x69646461, 0x65766974, 0], // additive
+    [8, 0x6F736261, 0x6574756C, 0], // absolute
+    [8, 0x616C6572, 0x65766974, 0], // relative
+];
+
+pub const AXES: [[u32; 4]; 3] = [
+    [1, 0x78, 0, 0], // x
+    [1, 0x79, 0, 0], // y
+    [1, 0x7A, 0, 0], // z
 ];

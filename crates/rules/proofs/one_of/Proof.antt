@@ -1,95 +1,98 @@
--- `rules::one_of`: what the strings from i on say is what all say. The table is the definition's strings, each as the row of its
--- numbers.
-use Prim.Native.Nat.{ℕ, _-_}
+-- `rules::one_of`: the rows of each set are the definition's strings, each as its numbers.
 use native.Mathlib.Omega.{arith}
-use mathlib.Core.Logic.{⊎-elim}
-use mathlib.Core.Path.{_≡_, sym, _∙_}
-use mathlib.Core.List.{List, [], _∷_, map}
-use lib.ListN.{drop, getD, List·getD-map}
+use mathlib.Core.Path.{sym, ap, _∙_}
 use borrow.Author.Needs.{needs}
-use Rattle.le.specs.Le.{val, numberAt}
-use Rattle.rules.specs.declared.Text.{Text}
 use Rattle.base.specs.Letters.{letters}
-use Rattle.rules.specs.Packing.{stringsOf}
+use Rattle.le.specs.Le.{le}
+use Rattle.rules.specs.Packing.{unpacked, stringsOf}
 use Rattle.rules.specs.Rules.{isOneOf}
-use Rattle.rules.specs.Private.{textFrom}
-use Rattle.rules.proofs.Laws.{texts, inSet, set-says, set-passed, text-passed, text-hit, text-ended}
+use Rattle.rules.proofs.Laws.{no-set}
 use Rattle.rules.proofs.one_of.Statement.{statement}
 use Rattle.rules.proofs.one_of.Tie as tie
 
-abbrev textRow : Text → List ℕ
-textRow t = t .set ∷ t .size ∷ t .first ∷ t .second ∷ t .third ∷ []
+slice-aggregate-some-stands : tie.Need-slice-aggregate-some-stands
+slice-aggregate-some-stands c = search needs
 
-abbrev Inv-loop : tie.InvT-loop
-Inv-loop set bytes strings i₀ i = inSet (drop i texts) set bytes ≡ isOneOf (stringsOf set) bytes
+some-stands-requires : tie.Need-some-stands-requires
+some-stands-requires c κs = search needs
 
-abbrev μ-loop : tie.MeasureT-loop
-μ-loop set bytes strings i₀ i = 20 - i
+slice-aggregate-some-stands-2 : tie.Need-slice-aggregate-some-stands-2
+slice-aggregate-some-stands-2 c = search needs
 
-loop-holds : tie.Need-loop-holds Inv-loop μ-loop
-loop-holds c = let a = c .before .args in set-says (a .set) (a .bytes .now)
+some-stands-requires-2 : tie.Need-some-stands-requires-2
+some-stands-requires-2 c κs = search needs
 
-mul-row : tie.Need-mul-row Inv-loop μ-loop
-mul-row c = search needs
+slice-aggregate-some-stands-3 : tie.Need-slice-aggregate-some-stands-3
+slice-aggregate-some-stands-3 c = search needs
 
-array-copy-out-row : tie.Need-array-copy-out-row Inv-loop μ-loop
-array-copy-out-row c = search needs
+some-stands-requires-3 : tie.Need-some-stands-requires-3
+some-stands-requires-3 c κs = search needs
 
-text-from-requires : tie.Need-text-from-requires Inv-loop μ-loop
-text-from-requires c κs = search needs
+slice-aggregate-some-stands-4 : tie.Need-slice-aggregate-some-stands-4
+slice-aggregate-some-stands-4 c = search needs
 
--- the string that is read is that of the table
-is-text : (c : tie.After-text-from Inv-loop μ-loop) → c .text-from .result ≡ getD texts (c .before .before .before .loop .i) (textFrom [])
-unfolding texts letters numberAt val
-is-text c = c .text-from .ensures ∙ sym (List·getD-map textFrom (map textRow texts) (c .before .before .before .loop .i) [])
+some-stands-requires-4 : tie.Need-some-stands-requires-4
+some-stands-requires-4 c κs = search needs
 
-stands-requires : tie.Need-stands-requires Inv-loop μ-loop
-stands-requires c κs = search needs
+slice-aggregate-some-stands-5 : tie.Need-slice-aggregate-some-stands-5
+slice-aggregate-some-stands-5 c = search needs
 
-returns : tie.Need-returns Inv-loop μ-loop
+some-stands-requires-5 : tie.Need-some-stands-requires-5
+some-stands-requires-5 c κs = search needs
+
+returns : tie.Need-returns
+unfolding letters unpacked le stringsOf
 returns c =
-    let s = c .before in
-    let t = s .before .before .before in
-    let l = t .before .before .before in
-    let a = l .before .before .args in
-    let stands = sym (s .stands .ensures) ∙ c .if2 .taken in
-    sym (text-hit (a .set) (a .bytes .now) (l .loop .i) (omega arith) (is-text t) (s .before .if1 .taken) stands) ∙ l .loop .inv
+    let m = c .before .before in
+    c .some-stands .ensures ∙ ap (λ set. isOneOf (stringsOf set) (m .before .before .args .bytes .now)) (sym (m .match .keys1))
 
-add-i : tie.Need-add-i Inv-loop μ-loop
-add-i c = omega arith
-
-loop-less : tie.Need-loop-less Inv-loop μ-loop
-loop-less c = omega arith
-
-loop-again : tie.Need-loop-again Inv-loop μ-loop
-loop-again c =
-    let t = c .before .before in
-    let l = t .before .before .before in
-    let a = l .before .before .args in
-    sym (⊎-elim
-    (λ x. text-passed (a .set) (a .bytes .now) (l .loop .i) (omega arith) (is-text t) (sym (x .1 .ensures) ∙ x .2 .left))
-    (λ x. set-passed (a .set) (a .bytes .now) (l .loop .i) (omega arith) (is-text t) (x .left))
-    (c .if1 .came)) ∙ l .loop .inv
-
-returns-2 : tie.Need-returns-2 Inv-loop μ-loop
+returns-2 : tie.Need-returns-2
+unfolding letters unpacked le stringsOf
 returns-2 c =
-    let l = c .before in
-    let a = l .before .before .args in
-    sym (text-ended (a .set) (a .bytes .now) (l .loop .i) (omega arith)) ∙ l .loop .inv
+    let m = c .before .before in
+    c .some-stands2 .ensures ∙ ap (λ set. isOneOf (stringsOf set) (m .before .before .args .bytes .now)) (sym (m .match .keys2))
+
+returns-3 : tie.Need-returns-3
+unfolding letters unpacked le stringsOf
+returns-3 c =
+    let m = c .before .before in
+    c .some-stands3 .ensures ∙ ap (λ set. isOneOf (stringsOf set) (m .before .before .args .bytes .now)) (sym (m .match .keys3))
+
+returns-4 : tie.Need-returns-4
+unfolding letters unpacked le stringsOf
+returns-4 c =
+    let m = c .before .before in
+    c .some-stands4 .ensures ∙ ap (λ set. isOneOf (stringsOf set) (m .before .before .args .bytes .now)) (sym (m .match .keys4))
+
+returns-5 : tie.Need-returns-5
+unfolding letters unpacked le stringsOf
+returns-5 c =
+    let m = c .before .before in
+    c .some-stands5 .ensures ∙ ap (λ set. isOneOf (stringsOf set) (m .before .before .args .bytes .now)) (sym (m .match .keys5))
+
+returns-6 : tie.Need-returns-6
+returns-6 c =
+    let a = c .before .before .args in
+    let m = c .match .rest in
+    no-set (a .set) (a .bytes .now) (λ p. omega (arith, p, m .0 .0 .0 .0 .1, m .0 .0 .0 .1, m .0 .0 .1, m .0 .1, m .1))
 
 pub one-of-spec : {M : Type 1} → statement M
 one-of-spec =
     tie.close
     (tie.spec
-    Inv-loop
-    μ-loop
-    loop-holds
-    mul-row
-    array-copy-out-row
-    text-from-requires
-    stands-requires
+    slice-aggregate-some-stands
+    some-stands-requires
+    slice-aggregate-some-stands-2
+    some-stands-requires-2
+    slice-aggregate-some-stands-3
+    some-stands-requires-3
+    slice-aggregate-some-stands-4
+    some-stands-requires-4
+    slice-aggregate-some-stands-5
+    some-stands-requires-5
     returns
-    add-i
-    loop-less
-    loop-again
-    returns-2)
+    returns-2
+    returns-3
+    returns-4
+    returns-5
+    returns-6)

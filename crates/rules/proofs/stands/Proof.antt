@@ -7,6 +7,18 @@ use Rattle.rules.proofs.Names.{within, taken}
 use Rattle.rules.proofs.stands.Statement.{statement}
 use Rattle.rules.proofs.stands.Tie as tie
 
+array-read-unpack : tie.Need-array-read-unpack
+array-read-unpack c = search needs
+
+array-read-unpack-2 : tie.Need-array-read-unpack-2
+array-read-unpack-2 c = search needs
+
+array-read-unpack-3 : tie.Need-array-read-unpack-3
+array-read-unpack-3 c = search needs
+
+array-read-unpack-4 : tie.Need-array-read-unpack-4
+array-read-unpack-4 c = search needs
+
 unpack-requires : tie.Need-unpack-requires
 unpack-requires c κs = search needs
 
@@ -28,6 +40,10 @@ pub stands-spec : {M : Type 1} → statement M
 stands-spec =
     tie.close
     (tie.spec
+    array-read-unpack
+    array-read-unpack-2
+    array-read-unpack-3
+    array-read-unpack-4
     unpack-requires
     array-share-prefix-string
     slice-aggregate-is-text

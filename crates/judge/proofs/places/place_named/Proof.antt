@@ -8,6 +8,12 @@ use Rattle.judge.proofs.Named.{is-plain, found-by-number}
 use Rattle.judge.proofs.places.place_named.Statement.{statement}
 use Rattle.judge.proofs.places.place_named.Tie as tie
 
+first-named-requires : tie.Need-first-named-requires
+first-named-requires c κs = search needs
+
+returns : tie.Need-returns
+returns c = c .first-named .ensures
+
 line-named-requires : tie.Need-line-named-requires
 line-named-requires c κs = search needs
 
@@ -17,31 +23,33 @@ is-plain-requires c κs = search needs
 first-number-requires : tie.Need-first-number-requires
 first-number-requires c κs = search needs
 
-returns : tie.Need-returns
-returns c =
+returns-2 : tie.Need-returns-2
+returns-2 c =
     let p = c .before .before in
     let k = p .before in
-    let s = k .before .before .before .before .before in
+    let s = k .before .before .before .before .before .before in
     let a = s .args in
-    let plain = is-plain (a .lines .now) (k .line-named .result) (sym (p .is-plain .ensures) ∙ c .before .if1 .taken) in
+    let plain = is-plain (a .lines .now) (k .line-named .result) (sym (p .is-plain .ensures) ∙ c .before .if2 .taken) in
     let found =
     found-by-number (linesFrom (a .lines .now)) (k .line-named .result) (plain .0) (plain .1) (a .body .now) (a .starts .now) (s .pre) (a .name .now)
     (k .line-named .ensures) in
     (c .first-number .ensures ∙ found, omega (arith, c .first-number .ensures, found, first-most (a .body .now) (a .name .now) (a .starts .now)))
 
-first-named-requires : tie.Need-first-named-requires
-first-named-requires c κs = search needs
+first-named-requires-2 : tie.Need-first-named-requires-2
+first-named-requires-2 c κs = search needs
 
-returns-2 : tie.Need-returns-2
-returns-2 c = c .first-named .ensures
+returns-3 : tie.Need-returns-3
+returns-3 c = c .first-named2 .ensures
 
 pub place-named-spec : {M : Type 1} → statement M
 place-named-spec =
     tie.close
     (tie.spec
+    first-named-requires
+    returns
     line-named-requires
     is-plain-requires
     first-number-requires
-    returns
-    first-named-requires
-    returns-2)
+    returns-2
+    first-named-requires-2
+    returns-3)

@@ -1,21 +1,39 @@
--- `judge::typed::key_of`: what the letters from i on add to the sum is what all give.
-use Prim.Native.Nat.{_-_}
+-- `judge::typed::key_of`: what the letters from i on add to the sum is what all but the last give.
+use Prim.Native.Nat.{_+_, _-_, _/_, _≤_}
 use native.Mathlib.Omega.{arith}
-use mathlib.Core.Path.{_≡_, _∙_}
+use mathlib.Core.Path.{_≡_, ap, _∙_}
+use lib.ListN.{length}
 use borrow.Author.Needs.{needs}
-use Rattle.judge.specs.Typed.{keyOf}
+use Rattle.le.specs.Le.{numberAt}
+use Rattle.le.proofs.Laws.{numberAt-part}
+use Rattle.judge.specs.Typed.{keyFrom}
 use Rattle.judge.proofs.Typing.{keyLeft, key-start, key-step, key-done}
 use Rattle.judge.proofs.typed.key_of.Statement.{statement}
 use Rattle.judge.proofs.typed.key_of.Tie as tie
 
 abbrev Inv-loop : tie.InvT-loop
-Inv-loop name n key₀ i₀ key i = keyLeft name key i ≡ keyOf name
+Inv-loop name last n key₀ i₀ key i = (i ≤ length name) × (keyLeft name key i ≡ keyFrom ((length name - 1) / 8) 0 name)
 
 abbrev μ-loop : tie.MeasureT-loop
-μ-loop name n key₀ i₀ key i = n - i
+μ-loop name last n key₀ i₀ key i = n - i
 
 loop-holds : tie.Need-loop-holds Inv-loop μ-loop
-loop-holds c = key-start _
+loop-holds c = (omega arith, key-start (c .before .args .name .now))
+
+sub-loop : tie.Need-sub-loop Inv-loop μ-loop
+sub-loop c = c .loop .inv .0
+
+add-end : tie.Need-add-end Inv-loop μ-loop
+add-end c = omega arith
+
+sub-u64-at : tie.Need-sub-u64-at Inv-loop μ-loop
+sub-u64-at c = omega arith
+
+part-u64-at-start : tie.Need-part-u64-at-start Inv-loop μ-loop
+part-u64-at-start c = omega arith
+
+part-u64-at-end : tie.Need-part-u64-at-end Inv-loop μ-loop
+part-u64-at-end c = omega (arith, c .loop-test .taken)
 
 u64-at-requires : tie.Need-u64-at-requires Inv-loop μ-loop
 u64-at-requires c κs = search needs
@@ -26,23 +44,35 @@ wrapping-add-u64-requires c κs = search needs
 wrapping-add-u64-requires-2 : tie.Need-wrapping-add-u64-requires-2 Inv-loop μ-loop
 wrapping-add-u64-requires-2 c κs = search needs
 
-add-i : tie.Need-add-i Inv-loop μ-loop
-add-i c = omega arith
-
 loop-less : tie.Need-loop-less Inv-loop μ-loop
-loop-less c = omega arith
+loop-less c = omega (arith, c .before .before .before .before .loop-test .taken)
 
 loop-again : tie.Need-loop-again Inv-loop μ-loop
 loop-again c =
     let u = c .before .before in
-    let l = u .before .before in
-    let a = l .before .before .args in
-    key-step (a .name .now) (l .loop .key) (l .loop .i) (omega (arith, u .before .loop-test .taken))
-    (u .u64-at .ensures) (c .before .wrapping-add-u64 .ensures) (c .wrapping-add-u642 .ensures)
-    ∙ l .loop .inv
+    let i = u .before .before in
+    let l = i .before in
+    let name = l .before .before .args .name .now in (
+      omega (arith, i .loop-test .taken),
+      key-step name (l .loop .key) (l .loop .i) (omega (arith, i .loop-test .taken))
+          (u .u64-at .ensures ∙ numberAt-part 8 (l .loop .i + 8 - l .loop .i) name (l .loop .i) 0 (omega arith) ∙ ap (numberAt 8 name) (omega arith))
+          (c .before .wrapping-add-u64 .ensures) (c .wrapping-add-u642 .ensures)
+          ∙ l .loop .inv .1,
+    )
+
+wrapping-add-u64-requires-3 : tie.Need-wrapping-add-u64-requires-3 Inv-loop μ-loop
+wrapping-add-u64-requires-3 c κs = search needs
+
+wrapping-add-u64-requires-4 : tie.Need-wrapping-add-u64-requires-4 Inv-loop μ-loop
+wrapping-add-u64-requires-4 c κs = search needs
 
 returns : tie.Need-returns Inv-loop μ-loop
-returns c = let l = c .before in key-done (l .before .before .args .name .now) (l .loop .key) (l .loop .i) (omega (arith, c .loop-test .left)) ∙ l .loop .inv
+returns c =
+    let o = c .before .before in
+    let l = o .before in
+    let s = l .before .before in
+    key-done (s .args .name .now) (l .loop .key) (l .loop .i) (omega (arith, o .loop-test .left)) (l .loop .inv .1) (s .pre)
+    (c .before .wrapping-add-u643 .ensures) (c .wrapping-add-u644 .ensures)
 
 pub key-of-spec : {M : Type 1} → statement M
 key-of-spec =
@@ -51,10 +81,16 @@ key-of-spec =
     Inv-loop
     μ-loop
     loop-holds
+    sub-loop
+    add-end
+    sub-u64-at
+    part-u64-at-start
+    part-u64-at-end
     u64-at-requires
     wrapping-add-u64-requires
     wrapping-add-u64-requires-2
-    add-i
     loop-less
     loop-again
+    wrapping-add-u64-requires-3
+    wrapping-add-u64-requires-4
     returns)

@@ -28,8 +28,8 @@ header-at-requires c κs = search needs
 name-at-requires : tie.Need-name-at-requires Inv-loop μ-loop
 name-at-requires c κs = search needs
 
-slot-of-requires : tie.Need-slot-of-requires Inv-loop μ-loop
-slot-of-requires c κs = search needs
+slot-at-requires : tie.Need-slot-at-requires Inv-loop μ-loop
+slot-at-requires c κs = c .name-at .ensures
 
 line-named-requires : tie.Need-line-named-requires Inv-loop μ-loop
 line-named-requires c κs = search needs
@@ -58,13 +58,13 @@ slice-aggregate-is-before c =
     sym (length-take-le _ _ (room l (l .loop .inv .within) .0))
 
 -- a slot lies in the marks
-slotted : (c : tie.After-slot-of Inv-loop μ-loop) → c .slot-of .result < length (c .before .before .before .before .loop .marks)
+slotted : (c : tie.After-slot-at Inv-loop μ-loop) → c .slot-at .result < length (c .before .before .before .before .loop .marks)
 slotted c =
     let l = c .before .before .before .before in
-    omega (arith, c .slot-of .ensures .1, marks-long (l .loop .inv), start l .pre .3)
+    omega (arith, c .slot-at .ensures .1, marks-long (l .loop .inv), start l .pre .3)
 
 mul-is-before : tie.Need-mul-is-before Inv-loop μ-loop
-mul-is-before c = omega (arith, c .before .before .slot-of .ensures .1)
+mul-is-before c = omega (arith, c .before .before .slot-at .ensures .1)
 
 slice-read-is-before : tie.Need-slice-read-is-before Inv-loop μ-loop
 slice-read-is-before c = slotted (c .before .before .before)
@@ -75,7 +75,7 @@ is-before-requires c κs e =
     let l = so .before .before .before .before in
     let p = start l .pre in
     let o = l .loop .inv in
-    unseen-before o (omega (arith, o .within, p)) (so .before .name-at .result .now) (so .slot-of .result) (so .slot-of .ensures .0) (omega (arith, so .slot-of .ensures .1, p .3)) e
+    unseen-before o (omega (arith, o .within, p)) (so .before .name-at .result .now) (so .slot-at .result) (so .slot-at .ensures .0) (omega (arith, so .slot-at .ensures .1, p .3)) e
 
 line-in-requires : tie.Need-line-in-requires Inv-loop μ-loop
 line-in-requires c κs = search needs
@@ -126,13 +126,13 @@ slice-write-numbers : tie.Need-slice-write-numbers Inv-loop μ-loop
 slice-write-numbers c = let l = c .before .before .before .before .before .before .before .before .before .before .before in omega (arith, numbers-long (l .loop .inv), start l .pre, c .before .before .before .before .before .before .before .before .before .before .loop-test .taken)
 
 mul-marks : tie.Need-mul-marks Inv-loop μ-loop
-mul-marks c = omega (arith, c .before .before .before .before .before .before .before .slot-of .ensures .1)
+mul-marks c = omega (arith, c .before .before .before .before .before .before .before .slot-at .ensures .1)
 
 slice-write-marks : tie.Need-slice-write-marks Inv-loop μ-loop
 slice-write-marks c = slotted (c .before .before .before .before .before .before .before)
 
-next-at-requires : tie.Need-next-at-requires Inv-loop μ-loop
-next-at-requires c κs = search needs
+next-by-requires : tie.Need-next-by-requires Inv-loop μ-loop
+next-by-requires c κs = search needs
 
 add-i : tie.Need-add-i Inv-loop μ-loop
 add-i c = omega (arith, start (c .before .before .before .before .before .before .before .before .before .before .before .before) .pre .0, c .before .before .before .before .before .before .before .before .before .before .before .loop-test .taken)
@@ -153,7 +153,7 @@ loop-again c =
     let before : ib .is-before .result ≡ has (start l .args .body .now) (take (l .loop .i) _) (na .name-at .result .now) =
     ib .is-before .ensures ∙ ap (λ d. has (start l .args .body .now) d (na .name-at .result .now)) (before-are o (omega (arith, o .within, start l .pre))) in
     passed o (omega (arith, ha .before .loop-test .taken)) (na .name-at .ensures) (ha .header-at .ensures) (ln .line-named .ensures) (li .line-in .ensures .1)
-    before (m .misfits .ensures) (c .before .if1 .left) (ln .before .slot-of .ensures .0) (c .next-at .ensures .0) (c .next-at .ensures .1)
+    before (m .misfits .ensures) (c .before .if1 .left) (ln .before .slot-at .ensures .0) (c .next-by .ensures .0) (c .next-by .ensures .1)
 
 same-length-4 : tie.Need-same-length-4 Inv-loop μ-loop
 same-length-4 c = starts-long (c .before .loop .inv)
@@ -178,7 +178,7 @@ typed-spec =
     loop-holds
     header-at-requires
     name-at-requires
-    slot-of-requires
+    slot-at-requires
     line-named-requires
     slice-reshare-prefix-is-before
     slice-aggregate-is-before
@@ -198,7 +198,7 @@ typed-spec =
     slice-write-numbers
     mul-marks
     slice-write-marks
-    next-at-requires
+    next-by-requires
     add-i
     loop-less
     loop-again

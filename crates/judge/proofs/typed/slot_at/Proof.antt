@@ -1,15 +1,18 @@
--- `judge::typed::slot_of`: sums and products of the name's key.
+-- `judge::typed::slot_at`: sums and products of the key of the name.
 use Prim.Native.Nat.{_+_, _*_, _/_, _%_, _^_}
 use native.Mathlib.Nat.{mod-lt}
 use native.Mathlib.Omega.{arith}
 use mathlib.Core.Path.{_≡_, ap, _∙_}
 use borrow.Author.Needs.{needs}
 use Rattle.judge.specs.Typed.{slotOf}
-use Rattle.judge.proofs.typed.slot_of.Statement.{statement}
-use Rattle.judge.proofs.typed.slot_of.Tie as tie
+use Rattle.judge.proofs.typed.slot_at.Statement.{statement}
+use Rattle.judge.proofs.typed.slot_at.Tie as tie
+
+last-letters-requires : tie.Need-last-letters-requires
+last-letters-requires c κs = c .before .before .pre
 
 key-of-requires : tie.Need-key-of-requires
-key-of-requires c κs = search needs
+key-of-requires c κs = c .last-letters .ensures
 
 mul-low : tie.Need-mul-low
 mul-low c = search needs
@@ -28,6 +31,6 @@ returns c =
       omega arith,
     )
 
-pub slot-of-spec : {M : Type 1} → statement M
-slot-of-spec =
-    tie.close (tie.spec key-of-requires mul-low mul-high wrapping-add-u64-requires returns)
+pub slot-at-spec : {M : Type 1} → statement M
+slot-at-spec =
+    tie.close (tie.spec last-letters-requires key-of-requires mul-low mul-high wrapping-add-u64-requires returns)
