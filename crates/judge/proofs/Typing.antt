@@ -24,6 +24,7 @@ use Rattle.body.proofs.Skimmed.{length-skim}
 use Rattle.rules.specs.Table.{Line, free}
 use Rattle.rules.specs.Rules.{misfits, findIn}
 use Rattle.rules.proofs.Laws.{found}
+use Rattle.rules.proofs.Names.{neither}
 use Rattle.base.specs.declared.Refusal.{Refusal}
 use Rattle.judge.specs.Properties.{lineNumber, has}
 use Rattle.judge.specs.Typed.{isMistyped, typed, rightlyTyped, lastLetters, summed, keyFrom, keyOf, slotOf, slotAt, marked}
@@ -31,10 +32,6 @@ use Rattle.base.specs.Refusals.{refusal, noRefusal}
 use Rattle.judge.specs.Private.{hasKey, Noted}
 
 -- ---- slots
-neither : (a b : Bool) → (a || b) ≡ false → (a ≡ false) × (b ≡ false)
-neither true b e = absurd (true≢false e)
-neither false b e = (refl, e)
-
 -- a property of the name has the name's slot
 unnamed : (s name starts : List ℕ) → hasKey (map (slotAt s) starts) (slotOf name) ≡ false → firstNamed s name starts ≡ length starts
 unfolding hasKey firstNamed

@@ -94,8 +94,8 @@ pub(crate) fn typed(
     while i < count {
         let h = props::header_at(body, at);
         let name = props::name_at(body, at);
-        let slot = slot_at(body, at, name);
         let k = rules::line_named(lines, name);
+        let slot = slot_at(body, at, name);
         let repeats = is_before(body, &starts[..i], name, marks[slot] == mark);
         let misfits = rules::misfits(rules::line_in(lines, k), h.code, h.length);
         if repeats | misfits {

@@ -2,7 +2,7 @@
 use Prim.Native.Nat.{ℕ, suc, min, _-_, _/_, _%_, _≤_, _<_}
 use native.Mathlib.Omega.{arith}
 use mathlib.Core.Path.{_≡_, refl, sym, ap, _∙_}
-use mathlib.Core.Bool.{false}
+use mathlib.Core.Bool.{Bool, true, false, _||_, true≢false}
 use mathlib.Core.List.{List, [], _∷_, _++_, append-nil}
 use lib.Dec.{eqb, ltb}
 use lib.ListN.{length, take, replicate}
@@ -73,6 +73,10 @@ module _ (e : Entry) (n : e .size ≡ 0 → ⊥) where
   by-letter name more q = sym (ap (λ l. numberAt 1 l 0) (q ∙ ap (λ l. l ++ more) starts) ∙ first-letter letter (others ++ more))
 
 -- ---- a line has a name
+pub neither : (a b : Bool) → (a || b) ≡ false → (a ≡ false) × (b ≡ false)
+neither true b e = absurd (true≢false e)
+neither false b e = (refl, e)
+
 is-no-number : (r : Numeral) → ((k : ℕ) → r ≡ Is k → ⊥) → isNumber r ≡ false
 is-no-number (Is k) n = absurd (n k refl)
 is-no-number Not n = refl

@@ -4,12 +4,11 @@ ghost use Prim.Native.Nat.{_+_, _≤_};
 ghost use mathlib.Core.List.{map};
 ghost use lib.ListN.{length, getD};
 ghost use lib.Seq.{sets};
-ghost use Rattle.le.specs.Le.{numberAt};
 ghost use Rattle.names.specs.Names.{same, numberAfter};
 ghost use Rattle.rules.specs.Table.{lines, free};
 ghost use Rattle.rules.specs.Packing.{lettersOf, stringsOf, typesFrom, lineOf, entryFrom, linesFrom, columnsOf};
 ghost use Rattle.rules.specs.Rules.{takes, misfits, isNumber, lists, findIn, spanOf, rowsOf, isText, isOneOf};
-ghost use Rattle.rules.specs.Private.{stringFrom};
+ghost use Rattle.rules.specs.Private.{stringFrom, Passes};
 
 pub mod columns;
 mod lines;
@@ -125,18 +124,33 @@ fn is_numbered(e: Entry, name: &[u8]) -> bool
     }
 }
 
-// Whether a line has a name, whose first letter is a number, 0 where it has none. Most lines differ in their first letter.
-fn has_name(e: Entry, name: &[u8], letter: u32) -> bool
-    requires { ⌜ letter ≡ numberAt 1 (now name) 0 ⌝ }
+// Whether a line has a name.
+fn has_name(e: Entry, name: &[u8]) -> bool
     ensures { λ r. ⌜ r ≡ lists (lineOf e) (now (name .entry)) ⌝ }
 {
-    if (e.size != 0) & (e.first % 256 != letter) {
-        return false;
-    }
     if e.numbered == columns::NUMBERED {
         return is_numbered(e, name);
     }
     is_plain(e, name)
+}
+
+// The first of some lines, from a place on, that may have a name with this first letter; their number where none may. Most
+// lines differ in it, so that they are passed by a loop that reads little else.
+fn next_with(lines: &[Columns], from: usize, letter: u32) -> usize
+    requires { ⌜ from ≤ length (now lines) ⌝ }
+    ensures within { λ r. ⌜ (from ≤ r) × (r ≤ length (now (lines .entry))) ⌝ }
+    ensures passes { λ r. ⌜ Passes (linesFrom (now (lines .entry))) letter from r ⌝ }
+{
+    let mut i = from;
+    while i < lines.len() {
+        let row = lines[i];
+        let e = entry_from(row);
+        if (e.size == 0) | (e.first % 256 == letter) {
+            return i;
+        }
+        i += 1;
+    }
+    i
 }
 
 // The place of the first of some lines that has a name; their number where none has.
@@ -144,13 +158,13 @@ pub fn line_named(lines: &[Columns], name: &[u8]) -> usize
     ensures { λ r. ⌜ r ≡ findIn (linesFrom (now (lines .entry))) (now (name .entry)) ⌝ }
 {
     let letter = le::number_at(name, 0, 1);
-    let mut i: usize = 0;
+    let mut i = next_with(lines, 0, letter);
     while i < lines.len() {
         let row = lines[i];
-        if has_name(entry_from(row), name, letter) {
+        if has_name(entry_from(row), name) {
             return i;
         }
-        i += 1;
+        i = next_with(lines, i + 1, letter);
     }
     i
 }

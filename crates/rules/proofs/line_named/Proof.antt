@@ -13,16 +13,22 @@ use Rattle.rules.proofs.line_named.Statement.{statement}
 use Rattle.rules.proofs.line_named.Tie as tie
 
 abbrev Inv-loop : tie.InvT-loop
-Inv-loop lines name four i₀ i = (i ≤ length lines) × (i + findIn (drop i (linesFrom lines)) name ≡ findIn (linesFrom lines) name)
+Inv-loop lines name letter i₀ i = (i ≤ length lines) × (i + findIn (drop i (linesFrom lines)) name ≡ findIn (linesFrom lines) name)
 
 abbrev μ-loop : tie.MeasureT-loop
-μ-loop lines name four i₀ i = length lines - i
+μ-loop lines name letter i₀ i = length lines - i
 
 number-at-requires : tie.Need-number-at-requires Inv-loop μ-loop
 number-at-requires c κs = search needs
 
+next-with-requires : tie.Need-next-with-requires Inv-loop μ-loop
+next-with-requires c κs = omega arith
+
 loop-holds : tie.Need-loop-holds Inv-loop μ-loop
-loop-holds c = (omega arith, zero-add _)
+loop-holds c =
+    let n = c .before in
+    let a = n .before .before .args in
+    (c .next-with .ensures .0 .1, c .next-with .ensures .1 (a .name .now) (n .number-at .ensures) ∙ zero-add _)
 
 mul-row : tie.Need-mul-row Inv-loop μ-loop
 mul-row c = search needs
@@ -42,7 +48,7 @@ module _ (c : tie.After-has-name Inv-loop μ-loop) where
   head = c .before .before .before .before
 
   abbrev start : tie.Start Inv-loop μ-loop
-  start = head .before .before .before
+  start = head .before .before .before .before
 
   is-line : lineOf (c .before .entry-from .result) ≡ getD (linesFrom (start .args .lines .now)) (head .loop .i) (lineFrom [])
   is-line = ap lineOf (c .before .entry-from .ensures) ∙ sym (List·getD-map lineFrom (start .args .lines .now) (head .loop .i) [])
@@ -57,25 +63,32 @@ returns c =
     sym (find-hit (linesFrom (start e .args .lines .now)) (start e .args .name .now) (l .i) (inside e) (is-line e) (sym (e .has-name .ensures) ∙ c .if1 .taken))
     ∙ l .inv .1
 
-add-i : tie.Need-add-i Inv-loop μ-loop
-add-i c = omega arith
+add-next-with : tie.Need-add-next-with Inv-loop μ-loop
+add-next-with c = omega arith
+
+next-with-requires-2 : tie.Need-next-with-requires-2 Inv-loop μ-loop
+next-with-requires-2 c κs = omega (arith, c .before .before .before .before .loop-test .taken)
 
 loop-less : tie.Need-loop-less Inv-loop μ-loop
-loop-less c = omega arith
+loop-less c = omega (arith, c .next-with2 .ensures .0 .0, c .before .before .before .before .before .loop-test .taken)
 
 loop-again : tie.Need-loop-again Inv-loop μ-loop
 loop-again c =
-    let e = c .before in
-    let l = head e .loop in (
-      omega arith,
-      sym (find-passed (linesFrom (start e .args .lines .now)) (start e .args .name .now) (l .i) (inside e) (is-line e) (sym (e .has-name .ensures) ∙ c .if1 .left))
+    let t = c .before in
+    let e = t .before in
+    let l = head e .loop in
+    let n = head e .before .before in
+    let a = start e .args in (
+      c .next-with2 .ensures .0 .1,
+      c .next-with2 .ensures .1 (a .name .now) (n .number-at .ensures)
+          ∙ sym (find-passed (linesFrom (a .lines .now)) (a .name .now) (l .i) (inside e) (is-line e) (sym (e .has-name .ensures) ∙ t .if1 .left))
           ∙ l .inv .1,
     )
 
 returns-2 : tie.Need-returns-2 Inv-loop μ-loop
 returns-2 c =
     let l = c .before in
-    let a = l .before .before .before .args in
+    let a = l .before .before .before .before .args in
     let all = linesFrom (a .lines .now) in
     sym (find-ended all (a .name .now) (l .loop .i) (omega (arith, length-map (a .lines .now) lineFrom, c .loop-test .left))) ∙ l .loop .inv .1
 
@@ -86,13 +99,15 @@ line-named-spec =
     Inv-loop
     μ-loop
     number-at-requires
+    next-with-requires
     loop-holds
     mul-row
     shared-slice-copy-out-row
     entry-from-requires
     has-name-requires
     returns
-    add-i
+    add-next-with
+    next-with-requires-2
     loop-less
     loop-again
     returns-2)

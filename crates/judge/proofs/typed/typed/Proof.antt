@@ -28,11 +28,11 @@ header-at-requires c κs = search needs
 name-at-requires : tie.Need-name-at-requires Inv-loop μ-loop
 name-at-requires c κs = search needs
 
-slot-at-requires : tie.Need-slot-at-requires Inv-loop μ-loop
-slot-at-requires c κs = c .name-at .ensures
-
 line-named-requires : tie.Need-line-named-requires Inv-loop μ-loop
 line-named-requires c κs = search needs
+
+slot-at-requires : tie.Need-slot-at-requires Inv-loop μ-loop
+slot-at-requires c κs = c .before .name-at .ensures
 
 -- the head of the loop, from the tests of a turn
 module _ (l : tie.At-loop Inv-loop μ-loop) where
@@ -58,24 +58,24 @@ slice-aggregate-is-before c =
     sym (length-take-le _ _ (room l (l .loop .inv .within) .0))
 
 -- a slot lies in the marks
-slotted : (c : tie.After-slot-at Inv-loop μ-loop) → c .slot-at .result < length (c .before .before .before .before .loop .marks)
+slotted : (c : tie.After-slot-at Inv-loop μ-loop) → c .slot-at .result < length (c .before .before .before .before .before .loop .marks)
 slotted c =
-    let l = c .before .before .before .before in
+    let l = c .before .before .before .before .before in
     omega (arith, c .slot-at .ensures .1, marks-long (l .loop .inv), start l .pre .3)
 
 mul-is-before : tie.Need-mul-is-before Inv-loop μ-loop
-mul-is-before c = omega (arith, c .before .before .slot-at .ensures .1)
+mul-is-before c = omega (arith, c .before .slot-at .ensures .1)
 
 slice-read-is-before : tie.Need-slice-read-is-before Inv-loop μ-loop
-slice-read-is-before c = slotted (c .before .before .before)
+slice-read-is-before c = slotted (c .before .before)
 
 is-before-requires : tie.Need-is-before-requires Inv-loop μ-loop
 is-before-requires c κs e =
-    let so = c .before .before .before in
-    let l = so .before .before .before .before in
+    let so = c .before .before in
+    let l = so .before .before .before .before .before in
     let p = start l .pre in
     let o = l .loop .inv in
-    unseen-before o (omega (arith, o .within, p)) (so .before .name-at .result .now) (so .slot-at .result) (so .slot-at .ensures .0) (omega (arith, so .slot-at .ensures .1, p .3)) e
+    unseen-before o (omega (arith, o .within, p)) (so .before .before .name-at .result .now) (so .slot-at .result) (so .slot-at .ensures .0) (omega (arith, so .slot-at .ensures .1, p .3)) e
 
 line-in-requires : tie.Need-line-in-requires Inv-loop μ-loop
 line-in-requires c κs = search needs
@@ -102,8 +102,9 @@ returns c =
     let m = c .before in
     let li = m .before in
     let ib = li .before in
-    let ln = ib .before .before .before in
-    let na = ln .before .before in
+    let so = ib .before .before .before in
+    let ln = so .before in
+    let na = ln .before in
     let ha = na .before in
     let l = ha .before .before in
     let o = l .loop .inv in
@@ -126,10 +127,10 @@ slice-write-numbers : tie.Need-slice-write-numbers Inv-loop μ-loop
 slice-write-numbers c = let l = c .before .before .before .before .before .before .before .before .before .before .before in omega (arith, numbers-long (l .loop .inv), start l .pre, c .before .before .before .before .before .before .before .before .before .before .loop-test .taken)
 
 mul-marks : tie.Need-mul-marks Inv-loop μ-loop
-mul-marks c = omega (arith, c .before .before .before .before .before .before .before .slot-at .ensures .1)
+mul-marks c = omega (arith, c .before .before .before .before .before .before .slot-at .ensures .1)
 
 slice-write-marks : tie.Need-slice-write-marks Inv-loop μ-loop
-slice-write-marks c = slotted (c .before .before .before .before .before .before .before)
+slice-write-marks c = slotted (c .before .before .before .before .before .before)
 
 next-by-requires : tie.Need-next-by-requires Inv-loop μ-loop
 next-by-requires c κs = search needs
@@ -145,15 +146,16 @@ loop-again c =
     let m = c .before .before in
     let li = m .before in
     let ib = li .before in
-    let ln = ib .before .before .before in
-    let na = ln .before .before in
+    let so = ib .before .before .before in
+    let ln = so .before in
+    let na = ln .before in
     let ha = na .before in
     let l = ha .before .before in
     let o = l .loop .inv in
     let before : ib .is-before .result ≡ has (start l .args .body .now) (take (l .loop .i) _) (na .name-at .result .now) =
     ib .is-before .ensures ∙ ap (λ d. has (start l .args .body .now) d (na .name-at .result .now)) (before-are o (omega (arith, o .within, start l .pre))) in
     passed o (omega (arith, ha .before .loop-test .taken)) (na .name-at .ensures) (ha .header-at .ensures) (ln .line-named .ensures) (li .line-in .ensures .1)
-    before (m .misfits .ensures) (c .before .if1 .left) (ln .before .slot-at .ensures .0) (c .next-by .ensures .0) (c .next-by .ensures .1)
+    before (m .misfits .ensures) (c .before .if1 .left) (so .slot-at .ensures .0) (c .next-by .ensures .0) (c .next-by .ensures .1)
 
 same-length-4 : tie.Need-same-length-4 Inv-loop μ-loop
 same-length-4 c = starts-long (c .before .loop .inv)
@@ -178,8 +180,8 @@ typed-spec =
     loop-holds
     header-at-requires
     name-at-requires
-    slot-at-requires
     line-named-requires
+    slot-at-requires
     slice-reshare-prefix-is-before
     slice-aggregate-is-before
     mul-is-before
