@@ -6,11 +6,11 @@ use native.Mathlib.Numerals.{add-one}
 use mathlib.Core.Path.{_≡_, refl, sym, ap, _∙_, subst}
 use mathlib.Core.Bool.{Bool, true, false, cond, _||_, true≢false}
 use mathlib.Core.List.{List, [], _∷_, _++_, map, map-append, append-assoc, append-nil}
-use lib.Dec.{eqb}
+use lib.Dec.{eqb, ltb}
 use lib.Pow.{pow-add}
 use lib.ListN.{length, take, drop, getD, set, length-map, length-set, length-take, length-drop, drop-of-length-le}
 use lib.Seq.{getD-set-same, getD-set-other, drop-cons, drop-drop, take-suc, take-all, take-length, take-take, take-append-seam, length-take-le, sets, sets-eq, length-sets}
-use borrow.Author.Tests.{eq-eqb, eqb-true, eqb-false, le-ltb}
+use borrow.Author.Tests.{eq-eqb, eqb-true, eqb-false, le-ltb, ltb-false}
 use Rattle.le.specs.Le.{val, numberAt, AreBytes}
 use Rattle.le.proofs.Laws.{numberAt-past, numberAt-high}
 use Rattle.base.proofs.Stores.{sets-more}
@@ -175,6 +175,11 @@ map-same : (l : List ℕ) → map (λ x. x) l ≡ l
 map-same [] = refl
 map-same (x ∷ l) = ap (λ m. x ∷ m) (map-same l)
 
+-- after the last property none is looked for, wherever it would start
+skim-last : (s : List ℕ) (a b : ℕ) {k : ℕ} → k ≡ 0 → skim s k a ≡ skim s k b
+unfolding skim
+skim-last s a b e = rw e
+
 -- the first `count` properties are judged one after the other; those before i are right, and noted
 pub record Noting (ls : List Line) (s : List ℕ) (m count : ℕ) (starts₀ numbers₀ marks₀ starts₁ numbers₁ marks₁ : List ℕ) (at i : ℕ) : Type 0 where
   pub within : i ≤ count
@@ -280,12 +285,13 @@ module _ {ls : List Line} {s : List ℕ} {m count : ℕ} {starts₀ numbers₀ m
       refused t =
           (sym (rw t at step) ∙ o .passes, noted-as done refl (sym (o .rights) ∙ ap (λ l. done ++ l) (rw t at kept) ∙ append-nil done))
 
-      pub passed : (r || x) ≡ false → {slot next : ℕ} → slot ≡ slotOf name → next ≡ nextBy s at hd → next ≤ length s →
+      pub passed : (r || x) ≡ false → {slot next : ℕ} → slot ≡ slotOf name → (ltb (i + 1) count ≡ true → next ≡ nextBy s at hd) → next ≤ length s →
           Noting ls s m count starts₀ numbers₀ marks₀ (set starts₁ i at) (set numbers₁ i k) (set marks₁ slot m) next (i + 1)
       passed t {slot} {next} q y b = record {
         within = omega arith;
         inside = b;
-        left = onward ∙ ap (skim s (count - (i + 1))) (sym (y ∙ by-own));
+        left = onward ∙ by-test (ltb (i + 1) count) (λ t. ap (skim s (count - (i + 1))) (sym (y t ∙ by-own)))
+        (λ t. skim-last s (nextAt s at) next (omega (arith, ltb-false (i + 1) count t)));
         starts = sets-more (λ x. x) all i 0 inner (sym there) starts₀ (o .starts);
         numbers = sets-more (lineNumber ls s) all i 0 inner (numbered ∙ ap (lineNumber ls s) (sym there)) numbers₀ (o .numbers);
         marks =

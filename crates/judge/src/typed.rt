@@ -1,12 +1,12 @@
 // 13: a name twice on a node, a listed name with another type or length.
 ghost use mathlib.Core.Path.{_≡_};
-ghost use mathlib.Core.Bool.{false};
+ghost use mathlib.Core.Bool.{true, false};
 ghost use Prim.Native.Nat.{_+_, _≤_, _<_};
 ghost use mathlib.Core.List.{[]};
 ghost use lib.ListN.{length};
 ghost use Rattle.base.specs.Limits.{mostProperties};
 ghost use Rattle.props.specs.Step.{nameAt};
-ghost use Rattle.body.specs.Body.{skim};
+ghost use Rattle.body.specs.Body.{skim, nextBy};
 ghost use Rattle.rules.specs.Packing.{linesFrom};
 ghost use Rattle.judge.specs.Properties.{has};
 ghost use Rattle.judge.specs.Typed.{typed, lastLetters, keyOf, slotOf};
@@ -72,6 +72,18 @@ fn is_before(body: &[u8], starts: &[usize], name: &[u8], seen: bool) -> bool
     crate::has(body, starts, name)
 }
 
+// Where the property after one starts, whose header is given; of the last, after which none is looked for, where it starts itself.
+fn place_after(body: &[u8], at: usize, h: props::PropertyHeader, more: bool) -> usize
+    requires { ⌜ at ≤ length (now body) ⌝ }
+    ensures next { λ r. ⌜ (more ≡ true → r ≡ nextBy (now (body .entry)) at h) ⌝ }
+    ensures within { λ r. ⌜ r ≤ length (now (body .entry)) ⌝ }
+{
+    if !more {
+        return at;
+    }
+    body::next_by(body, at, h)
+}
+
 // The first of `count` properties whose name came before, or which has another type or length than its line says. Noted are,
 // of those before it, where each starts and where its line stands among the lines of the kind; and its slot is marked.
 pub(crate) fn typed(
@@ -105,8 +117,8 @@ pub(crate) fn typed(
         starts[i] = at;
         numbers[i] = k;
         marks[slot] = mark;
-        at = body::next_by(body, at, h);
         i += 1;
+        at = place_after(body, at, h, i < count);
     }
     base::Refusal {
         number: 0,

@@ -132,11 +132,11 @@ mul-marks c = omega (arith, c .before .before .before .before .before .before .s
 slice-write-marks : tie.Need-slice-write-marks Inv-loop μ-loop
 slice-write-marks c = slotted (c .before .before .before .before .before .before)
 
-next-by-requires : tie.Need-next-by-requires Inv-loop μ-loop
-next-by-requires c κs = search needs
-
 add-i : tie.Need-add-i Inv-loop μ-loop
-add-i c = omega (arith, start (c .before .before .before .before .before .before .before .before .before .before .before .before) .pre .0, c .before .before .before .before .before .before .before .before .before .before .before .loop-test .taken)
+add-i c = omega (arith, start (c .before .before .before .before .before .before .before .before .before .before .before) .pre .0, c .before .before .before .before .before .before .before .before .before .before .loop-test .taken)
+
+place-after-requires : tie.Need-place-after-requires Inv-loop μ-loop
+place-after-requires c κs = c .before .before .before .before .before .before .before .before .before .before .before .loop .inv .inside
 
 loop-less : tie.Need-loop-less Inv-loop μ-loop
 loop-less c = omega arith
@@ -155,7 +155,7 @@ loop-again c =
     let before : ib .is-before .result ≡ has (start l .args .body .now) (take (l .loop .i) _) (na .name-at .result .now) =
     ib .is-before .ensures ∙ ap (λ d. has (start l .args .body .now) d (na .name-at .result .now)) (before-are o (omega (arith, o .within, start l .pre))) in
     passed o (omega (arith, ha .before .loop-test .taken)) (na .name-at .ensures) (ha .header-at .ensures) (ln .line-named .ensures) (li .line-in .ensures .1)
-    before (m .misfits .ensures) (c .before .if1 .left) (so .slot-at .ensures .0) (c .next-by .ensures .0) (c .next-by .ensures .1)
+    before (m .misfits .ensures) (c .before .if1 .left) (so .slot-at .ensures .0) (c .place-after .ensures .0) (c .place-after .ensures .1)
 
 same-length-4 : tie.Need-same-length-4 Inv-loop μ-loop
 same-length-4 c = starts-long (c .before .loop .inv)
@@ -200,8 +200,8 @@ typed-spec =
     slice-write-numbers
     mul-marks
     slice-write-marks
-    next-by-requires
     add-i
+    place-after-requires
     loop-less
     loop-again
     same-length-4
