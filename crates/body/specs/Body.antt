@@ -1,7 +1,7 @@
 -- A given number of properties from the start of some bytes on: for document 01's 9 to 11 in the reader, all that is left of the
 -- node; for its 23 in the writer and its 42 in the lookup, the body.
 use Prim.Native.Nat.{ℕ, zero, suc, _+_, min}
-use mathlib.Core.Bool.{Bool, cond, _&&_}
+use mathlib.Core.Bool.{Bool, true, false, cond, _&&_}
 use mathlib.Core.List.{List, [], _∷_, _++_}
 use lib.Dec.{eqb, ltb}
 use lib.ListN.{length, drop, replicate}
@@ -15,6 +15,9 @@ use Rattle.props.specs.Types.{elementSize}
 use Rattle.props.specs.Step.{headerAt, dataSize, stepAt, nameAt}
 use Rattle.body.specs.declared.Passed.{Passed}
 use Rattle.body.specs.declared.Index.{Index}
+use Rattle.body.specs.declared.Sought.{Sought}
+use Rattle.body.specs.declared.Sought.the-variants.{Found, Nowhere}
+use Rattle.body.specs.declared.Sought.the-variants.{Refused as refusedAt}
 
 -- how a walk over properties ended: the refusal's number, 0 for none; the place, which is just past the last property,
 -- or the refused property's, and 0 for 9, whose place is the node's; and where the properties start that were passed
@@ -81,3 +84,27 @@ skimmed s k = cond (ltb mostProperties k) [] (skim s k 0)
 unfoldable pub firstNamed : (s name starts : List ℕ) → ℕ
 firstNamed s name [] = 0
 firstNamed s name (at ∷ more) = cond (same (nameAt s at) name) 0 (suc (firstNamed s name more))
+
+-- ---- the first of k properties from a place on that has the name: where its data starts and ends, and how many come after it; or the
+-- place past the last, where none has it; or the refusal of one before it
+abbrev pub soughtBy : (s name : List ℕ) → (k at : ℕ) → (on : ℕ → Sought) → Step → Sought
+soughtBy s name k at on (Past p next) = cond (same (nameAt s at) name) (Found (p .start) (next .at) k) (on (next .at))
+soughtBy s name k at on (Refused n) = refusedAt n at
+
+unfoldable pub sought : (s name : List ℕ) → (k at : ℕ) → Sought
+sought s name zero at = Nowhere at
+sought s name (suc k) at = soughtBy s name k at (sought s name k) (stepAt s at)
+
+-- its numbers: whether the property is found; the refusal's number, 0 for none; where the data starts, and how many properties come after it;
+-- and where the data ends, the last property ends, or the refused one starts
+pub record SoughtNumbers : Type 0 where
+  pub isFound : Bool
+  pub number : ℕ
+  pub start : ℕ
+  pub left : ℕ
+  pub at : ℕ
+
+abbrev pub soughtNumbers : Sought → SoughtNumbers
+soughtNumbers (Found start end left) = record { isFound = true; number = 0; start = start; left = left; at = end }
+soughtNumbers (Nowhere at) = record { isFound = false; number = 0; start = 0; left = 0; at = at }
+soughtNumbers (refusedAt n at) = record { isFound = false; number = n; start = 0; left = 0; at = at }

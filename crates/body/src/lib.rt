@@ -3,7 +3,7 @@ ghost use mathlib.Core.Path.{_≡_};
 ghost use Prim.Native.Nat.{_≤_, _<_};
 ghost use lib.ListN.{length};
 ghost use Rattle.base.specs.Limits.{mostProperties};
-ghost use Rattle.body.specs.Body.{pass, properties, exactly, endOf, indexOf, nextBy, nextAt, firstNamed};
+ghost use Rattle.body.specs.Body.{pass, properties, sought, soughtNumbers, exactly, endOf, indexOf, nextBy, nextAt, firstNamed};
 
 fn wide(x: u16) -> usize
     ensures { λ r. ⌜ (r ≡ x) × (r < 65536) ⌝ }
@@ -17,28 +17,62 @@ pub struct Passed {
     pub at: usize,
 }
 
-// Walks over `count` properties, at most 64.
-pub fn pass(body: &[u8], count: u32) -> Passed
-    ensures { λ r. ⌜ r ≡ endOf (properties (now (body .entry)) count) ⌝ }
+// How a search among properties ended: at the first that has the name, with where its data starts and ends and how many come
+// after it; past the last, where none has it; or refused at a property.
+pub enum Sought {
+    Found { start: usize, end: usize, left: u32 },
+    Nowhere(usize),
+    Refused { number: u32, at: usize },
+}
+
+// Steps past properties, at most `count`, up to the first that has the name. The walk, the lookup and the judgement of a plan all go by
+// this loop, so that the step has one caller there and is compiled into it.
+pub fn seek(body: &[u8], count: u32, name: &[u8]) -> Sought
+    ensures result { λ r. ⌜ r ≡ sought (now (body .entry)) (now (name .entry)) count 0 ⌝ }
+    ensures numbers { λ r. ⌜ soughtNumbers r ≡ soughtNumbers (sought (now (body .entry)) (now (name .entry)) count 0) ⌝ }
 {
-    if base::MOST_PROPERTIES < count {
-        return Passed { number: 9, at: 0 };
-    }
     let mut at: usize = 0;
     let mut left = count;
     while 0 < left {
         let cursor = props::Cursor { at };
         match cursor.step(body) {
-            props::Step::Past { offsets: _, next } => {
-                at = next.at;
+            props::Step::Past { offsets, next } => {
+                let from = offsets.name;
+                let start = offsets.start;
+                let end = next.at;
+                at = end;
                 left -= 1;
+                if names::same(&body[from..start], name) {
+                    return Sought::Found { start, end, left };
+                }
             }
             props::Step::Refused(number) => {
-                return Passed { number, at };
+                return Sought::Refused { number, at };
             }
         }
     }
-    Passed { number: 0, at }
+    Sought::Nowhere(at)
+}
+
+// Walks over `count` properties, at most 64: none has the empty name.
+pub fn pass(body: &[u8], count: u32) -> Passed
+    ensures { λ r. ⌜ r ≡ endOf (properties (now (body .entry)) count) ⌝ }
+{
+    if count == 0 {
+        return Passed { number: 0, at: 0 };
+    }
+    if base::MOST_PROPERTIES < count {
+        return Passed { number: 9, at: 0 };
+    }
+    match seek(body, count, &body[0..0]) {
+        Sought::Found {
+            start: _,
+            end,
+            left: _,
+        } => Passed { number: 0, at: end },
+        Sought::Nowhere(at) => Passed { number: 0, at },
+        Sought::Refused { number, at } => Passed { number, at },
+    }
 }
 
 // Whether the body is exactly `count` properties, at most 64.

@@ -2,7 +2,7 @@
 use mathlib.Core.Path.{_≡_, refl, sym, ap, _∙_}
 use mathlib.Core.Bool.{Bool, true, false, cond, _&&_, not}
 use mathlib.Core.List.{List, [], _∷_}
-use Prim.Native.Nat.{ℕ, suc, _+_, _-_, _<_, _≤_}
+use Prim.Native.Nat.{ℕ, zero, suc, _+_, _-_, _<_, _≤_}
 use native.Mathlib.Numerals.{add-one}
 use native.Mathlib.Omega.{arith}
 use lib.Dec.{eqb}
@@ -13,12 +13,17 @@ use Rattle.le.proofs.Laws.{rest}
 use Rattle.names.specs.Names.{same}
 use Rattle.props.specs.declared.Cursor.{Cursor}
 use Rattle.props.specs.declared.Offsets.{Offsets}
+use Rattle.props.specs.declared.Step.{Step}
 use Rattle.props.specs.declared.Step.the-variants.{Past}
 use Rattle.props.specs.declared.Step.the-variants.{Refused as refusedStep}
 use Rattle.props.specs.Step.{stepAt, nameAt, dataAt}
 use Rattle.props.proofs.Within.{step-within}
-use Rattle.body.specs.Body.{PropertyWalk, stop, after, pass, properties, exactly, places, firstNamed}
-use Rattle.body.proofs.Laws.{passed, refused, first-most}
+use Rattle.body.specs.declared.Sought.{Sought}
+use Rattle.body.specs.declared.Sought.the-variants.{Found as FoundAt, Nowhere}
+use Rattle.body.specs.declared.Sought.the-variants.{Refused as refusedAt}
+use Rattle.body.specs.Body.{PropertyWalk, stop, after, pass, properties, sought, exactly, places, firstNamed}
+use Rattle.body.proofs.Laws.{done, passed, refused, first-most}
+use Rattle.body.proofs.Search.{sought-done, sought-refused, sought-here, sought-later}
 use Rattle.body.proofs.Places.{pass-first, properties-places, properties-data}
 use Rattle.format.proofs.Properties.{step-told}
 use Rattle.lookup.specs.declared.Found.{Found}
@@ -89,7 +94,7 @@ module _ (s name : List ℕ) (k at : ℕ) (more : 0 < k) where
 
     module _ (most : k ≤ 64) (is : same (nameAt s at) name ≡ true) where
       -- the rest is judged, and then it is this property
-      turn-here : cond (not (exactly (rest s (q .at)) (k - 1))) (Refused 42) (At (p .start) (q .at)) ≡ here
+      pub turn-here : cond (not (exactly (rest s (q .at)) (k - 1))) (Refused 42) (At (p .start) (q .at)) ≡ here
       turn-here =
           let lies = step-within s at e in
           let judged = exactly-on s (q .at) (k - 1) (lies .2) (omega (arith, most)) in
@@ -97,11 +102,27 @@ module _ (s name : List ℕ) (k at : ℕ) (more : 0 < k) where
           ∙ sym (found-here s name at (pass s (k - 1) (q .at)) is)
           ∙ past)
 
-      pub turn-short : exactly (rest s (q .at)) (k - 1) ≡ false → Refused 42 ≡ here
-      turn-short f = ap (λ b. cond (not b) (Refused 42) (At (p .start) (q .at))) (sym f) ∙ turn-here
+-- ---- what a search among the properties answers
+abbrev pub bySought : (s : List ℕ) → Sought → Found
+bySought s (FoundAt start end left) = cond (not (exactly (rest s end) left)) (Refused 42) (At start end)
+bySought s (Nowhere at) = cond (eqb at (length s)) (Refused 43) (Refused 42)
+bySought s (refusedAt n at) = Refused 42
 
-      pub turn-found : exactly (rest s (q .at)) (k - 1) ≡ true → At (p .start) (q .at) ≡ here
-      turn-found f = ap (λ b. cond (not b) (Refused 42) (At (p .start) (q .at))) (sym f) ∙ turn-here
+pub sought-found : (s name : List ℕ) (k at : ℕ) → k ≤ 64 → bySought s (sought s name k at) ≡ foundIn s name (pass s k at)
+sought-found s name zero at most =
+    ap (bySought s) (sym (sought-done s name 0 at (omega arith)))
+    ∙ by-test (eqb at (length s)) (λ t. rw t (found-none s name at (eqb-true at (length s) t))) (λ t. rw t (found-short s name at (eqb-false at (length s) t)))
+    ∙ ap (foundIn s name) (sym (done s 0 at (omega arith)))
+sought-found s name (suc k) at most = by (stepAt s at) (λ b. sought-found s name k b (omega arith)) refl
+  where
+    by : (w : Step) → ((b : ℕ) → bySought s (sought s name k b) ≡ foundIn s name (pass s k b)) → stepAt s at ≡ w
+        → bySought s (sought s name (suc k) at) ≡ foundIn s name (pass s (suc k) at)
+    by (Past p q) ih e =
+        let one : suc k - 1 ≡ k = omega arith in
+        by-test (same (nameAt s at) name)
+        (λ is. ap (bySought s) (sym (sought-here s name (suc k) at (omega arith) e is)) ∙ turn-here s name (suc k) at (omega arith) e most is)
+        (λ is. ap (bySought s) (sym (sought-later s name (suc k) at (omega arith) e is)) ∙ rw one (ih (q .at)) ∙ turn-other s name (suc k) at (omega arith) e is)
+    by (refusedStep n) ih e = ap (bySought s) (sym (sought-refused s name (suc k) at (omega arith) e)) ∙ turn-refused s name (suc k) at (omega arith) e
 
 -- ---- the cases of the definition
 module _ (s name : List ℕ) (k : ℕ) (right : properties s k .number ≡ 0) (whole : properties s k .at ≡ length s) where

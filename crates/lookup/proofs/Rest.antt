@@ -1,67 +1,24 @@
 -- The walk over a body from a place on is the walk over the part of it from there on.
 use mathlib.Core.Path.{_≡_, refl, sym, ap, subst, _∙_}
-use mathlib.Core.Bool.{Bool, true, false, cond, _&&_, not}
+use mathlib.Core.Bool.{Bool, true, false, _&&_, not}
 use mathlib.Core.List.{List}
 use Prim.Native.Nat.{ℕ, zero, suc, _+_, _-_, _≤_}
 use native.Mathlib.Omega.{arith}
 use lib.Dec.{eqb, ltb}
-use lib.ListN.{length, take, drop, length-drop}
+use lib.ListN.{length, drop, length-drop}
 use lib.Seq.{drop-drop}
 use borrow.Author.Tests.{eq-eqb, ne-eqb, eqb-true, eqb-false}
 use Rattle.base.proofs.Tests.{by-test}
 use Rattle.le.specs.Le.{numberAt}
 use Rattle.le.proofs.Laws.{rest, rest-drop}
 use Rattle.names.specs.Names.{sizeOk, bytesOk}
-use Rattle.props.specs.declared.Cursor.{Cursor}
-use Rattle.props.specs.declared.Offsets.{Offsets}
 use Rattle.props.specs.declared.Step.{Step}
 use Rattle.props.specs.declared.Step.the-variants.{Past, Refused}
 use Rattle.props.specs.Types.{elementSize, noSuch}
 use Rattle.props.specs.Step.{codeAt, sizeAt, lengthAt, nameAt, startAt, lengthOk, dataSize, stepAt}
-use Rattle.props.proofs.Within.{step-within}
 use Rattle.body.specs.Body.{PropertyWalk, byStep, pass, properties, exactly}
 use Rattle.body.proofs.Laws.{few}
-
--- ---- the tests of a step
-abbrev tested : (a b c d e f g : Bool) → Step → Step
-tested a b c d e f g next =
-    cond a (Refused 10) (cond b (Refused 11) (cond c (Refused 11) (cond d (Refused 10) (cond e (Refused 11) (cond f (Refused 11) (cond g (Refused 10) next))))))
-
-tested-past : (a b c d e f g : Bool) (next : Step) {p : Offsets} {q : Cursor} → tested a b c d e f g next ≡ Past p q → next ≡ Past p q
-tested-past true b c d e f g next h = cc
-tested-past false true c d e f g next h = cc
-tested-past false false true d e f g next h = cc
-tested-past false false false true e f g next h = cc
-tested-past false false false false true f g next h = cc
-tested-past false false false false false true g next h = cc
-tested-past false false false false false false true next h = cc
-tested-past false false false false false false false next h = h
-
--- a property that is passed has its name after its header, and its data after its name
-pub passed-places : (s : List ℕ) (at : ℕ) {p : Offsets} {q : Cursor} → stepAt s at ≡ Past p q → (p .name ≡ at + 8) × (p .start ≡ startAt s at)
-unfolding stepAt
-passed-places s at {p} {q} h =
-    let size = elementSize (codeAt s at) in
-    let room = length s - at in
-    let rest = drop (startAt s at) s in
-    let n = dataSize size (lengthAt s at) rest in
-    let is : Past (record { name = at + 8; start = startAt s at }) (record { at = startAt s at + n }) ≡ Past p q
-    = tested-past (ltb room 8) (noSuch size) (not (sizeOk (sizeAt s at))) (ltb room (8 + sizeAt s at)) (not (bytesOk (nameAt s at))) (not (lengthOk size (lengthAt s at))) (ltb (length rest) n) _ h in
-    let offsets : record { name = at + 8; start = startAt s at } ≡ p = cc in
-    (ap (λ (o : Offsets). o .name) (sym offsets), ap (λ (o : Offsets). o .start) (sym offsets))
-
-pub passed-within : (s : List ℕ) (at : ℕ) {p : Offsets} {q : Cursor} → stepAt s at ≡ Past p q → (p .name ≤ p .start) × (p .start ≤ length s) × (q .at ≤ length s)
-passed-within s at h =
-    let places = passed-places s at h in
-    let lies = step-within s at h in
-    (omega (arith, places .0, places .1), omega (arith, lies .1, lies .2), lies .2)
-
-pub passed-name : (s : List ℕ) (at : ℕ) {p : Offsets} {q : Cursor} → stepAt s at ≡ Past p q → take (p .start - p .name) (drop (p .name) s) ≡ nameAt s at
-unfolding nameAt
-passed-name s at {p} {q} h =
-    let places = passed-places s at h in
-    let size : p .start - p .name ≡ sizeAt s at = omega (arith, places .0, places .1) in
-    rw (size, places .0)
+use Rattle.body.proofs.Search.{tested}
 
 -- ---- a step from a place on
 abbrev moved : ℕ → Step → Step

@@ -17,33 +17,21 @@ fn in_body(body: &[u8], count: u32, name: &[u8]) -> Found
     if base::MOST_PROPERTIES < count {
         return Found::Refused(42);
     }
-    let mut at: usize = 0;
-    let mut left = count;
-    while 0 < left {
-        let cursor = props::Cursor { at };
-        match cursor.step(body) {
-            props::Step::Past { offsets, next } => {
-                let from = offsets.name;
-                let start = offsets.start;
-                let end = next.at;
-                at = end;
-                left -= 1;
-                if names::same(&body[from..start], name) {
-                    if !body::exact(&body[end..], left) {
-                        return Found::Refused(42);
-                    }
-                    return Found::At { start, end };
-                }
-            }
-            props::Step::Refused(_) => {
+    match body::seek(body, count, name) {
+        body::Sought::Found { start, end, left } => {
+            if !body::exact(&body[end..], left) {
                 return Found::Refused(42);
             }
+            Found::At { start, end }
         }
+        body::Sought::Nowhere(at) => {
+            if at != body.len() {
+                return Found::Refused(42);
+            }
+            Found::Refused(43)
+        }
+        body::Sought::Refused { number: _, at: _ } => Found::Refused(42),
     }
-    if at != body.len() {
-        return Found::Refused(42);
-    }
-    Found::Refused(43)
 }
 
 // Finds the property of a row: 40 to 43.

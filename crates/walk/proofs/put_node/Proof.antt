@@ -1,5 +1,5 @@
 -- `walk::put_node`: the row of the header, put.
-use mathlib.Core.Path.{sym, ap, _∙_}
+use mathlib.Core.Path.{ap, _∙_}
 use Rattle.table.specs.Table.{withRow}
 use borrow.Author.Needs.{needs}
 use Rattle.walk.proofs.Nodes.{row-is}
