@@ -291,7 +291,7 @@ module _ {ls : List Line} {s : List ℕ} {m count : ℕ} {starts₀ numbers₀ m
         within = omega arith;
         inside = b;
         left = onward ∙ by-test (ltb (i + 1) count) (λ t. ap (skim s (count - (i + 1))) (sym (y t ∙ by-own)))
-        (λ t. skim-last s (nextAt s at) next (omega (arith, ltb-false (i + 1) count t)));
+            (λ t. skim-last s (nextAt s at) next (omega (arith, ltb-false (i + 1) count t)));
         starts = sets-more (λ x. x) all i 0 inner (sym there) starts₀ (o .starts);
         numbers = sets-more (lineNumber ls s) all i 0 inner (numbered ∙ ap (lineNumber ls s) (sym there)) numbers₀ (o .numbers);
         marks =

@@ -130,6 +130,30 @@ struct Judgement {
     unknown: u64,
 }
 
+// What rows give of which none is refused.
+fn all_passed(
+    faces: u64,
+    degenerate: u64,
+    links: u32,
+    linked: links::Linked,
+    unknown: u64,
+) -> Judgement
+    ensures rules { λ r. ⌜ r .rules ≡ record { number = 0; place = 0; faces = faces; degenerate = degenerate; links = links } ⌝ }
+    ensures links { λ r. ⌜ (r .links ≡ linked) × (r .unknown ≡ unknown) ⌝ }
+{
+    Judgement {
+        rules: Ruled {
+            number: 0,
+            place: 0,
+            faces,
+            degenerate,
+            links,
+        },
+        links: linked,
+        unknown,
+    }
+}
+
 // The rules and the links, row by row of those that have any: the first link that fails is kept until all rows have passed.
 fn rules_of<'a>(
     file: &[u8],
@@ -165,9 +189,15 @@ fn rules_of<'a>(
     let mut faces: u64 = 0;
     let mut degenerate: u64 = 0;
     let mut links: u32 = 0;
-    let mut next = unjudged::skip(table, nodes, 0, lines, 0);
-    while next.row < nodes {
+    let mut unknown: u64 = 0;
+    let mut from: usize = 0;
+    while from < nodes {
+        let next = unjudged::skip(table, nodes, from, lines, unknown);
+        unknown = next.unknown;
         let i = next.row;
+        if nodes <= i {
+            return all_passed(faces, degenerate, links, linked, unknown);
+        }
         let row = table::row_at(table, i);
         let j = judge_row(
             file,
@@ -191,7 +221,7 @@ fn rules_of<'a>(
                     links,
                 },
                 links: linked,
-                unknown: next.unknown,
+                unknown,
             };
         }
         if (linked.number == 0) & (j.links != 0) {
@@ -212,19 +242,9 @@ fn rules_of<'a>(
         faces += more.0;
         degenerate += j.degenerate;
         links += j.links;
-        next = unjudged::skip(table, nodes, i + 1, lines, next.unknown);
+        from = i + 1;
     }
-    Judgement {
-        rules: Ruled {
-            number: 0,
-            place: 0,
-            faces,
-            degenerate,
-            links,
-        },
-        links: linked,
-        unknown: next.unknown,
-    }
+    all_passed(faces, degenerate, links, linked, unknown)
 }
 
 // Whether one of the first rows is of a kind.
