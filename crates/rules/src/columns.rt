@@ -33,3 +33,14 @@ pub const KEYS: u32 = 7; // length of kb, and the type that kp wants
 pub const BONE_NUMBER: u32 = 8; // -1, or the number of a Bone
 
 pub const LINK: u32 = 9; // a link to a kind
+
+// The sets of strings.
+pub const SKINNING: u32 = 1;
+
+pub const CONSTRAINTS: u32 = 2;
+
+pub const KEY_PROPERTIES: u32 = 3;
+
+pub const MODES: u32 = 4;
+
+pub const AXES: u32 = 5;

@@ -271,11 +271,11 @@ pub fn one_of(set: u32, bytes: &[u8]) -> bool
     ensures { λ r. ⌜ r ≡ isOneOf (stringsOf set) (now (bytes .entry)) ⌝ }
 {
     match set {
-        1 => some_stands(&lines::SKINNING, bytes),
-        2 => some_stands(&lines::CONSTRAINTS, bytes),
-        3 => some_stands(&lines::KEY_PROPERTIES, bytes),
-        4 => some_stands(&lines::MODES, bytes),
-        5 => some_stands(&lines::AXES, bytes),
+        columns::SKINNING => some_stands(&lines::SKINNING, bytes),
+        columns::CONSTRAINTS => some_stands(&lines::CONSTRAINTS, bytes),
+        columns::KEY_PROPERTIES => some_stands(&lines::KEY_PROPERTIES, bytes),
+        columns::MODES => some_stands(&lines::MODES, bytes),
+        columns::AXES => some_stands(&lines::AXES, bytes),
         _ => false,
     }
 }

@@ -71,6 +71,17 @@ const NO: u32 = columns::BONE_NUMBER;
 
 const T: u32 = columns::LINK;
 
+// The sets of strings:
+const SKIN: u32 = columns::SKINNING;
+
+const CONS: u32 = columns::CONSTRAINTS;
+
+const KEYP: u32 = columns::KEY_PROPERTIES;
+
+const MODE: u32 = columns::MODES;
+
+const AXIS: u32 = columns::AXES;
+
 // A line says of one name on one kind: its size and its letters, four to a number; whether a number follows it (`%d`);
 // its types; whether it is an array; whether it is required; what it is held to; which strings it takes; which kind it
 // links to.
@@ -88,7 +99,7 @@ pub const LINES: [[u32; 12]; 81] = [
     [MESH, 2, 0x6C63, 0, 0, 0, N, 0, 0, 0, 0, 0], // Mesh cl N
     [MESH, 2, 0x6C75, 0, 0, 0, N, 0, 0, 0, 0, 0], // Mesh ul N
     [MESH, 2, 0x696D, 0, 0, 0, N, 0, 0, 0, 0, 0], // Mesh mi N
-    [MESH, 2, 0x6D73, 0, 0, 0, S, 0, 0, SET, 1, 0], // Mesh sm s (linear, quaternion)
+    [MESH, 2, 0x6D73, 0, 0, 0, S, 0, 0, SET, SKIN, 0], // Mesh sm s (linear, quaternion)
     [MESH, 1, 0x6D, 0, 0, 0, L, 0, 0, T, 0, MATL], // Mesh m l to Material
     [BLSH, 1, 0x6E, 0, 0, 0, S, 0, 1, 0, 0, 0], // BlendShape n! s
     [BLSH, 1, 0x62, 0, 0, 0, L, 0, 1, T, 0, MESH], // BlendShape b! l to Mesh
@@ -111,7 +122,7 @@ pub const LINES: [[u32; 12]; 81] = [
     [IKHD, 2, 0x6270, 0, 0, 0, L, 0, 0, T, 0, BONE], // IKHandle pb l to Bone
     [IKHD, 2, 0x7274, 0, 0, 0, B, 0, 0, BIT, 0, 0], // IKHandle tr B
     [CNST, 1, 0x6E, 0, 0, 0, S, 0, 0, 0, 0, 0], // Constraint n s
-    [CNST, 2, 0x7463, 0, 0, 0, S, 0, 1, SET, 2, 0], // Constraint ct! s (pt, or, sc)
+    [CNST, 2, 0x7463, 0, 0, 0, S, 0, 1, SET, CONS, 0], // Constraint ct! s (pt, or, sc)
     [CNST, 2, 0x6263, 0, 0, 0, L, 0, 1, T, 0, BONE], // Constraint cb! l to Bone
     [CNST, 2, 0x6274, 0, 0, 0, L, 0, 1, T, 0, BONE], // Constraint tb! l to Bone
     [CNST, 2, 0x6F6D, 0, 0, 0, B, 0, 0, BIT, 0, 0], // Constraint mo B
@@ -136,13 +147,13 @@ pub const LINES: [[u32; 12]; 81] = [
     [ANIM, 2, 0x7266, 0, 0, 0, F, 0, 1, 0, 0, 0], // Animation fr! f
     [ANIM, 2, 0x6F6C, 0, 0, 0, B, 0, 0, BIT, 0, 0], // Animation lo B
     [CURV, 2, 0x6E6E, 0, 0, 0, S, 0, 1, 0, 0, 0], // Curve nn! s
-    [CURV, 2, 0x706B, 0, 0, 0, S, 0, 1, SET, 3, 0], // Curve kp! s (rq tx ty tz sx sy sz bs vb)
+    [CURV, 2, 0x706B, 0, 0, 0, S, 0, 1, SET, KEYP, 0], // Curve kp! s (rq tx ty tz sx sy sz bs vb)
     [CURV, 2, 0x626B, 0, 0, 0, N, 1, 1, 0, 0, 0], // Curve kb! N[]
     [CURV, 2, 0x766B, 0, 0, 0, K, 1, 1, KB, 0, 0], // Curve kv! one of b h i f v4 []
-    [CURV, 1, 0x6D, 0, 0, 0, S, 0, 1, SET, 4, 0], // Curve m! s (additive, absolute, relative)
+    [CURV, 1, 0x6D, 0, 0, 0, S, 0, 1, SET, MODE, 0], // Curve m! s (additive, absolute, relative)
     [CURV, 2, 0x6261, 0, 0, 0, F, 0, 0, 0, 0, 0], // Curve ab f
     [CMOV, 2, 0x6E6E, 0, 0, 0, S, 0, 1, 0, 0, 0], // CurveModeOverride nn! s
-    [CMOV, 1, 0x6D, 0, 0, 0, S, 0, 1, SET, 4, 0], // CurveModeOverride m! s (additive, absolute, relative)
+    [CMOV, 1, 0x6D, 0, 0, 0, S, 0, 1, SET, MODE, 0], // CurveModeOverride m! s (additive, absolute, relative)
     [CMOV, 2, 0x746F, 0, 0, 0, B, 0, 0, BIT, 0, 0], // CurveModeOverride ot B
     [CMOV, 2, 0x726F, 0, 0, 0, B, 0, 0, BIT, 0, 0], // CurveModeOverride or B
     [CMOV, 2, 0x736F, 0, 0, 0, B, 0, 0, BIT, 0, 0], // CurveModeOverride os B
@@ -155,7 +166,7 @@ pub const LINES: [[u32; 12]; 81] = [
     [INST, 1, 0x73, 0, 0, 0, V3, 0, 1, 0, 0, 0], // Instance s! v3
     [META, 1, 0x61, 0, 0, 0, S, 0, 0, 0, 0, 0], // Metadata a s
     [META, 1, 0x73, 0, 0, 0, S, 0, 0, 0, 0, 0], // Metadata s s
-    [META, 2, 0x7075, 0, 0, 0, S, 0, 0, SET, 5, 0], // Metadata up s (x, y, z)
+    [META, 2, 0x7075, 0, 0, 0, S, 0, 0, SET, AXIS, 0], // Metadata up s (x, y, z)
 ];
 
 // The line of the names that are not listed: any type and any length.
