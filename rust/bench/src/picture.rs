@@ -13,9 +13,11 @@ const LINE: usize = 17;
 const HEADING: usize = 34;
 const TOP: usize = 70;
 
-/// A bar is green up to its aim and red past it.
+/// A bar is green up to its aim, and red past it and what a time's noise may add to it.
 const GOOD: &str = "#3a8f5c";
+const NOISY: &str = "#c9a13b";
 const BAD: &str = "#c0503c";
+const NOISE: f64 = 0.05;
 /// A row without an aim.
 const PLAIN: &str = "#4a78b0";
 /// The bar to what stands beside.
@@ -61,8 +63,9 @@ fn color(ratio: f64, aim: Option<f64>) -> &'static str {
     let shown = (ratio * 100.0).round() / 100.0;
     match aim {
         None => PLAIN,
-        Some(aim) if shown > aim => BAD,
-        Some(_) => GOOD,
+        Some(aim) if shown <= aim => GOOD,
+        Some(aim) if shown <= aim + NOISE => NOISY,
+        Some(_) => BAD,
     }
 }
 
@@ -80,7 +83,7 @@ fn grid(height: usize) -> String {
         "t",
         "Time of the proved library, divided by that of the independent one",
     );
-    let legend = "green: within its aim; red: past it; blue: without one; grey: divided by a copy, or by a proved reading and a copy, where that has an aim";
+    let legend = "green: within its aim; yellow: past it by 0.05 at most, the noise; red: past that; blue: without one; grey: divided by a copy, or by reading and a copy";
     text(&mut out, 16, 46, "start", "s", legend);
     for step in 0..=4 {
         let ratio = f64::from(step) * 0.5;
