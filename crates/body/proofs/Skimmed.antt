@@ -8,7 +8,7 @@ use lib.Dec.{ltb}
 use lib.ListN.{length, drop, getD}
 use borrow.Author.Tests.{lt-ltb, le-ltb, ltb-false}
 use Rattle.base.proofs.Tests.{by-test}
-use Rattle.le.proofs.Laws.{rest, rest-drop}
+use Rattle.le.proofs.Laws.{rest, rest-drop, drop-rest, length-rest}
 use Rattle.props.specs.declared.PropertyHeader.{PropertyHeader}
 use Rattle.names.specs.Names.{sizeOk, bytesOk}
 use Rattle.props.specs.declared.Cursor.{Cursor}
@@ -24,6 +24,16 @@ use Rattle.body.specs.Body.{byStep, pass, properties, nextBy, nextAt, sk
 abbrev Told : Step → Type 0
 Told (Past p next) = Unit
 Told (Refused n) = n ≡ 0 → ⊥
+
+-- by what is left of the bytes from its place on
+pub next-rest : (s : List ℕ) (at : ℕ) (h : PropertyHeader) → at ≤ length s → at + nextBy (rest s at) 0 h ≡ nextBy s at h
+next-rest s at h l =
+    let k = 8 + h .size in
+    let same : drop k (rest s at) ≡ drop (at + 8 + h .size) s
+    = drop-rest s at k ∙ (let e : at + k ≡ at + 8 + h .size = omega arith in ap (λ i. drop i s) e) in
+    let taken : dataSize (elementSize (h .code)) (h .length) (drop k (rest s at)) ≡ dataSize (elementSize (h .code)) (h .length) (drop (at + 8 + h .size) s)
+    = ap (dataSize (elementSize (h .code)) (h .length)) same in
+    omega (arith, length-rest s at, taken, l)
 
 module _ (s : List ℕ) where
   -- ---- where a property ends

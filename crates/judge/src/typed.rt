@@ -104,10 +104,11 @@ pub(crate) fn typed(
     let mut at: usize = 0;
     let mut i: usize = 0;
     while i < count {
-        let h = props::header_at(body, at);
-        let name = props::name_at(body, at);
+        let rest = &body[at..];
+        let h = props::header_at(rest, 0);
+        let name = props::name_at(rest, 0);
         let k = rules::line_named(lines, name);
-        let slot = slot_at(body, at, name);
+        let slot = slot_at(rest, 0, name);
         let repeats = is_before(body, &starts[..i], name, marks[slot] == mark);
         let misfits = rules::misfits(rules::line_in(lines, k), h.code, h.length);
         if repeats | misfits {
@@ -118,7 +119,7 @@ pub(crate) fn typed(
         numbers[i] = k;
         marks[slot] = mark;
         i += 1;
-        at = place_after(body, at, h, i < count);
+        at += place_after(rest, 0, h, i < count);
     }
     base::Refusal {
         number: 0,

@@ -5,9 +5,9 @@ use mathlib.Core.Path.{_≡_}
 use mathlib.Core.List.{List}
 use lib.ListN.{length, take, drop}
 use Rattle.le.specs.Le.{numberAt, AreBytes}
-use Rattle.le.proofs.Laws.{rest, numberAt-part, numberAt-rest, numberAt-past, numberAt-short, numberAt-high}
+use Rattle.le.proofs.Laws.{rest, drop-rest, numberAt-part, numberAt-rest, numberAt-past, numberAt-short, numberAt-high}
 use Rattle.props.specs.declared.PropertyHeader.{PropertyHeader}
-use Rattle.props.specs.Step.{headerAt}
+use Rattle.props.specs.Step.{headerAt, nameAt}
 
 abbrev pub headed : (code size len : ℕ) → PropertyHeader
 headed code size len = record { code = code; size = size; length = len }
@@ -33,6 +33,10 @@ module _ (s : List ℕ) (at : ℕ) where
   -- of all that is left
   pub header-rest : headerAt (rest s at) 0 ≡ headerAt s at
   header-rest = rw (numberAt-rest 2 s at 0, numberAt-rest 2 s at 2, numberAt-rest 4 s at 4, same-start)
+
+  pub name-rest : nameAt (rest s at) 0 ≡ nameAt s at
+  unfolding nameAt
+  name-rest = rw (numberAt-rest 2 s at 2, drop-rest s at 8)
 
   pub header-past : length s ≤ at → headed 0 0 0 ≡ headerAt s at
   header-past h =

@@ -1,5 +1,5 @@
 -- `judge::typed::typed`: what the properties from i on say, after those before, is what all say.
-use Prim.Native.Nat.{_*_, _-_, _≤_, _<_}
+use Prim.Native.Nat.{_+_, _*_, _-_, _≤_, _<_}
 use native.Mathlib.Omega.{arith}
 use mathlib.Core.Path.{_≡_, sym, ap, _∙_}
 use lib.ListN.{length, take}
@@ -7,6 +7,9 @@ use lib.Seq.{length-take-le}
 use mir.Val.{Fits}
 use mir.Syntax.{w64}
 use borrow.Author.Needs.{needs}
+use Rattle.le.proofs.Laws.{length-rest}
+use Rattle.props.proofs.Header.{header-rest, name-rest}
+use Rattle.body.proofs.Skimmed.{next-rest}
 use Rattle.rules.specs.Packing.{linesFrom}
 use Rattle.judge.specs.Properties.{has}
 use Rattle.judge.proofs.Typing.{Noting, noting, starts-long, numbers-long, marks-long, before-are, unseen-before, all-noted, refused, passed}
@@ -21,6 +24,15 @@ abbrev μ-loop : tie.MeasureT-loop
 
 loop-holds : tie.Need-loop-holds Inv-loop μ-loop
 loop-holds c = noting _ _ _ _ _ _ _
+
+sub-rest : tie.Need-sub-rest Inv-loop μ-loop
+sub-rest c = c .before .loop .inv .inside
+
+part-rest-start : tie.Need-part-rest-start Inv-loop μ-loop
+part-rest-start c = c .before .loop .inv .inside
+
+part-rest-end : tie.Need-part-rest-end Inv-loop μ-loop
+part-rest-end c = omega arith
 
 header-at-requires : tie.Need-header-at-requires Inv-loop μ-loop
 header-at-requires c κs = search needs
@@ -50,17 +62,17 @@ module _ (l : tie.At-loop Inv-loop μ-loop) where
   bounded h = omega (arith, h, start .pre .0)
 
 slice-reshare-prefix-is-before : tie.Need-slice-reshare-prefix-is-before Inv-loop μ-loop
-slice-reshare-prefix-is-before c = let l = c .before .before .before .before .before in room l (l .loop .inv .within) .0
+slice-reshare-prefix-is-before c = let l = c .before .before .before .before .before .before in room l (l .loop .inv .within) .0
 
 slice-aggregate-is-before : tie.Need-slice-aggregate-is-before Inv-loop μ-loop
 slice-aggregate-is-before c =
-    let l = c .before .before .before .before .before .before in
+    let l = c .before .before .before .before .before .before .before in
     sym (length-take-le _ _ (room l (l .loop .inv .within) .0))
 
 -- a slot lies in the marks
-slotted : (c : tie.After-slot-at Inv-loop μ-loop) → c .slot-at .result < length (c .before .before .before .before .before .loop .marks)
+slotted : (c : tie.After-slot-at Inv-loop μ-loop) → c .slot-at .result < length (c .before .before .before .before .before .before .loop .marks)
 slotted c =
-    let l = c .before .before .before .before .before in
+    let l = c .before .before .before .before .before .before in
     omega (arith, c .slot-at .ensures .1, marks-long (l .loop .inv), start l .pre .3)
 
 mul-is-before : tie.Need-mul-is-before Inv-loop μ-loop
@@ -72,7 +84,7 @@ slice-read-is-before c = slotted (c .before .before)
 is-before-requires : tie.Need-is-before-requires Inv-loop μ-loop
 is-before-requires c κs e =
     let so = c .before .before in
-    let l = so .before .before .before .before .before in
+    let l = so .before .before .before .before .before .before in
     let p = start l .pre in
     let o = l .loop .inv in
     unseen-before o (omega (arith, o .within, p)) (so .before .before .name-at .result .now) (so .slot-at .result) (so .slot-at .ensures .0) (omega (arith, so .slot-at .ensures .1, p .3)) e
@@ -85,17 +97,17 @@ misfits-requires c κs = search needs
 
 add-place : tie.Need-add-place Inv-loop μ-loop
 add-place c =
-    let l = c .before .before .before .before .before .before .before .before .before .before .before in
+    let l = c .before .before .before .before .before .before .before .before .before .before .before .before in
     omega (arith, l .loop .inv .inside)
 
 same-length : tie.Need-same-length Inv-loop μ-loop
-same-length c = starts-long (c .before .before .before .before .before .before .before .before .before .before .before .loop .inv)
+same-length c = starts-long (c .before .before .before .before .before .before .before .before .before .before .before .before .loop .inv)
 
 same-length-2 : tie.Need-same-length-2 Inv-loop μ-loop
-same-length-2 c = numbers-long (c .before .before .before .before .before .before .before .before .before .before .before .loop .inv)
+same-length-2 c = numbers-long (c .before .before .before .before .before .before .before .before .before .before .before .before .loop .inv)
 
 same-length-3 : tie.Need-same-length-3 Inv-loop μ-loop
-same-length-3 c = marks-long (c .before .before .before .before .before .before .before .before .before .before .before .loop .inv)
+same-length-3 c = marks-long (c .before .before .before .before .before .before .before .before .before .before .before .before .loop .inv)
 
 returns : tie.Need-returns Inv-loop μ-loop
 returns c =
@@ -106,25 +118,25 @@ returns c =
     let ln = so .before in
     let na = ln .before in
     let ha = na .before in
-    let l = ha .before .before in
+    let l = ha .before .before .before in
     let o = l .loop .inv in
     let before : ib .is-before .result ≡ has (start l .args .body .now) (take (l .loop .i) _) (na .name-at .result .now) =
     ib .is-before .ensures ∙ ap (λ d. has (start l .args .body .now) d (na .name-at .result .now)) (before-are o (omega (arith, o .within, start l .pre))) in
-    let r = refused o (omega (arith, ha .before .loop-test .taken)) (na .name-at .ensures) (ha .header-at .ensures) (ln .line-named .ensures) (li .line-in .ensures .1)
+    let r = refused o (omega (arith, ha .before .before .loop-test .taken)) (na .name-at .ensures ∙ name-rest (start l .args .body .now) (l .loop .at)) (ha .header-at .ensures ∙ header-rest (start l .args .body .now) (l .loop .at)) (ln .line-named .ensures) (li .line-in .ensures .1)
     before (m .misfits .ensures) (c .if1 .taken) in
     (r .0, (r .1, omega (arith, o .inside)))
 
 mul-starts : tie.Need-mul-starts Inv-loop μ-loop
-mul-starts c = bounded (c .before .before .before .before .before .before .before .before .before .before .before) (c .before .before .before .before .before .before .before .before .before .before .loop-test .taken)
+mul-starts c = bounded (c .before .before .before .before .before .before .before .before .before .before .before .before) (c .before .before .before .before .before .before .before .before .before .before .before .loop-test .taken)
 
 slice-write-starts : tie.Need-slice-write-starts Inv-loop μ-loop
-slice-write-starts c = let l = c .before .before .before .before .before .before .before .before .before .before .before in omega (arith, starts-long (l .loop .inv), start l .pre, c .before .before .before .before .before .before .before .before .before .before .loop-test .taken)
+slice-write-starts c = let l = c .before .before .before .before .before .before .before .before .before .before .before .before in omega (arith, starts-long (l .loop .inv), start l .pre, c .before .before .before .before .before .before .before .before .before .before .before .loop-test .taken)
 
 mul-numbers : tie.Need-mul-numbers Inv-loop μ-loop
-mul-numbers c = bounded (c .before .before .before .before .before .before .before .before .before .before .before) (c .before .before .before .before .before .before .before .before .before .before .loop-test .taken)
+mul-numbers c = bounded (c .before .before .before .before .before .before .before .before .before .before .before .before) (c .before .before .before .before .before .before .before .before .before .before .before .loop-test .taken)
 
 slice-write-numbers : tie.Need-slice-write-numbers Inv-loop μ-loop
-slice-write-numbers c = let l = c .before .before .before .before .before .before .before .before .before .before .before in omega (arith, numbers-long (l .loop .inv), start l .pre, c .before .before .before .before .before .before .before .before .before .before .loop-test .taken)
+slice-write-numbers c = let l = c .before .before .before .before .before .before .before .before .before .before .before .before in omega (arith, numbers-long (l .loop .inv), start l .pre, c .before .before .before .before .before .before .before .before .before .before .before .loop-test .taken)
 
 mul-marks : tie.Need-mul-marks Inv-loop μ-loop
 mul-marks c = omega (arith, c .before .before .before .before .before .before .slot-at .ensures .1)
@@ -133,10 +145,15 @@ slice-write-marks : tie.Need-slice-write-marks Inv-loop μ-loop
 slice-write-marks c = slotted (c .before .before .before .before .before .before)
 
 add-i : tie.Need-add-i Inv-loop μ-loop
-add-i c = omega (arith, start (c .before .before .before .before .before .before .before .before .before .before .before) .pre .0, c .before .before .before .before .before .before .before .before .before .before .loop-test .taken)
+add-i c = omega (arith, start (c .before .before .before .before .before .before .before .before .before .before .before .before) .pre .0, c .before .before .before .before .before .before .before .before .before .before .before .loop-test .taken)
 
 place-after-requires : tie.Need-place-after-requires Inv-loop μ-loop
-place-after-requires c κs = c .before .before .before .before .before .before .before .before .before .before .before .loop .inv .inside
+place-after-requires c κs = omega arith
+
+add-at : tie.Need-add-at Inv-loop μ-loop
+add-at c =
+    let l = c .before .before .before .before .before .before .before .before .before .before .before .before .before in
+    omega (arith, c .place-after .ensures .1, length-rest (start l .args .body .now) (l .loop .at), l .loop .inv .inside)
 
 loop-less : tie.Need-loop-less Inv-loop μ-loop
 loop-less c = omega arith
@@ -150,12 +167,14 @@ loop-again c =
     let ln = so .before in
     let na = ln .before in
     let ha = na .before in
-    let l = ha .before .before in
+    let l = ha .before .before .before in
     let o = l .loop .inv in
     let before : ib .is-before .result ≡ has (start l .args .body .now) (take (l .loop .i) _) (na .name-at .result .now) =
     ib .is-before .ensures ∙ ap (λ d. has (start l .args .body .now) d (na .name-at .result .now)) (before-are o (omega (arith, o .within, start l .pre))) in
-    passed o (omega (arith, ha .before .loop-test .taken)) (na .name-at .ensures) (ha .header-at .ensures) (ln .line-named .ensures) (li .line-in .ensures .1)
-    before (m .misfits .ensures) (c .before .if1 .left) (so .slot-at .ensures .0) (c .place-after .ensures .0) (c .place-after .ensures .1)
+    passed o (omega (arith, ha .before .before .loop-test .taken)) (na .name-at .ensures ∙ name-rest (start l .args .body .now) (l .loop .at)) (ha .header-at .ensures ∙ header-rest (start l .args .body .now) (l .loop .at)) (ln .line-named .ensures) (li .line-in .ensures .1)
+    before (m .misfits .ensures) (c .before .if1 .left) (so .slot-at .ensures .0)
+    (λ t. ap (λ k. l .loop .at + k) (c .place-after .ensures .0 t) ∙ next-rest (start l .args .body .now) (l .loop .at) (ha .header-at .result) (o .inside))
+    (omega (arith, c .place-after .ensures .1, length-rest (start l .args .body .now) (l .loop .at), o .inside))
 
 same-length-4 : tie.Need-same-length-4 Inv-loop μ-loop
 same-length-4 c = starts-long (c .before .loop .inv)
@@ -178,6 +197,9 @@ typed-spec =
     Inv-loop
     μ-loop
     loop-holds
+    sub-rest
+    part-rest-start
+    part-rest-end
     header-at-requires
     name-at-requires
     line-named-requires
@@ -202,6 +224,7 @@ typed-spec =
     slice-write-marks
     add-i
     place-after-requires
+    add-at
     loop-less
     loop-again
     same-length-4
