@@ -81,10 +81,13 @@ pub fn name_of(e: Entry) -> Letters
     unpack(e.size, e.first, e.second, e.third)
 }
 
-// Whether the types of a line have a type.
+// Whether the types of a line have a type. Most lines have one type, by its code, which is above the numbers of the groups.
 pub fn takes(types: u32, code: u16) -> bool
     ensures { λ r. ⌜ r ≡ takes (typesFrom types) code ⌝ }
 {
+    if columns::ANY_TYPE < types {
+        return types == code as u32;
+    }
     let n = (code == props::BYTE) | (code == props::SHORT) | (code == props::INT);
     match types {
         columns::N => n,
