@@ -13,7 +13,7 @@ const LINE: usize = 17;
 const HEADING: usize = 34;
 const TOP: usize = 70;
 
-/// A bar is green up to its aim, and red past it and what a time's noise may add to it.
+/// A bar is green up to its aim and red past it; of an aim of 1.0, red past what noise may add to a time.
 const GOOD: &str = "#3a8f5c";
 const NOISY: &str = "#c9a13b";
 const BAD: &str = "#c0503c";
@@ -64,7 +64,7 @@ fn color(ratio: f64, aim: Option<f64>) -> &'static str {
     match aim {
         None => PLAIN,
         Some(aim) if shown <= aim => GOOD,
-        Some(aim) if shown <= aim + NOISE => NOISY,
+        Some(aim) if aim == 1.0 && shown <= aim + NOISE => NOISY,
         Some(_) => BAD,
     }
 }
@@ -83,7 +83,7 @@ fn grid(height: usize) -> String {
         "t",
         "Time of the proved library, divided by that of the independent one",
     );
-    let legend = "green: within its aim; yellow: past it by 0.05 at most, the noise; red: past that; blue: without one; grey: divided by a copy, or by reading and a copy";
+    let legend = "green: within its aim; yellow: past 1.0 by 0.05 at most, the noise; red: past its aim; blue: without one; grey: divided by a copy, or by reading and a copy";
     text(&mut out, 16, 46, "start", "s", legend);
     for step in 0..=4 {
         let ratio = f64::from(step) * 0.5;
