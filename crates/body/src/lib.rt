@@ -3,7 +3,7 @@ ghost use mathlib.Core.Path.{_≡_};
 ghost use Prim.Native.Nat.{_≤_, _<_};
 ghost use lib.ListN.{length};
 ghost use Rattle.base.specs.Limits.{mostProperties};
-ghost use Rattle.body.specs.Body.{pass, properties, sought, soughtNumbers, exactly, endOf, indexOf, nextBy, nextAt, firstNamed};
+ghost use Rattle.body.specs.Body.{pass, properties, sought, soughtNumbers, exactly, endOf, indexOf, nextBy, firstNamed};
 
 fn wide(x: u16) -> usize
     ensures { λ r. ⌜ (r ≡ x) × (r < 65536) ⌝ }
@@ -153,14 +153,6 @@ pub fn next_by(body: &[u8], at: usize, h: props::PropertyHeader) -> usize
         return n;
     }
     start + taken
-}
-
-// The same by its own header.
-pub fn next_at(body: &[u8], at: usize) -> usize
-    ensures result { λ r. ⌜ r ≡ nextAt (now (body .entry)) at ⌝ }
-    ensures within { λ r. ⌜ r ≤ length (now (body .entry)) ⌝ }
-{
-    next_by(body, at, props::header_at(body, at))
 }
 
 // The first of the properties that start at these places which has the name; their number where none has.

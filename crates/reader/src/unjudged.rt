@@ -1,11 +1,10 @@
 // Rows of which nothing is judged: unknown nodes, and nodes without properties where none is required.
 ghost use mathlib.Core.Path.{_≡_};
-ghost use mathlib.Core.Bool.{true, not};
+ghost use mathlib.Core.Bool.{not};
 ghost use mathlib.Core.List.{[], map};
-ghost use Prim.Native.Nat.{_+_, _*_, _^_, _≤_, _<_};
+ghost use Prim.Native.Nat.{_*_, _^_, _≤_, _<_};
 ghost use Rattle.base.specs.Limits.{mostRows};
 ghost use Rattle.kinds.specs.Kinds.{isKnown};
-ghost use Rattle.table.specs.Table.{rowsAt};
 ghost use Rattle.rules.specs.Table.{lines as allLines};
 ghost use Rattle.rules.specs.Packing.{columnsOf, linesFrom};
 ghost use Rattle.judge.specs.Missing.{misses};
@@ -58,7 +57,7 @@ pub(crate) struct Next {
     pub unknown: u64,
 }
 
-// The next row from one on that is judged, or the number of all; with the own bytes of the unknown nodes before it, by those before the one.
+// The first row from a given one on that is judged, or the number of all rows; and the own bytes of the unknown nodes before it, from those before the given one.
 pub(crate) fn skip(
     table: &[u32],
     nodes: usize,
