@@ -124,6 +124,21 @@ fn copy(out: &mut [u8], bytes: &[u8], n: usize)
     }
 }
 
+// The same, of bytes that go to a place of an output. Many are stored from the next place on that is a multiple of 16: as memory is mostly
+// lent from such an address on, no store of 16 bytes then lies in two lines of the cache.
+fn copy_to(out: &mut [u8], bytes: &[u8], n: usize, at: usize)
+    requires { ⌜ (n ≤ length (now bytes)) × (n ≤ length (now out)) ⌝ }
+    ensures { λ _. ⌜ now (out .exit) ≡ sets (now (out .entry)) 0 (take n (now (bytes .entry))) ⌝ }
+{
+    if n < 256 {
+        copy(out, bytes, n);
+        return;
+    }
+    let head = 16 - at % 16;
+    copy(out, bytes, head);
+    copy(&mut out[head..], &bytes[head..], n - head);
+}
+
 // Writes bytes at a place.
 pub fn put_bytes(out: &mut [u8], at: usize, bytes: &[u8])
     ensures { λ _. ⌜ now (out .exit) ≡ sets (now (out .entry)) at (now (bytes .entry)) ⌝ }
@@ -137,7 +152,7 @@ pub fn put_bytes(out: &mut [u8], at: usize, bytes: &[u8])
     } else {
         rest.len()
     };
-    copy(rest, bytes, n);
+    copy_to(rest, bytes, n, at);
 }
 
 // Writes a number as 2 bytes at a place.

@@ -20,8 +20,8 @@ part-rest-start c = search needs
 part-rest-end : tie.Need-part-rest-end
 part-rest-end c = search needs
 
-copy-requires : tie.Need-copy-requires
-copy-requires c κs = ⊎-elim (λ w. (omega (arith, w .1), omega (arith, w .1, w .0 .taken))) (λ w. (omega (arith, w .1, w .0 .left), omega (arith, w .1))) (c .if2 .came)
+copy-to-requires : tie.Need-copy-to-requires
+copy-to-requires c κs = ⊎-elim (λ w. (omega (arith, w .1), omega (arith, w .1, w .0 .taken))) (λ w. (omega (arith, w .1, w .0 .left), omega (arith, w .1))) (c .if2 .came)
 
 same-length : tie.Need-same-length
 same-length c = search needs
@@ -31,9 +31,9 @@ returns-2 c =
     let p = c .before .before in
     let j = p .before in
     let a = j .before .before .before .before .before .args in
-    put-part (a .out .now) (a .at) (a .bytes .now) (j .if2 .n) (⊎-elim (λ w. inl (w .1)) (λ w. inr (w .1)) (j .if2 .came)) (p .copy .ensures)
+    put-part (a .out .now) (a .at) (a .bytes .now) (j .if2 .n) (⊎-elim (λ w. inl (w .1)) (λ w. inr (w .1)) (j .if2 .came)) (p .copy-to .ensures)
 
 pub put-bytes-spec : {M : Type 1} → statement M
 put-bytes-spec =
     tie.close
-    (tie.spec returns sub-rest part-rest-start part-rest-end copy-requires same-length returns-2)
+    (tie.spec returns sub-rest part-rest-start part-rest-end copy-to-requires same-length returns-2)
