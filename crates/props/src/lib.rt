@@ -4,7 +4,7 @@ ghost use Prim.Native.Nat.{_+_, _≤_, _<_};
 ghost use lib.Dec.{leb};
 ghost use lib.ListN.{length, drop};
 ghost use Rattle.props.specs.Types.{elementSize, noSuch, sizeNumbers};
-ghost use Rattle.props.specs.Step.{headerRefusal, dataRefusal, toZero, dataSize, stepAt, headerAt, codeAt, lengthAt, nameAt, startAt, dataAt, stepNumbers};
+ghost use Rattle.props.specs.Step.{toZero, dataSize, stepAt, headerAt, codeAt, lengthAt, nameAt, startAt, dataAt, stepNumbers};
 ghost use Rattle.props.specs.Private.{fit, dataOf, nameOut};
 
 // The type codes, by the letters that document 01 gives them.
@@ -68,47 +68,6 @@ fn wide(x: u16) -> usize
     ensures { λ r. ⌜ (r ≡ x) × (r < 65536) ⌝ }
 {
     x as usize
-}
-
-// What a property's type and name size are refused with, where `room` bytes are left from its header on: 0 for nothing.
-pub fn header_refusal(code: u16, size: u16, room: usize) -> u32
-    ensures { λ r. ⌜ r ≡ headerRefusal code size room ⌝ }
-{
-    if room < 8 {
-        return 10;
-    }
-    if no_such(element_size(code)) {
-        return 11;
-    }
-    if !names::size_ok(size) {
-        return 11;
-    }
-    if room - 8 < wide(size) {
-        return 10;
-    }
-    0
-}
-
-// What a property's data is refused with by the header's numbers, where `room` bytes are left after the name: a string's
-// length, or elements that do not fit; 0 for nothing. A string's end is looked for in its bytes.
-pub fn data_refusal(size: Size, length: u32, room: usize) -> u32
-    ensures { λ r. ⌜ r ≡ dataRefusal size length room ⌝ }
-{
-    match size {
-        Size::Bytes(w) => {
-            if room < length as usize * w as usize {
-                return 10;
-            }
-            0
-        }
-        Size::Text => {
-            if length != 1 {
-                return 11;
-            }
-            0
-        }
-        Size::NoSuch => 11,
-    }
 }
 
 // Whether any byte is zero. It has no early way out, so that it is compiled to a few wide comparisons.
