@@ -1,7 +1,10 @@
 pub mod Counted
 pub mod Typing
+pub mod Required
 pub mod Named
 pub mod Presence
+pub mod Lacking
+pub mod ByLine
 pub mod Faults
 pub mod Values
 pub mod Numbers

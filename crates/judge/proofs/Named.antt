@@ -1,25 +1,23 @@
 -- Where a name is found by the numbers of lines: a line that no number follows is the line of one name.
-use Prim.Native.Nat.{ℕ, suc, _+_, _≤_, _<_}
+use Prim.Native.Nat.{ℕ, _+_, _≤_, _<_}
 use native.Mathlib.Numerals.{add-one}
 use native.Mathlib.Omega.{arith}
 use mathlib.Core.Path.{_≡_, refl, sym, ap, _∙_}
-use mathlib.Core.Bool.{Bool, true, false, cond, not, _&&_, and-false, and-eq-true-iff, true≢false}
+use mathlib.Core.Bool.{true, false, true≢false}
 use mathlib.Core.List.{List, [], _∷_, map}
-use lib.Dec.{eqb, ltb}
-use lib.ListN.{length, drop, getD, drop-of-length-le, length-map}
+use lib.Dec.{eqb}
+use lib.ListN.{length, drop, getD, drop-of-length-le}
 use lib.Seq.{drop-cons}
-use borrow.Author.Tests.{eq-eqb, ne-eqb, eqb-true, lt-ltb, ltb-true, not-true}
+use borrow.Author.Tests.{eq-eqb, ne-eqb}
 use Rattle.base.proofs.Tests.{by-test}
 use Rattle.names.specs.Names.{same}
 use Rattle.names.proofs.Laws.{same-refl, same-eq}
 use Rattle.props.specs.Step.{nameAt}
 use Rattle.body.specs.Body.{firstNamed}
 use Rattle.rules.specs.Table.{Line, free}
-use Rattle.rules.specs.Packing.{lineFrom, linesFrom}
 use Rattle.rules.specs.Rules.{lists, findIn}
-use Rattle.judge.specs.Properties.{lineNumber, has}
-use Rattle.judge.specs.Missing.{isMissing}
-use Rattle.judge.specs.Private.{firstNumber, hasNumber}
+use Rattle.judge.specs.Properties.{lineNumber}
+use Rattle.judge.specs.ByLine.{firstNumber}
 
 -- ---- a number among some
 module _ (ns : List ℕ) (k i : ℕ) where
@@ -37,12 +35,6 @@ module _ (ns : List ℕ) (k i : ℕ) where
   number-nowhere h = rw (drop-of-length-le ns {i = i} h) (omega arith)
 
 -- ---- a line and its names
-pub is-plain : (rows : List (List ℕ)) (k : ℕ) → (ltb k (length rows) && not (getD (linesFrom rows) k free .numbered)) ≡ true →
-    (k < length (linesFrom rows)) × (getD (linesFrom rows) k free .numbered ≡ false)
-is-plain rows k h =
-    let both = and-eq-true-iff (ltb k (length rows)) (not (getD (linesFrom rows) k free .numbered)) .0 h in
-    (omega (arith, ltb-true k (length rows) (both .0), length-map rows lineFrom), not-true _ (both .1))
-
 -- the line that is found for a name has it
 finds : (ls : List Line) (name : List ℕ) → findIn ls name < length ls → lists (getD ls (findIn ls name) free) name ≡ true
 unfolding findIn
@@ -68,34 +60,7 @@ module _ (ls : List Line) (k : ℕ) (inside : k < length ls) (plain : getD ls k 
       alike q = ap (λ n. same n name) (only-name other q ∙ sym (only-name name e)) ∙ same-refl name
 
   module _ (s : List ℕ) where
-    first-by-number : (name : List ℕ) → findIn ls name ≡ k → (starts : List ℕ) → firstNumber (map (lineNumber ls s) starts) k ≡ firstNamed s name starts
+    pub first-by-number : (name : List ℕ) → findIn ls name ≡ k → (starts : List ℕ) → firstNumber (map (lineNumber ls s) starts) k ≡ firstNamed s name starts
     unfolding firstNumber firstNamed
     first-by-number name e [] = refl
     first-by-number name e (at ∷ more) = rw (by-number name e (nameAt s at), first-by-number name e more)
-
-    -- a property that has the line has its name
-    named-before : (starts : List ℕ) → firstNamed s (getD ls k free .name) starts ≤ firstNumber (map (lineNumber ls s) starts) k
-    unfolding firstNumber firstNamed
-    named-before [] = omega arith
-    named-before (at ∷ more) =
-        by-test (eqb (lineNumber ls s at) k)
-        (λ t. rw (only-name (nameAt s at) (eqb-true _ _ t), same-refl (getD ls k free .name)) (omega arith))
-        (λ t. rw t (by (same (nameAt s at) (getD ls k free .name)) (named-before more)))
-      where
-        by : (b : Bool) {m n : ℕ} → m ≤ n → cond b 0 (suc m) ≤ suc n
-        by true h = omega arith
-        by false h = omega (arith, h)
-
-    module _ (starts : List ℕ) {numbers : List ℕ} (e : numbers ≡ map (lineNumber ls s) starts) where
-      pub found-by-number : (name : List ℕ) → k ≡ findIn ls name → firstNumber numbers k ≡ firstNamed s name starts
-      found-by-number name f = ap (λ ns. firstNumber ns k) e ∙ first-by-number name (sym f) starts
-
-      present : hasNumber numbers k ≡ true → has s starts (getD ls k free .name) ≡ true
-      present h =
-          let before : firstNumber (map (lineNumber ls s) starts) k < length (map (lineNumber ls s) starts) =
-          ltb-true _ _ (ap (λ ns. hasNumber ns k) (sym e) ∙ h) in
-          lt-ltb (firstNamed s (getD ls k free .name) starts) (length starts)
-          (omega (arith, before, named-before starts, length-map starts (lineNumber ls s)))
-
-      pub not-missing-by-number : hasNumber numbers k ≡ true → false ≡ isMissing (getD ls k free) s starts
-      not-missing-by-number h = rw (present h) (sym (and-false (getD ls k free .required)))

@@ -1,36 +1,34 @@
--- 14: a line at a time, and partners.
-use Prim.Native.Nat.{ℕ, _+_, _≤_, _<_}
-use native.Mathlib.Numerals.{add-one}
+-- 14: whether a name is among those of some properties, one at a time; and partners.
+use Prim.Native.Nat.{ℕ, suc}
+use native.Mathlib.Omega.{arith}
 use mathlib.Core.Path.{_≡_}
 use mathlib.Core.Bool.{Bool, true, false, not, _&&_, _||_}
-use mathlib.Core.List.{List}
-use lib.ListN.{length, drop, getD, drop-of-length-le}
-use lib.Seq.{drop-cons}
-use borrow.Author.Tests.{eq-eqb, ne-eqb}
-use Rattle.rules.specs.declared.Entry.{Entry}
-use Rattle.rules.specs.Table.{Line, free}
-use Rattle.rules.specs.Packing.{lineOf}
+use mathlib.Core.List.{List, [], _∷_, _++_}
+use lib.Dec.{leb·suc-suc}
+use lib.ListN.{length}
+use borrow.Author.Tests.{lt-ltb}
+use Rattle.base.proofs.Tests.{by-test}
+use Rattle.names.specs.Names.{same}
+use Rattle.props.specs.Step.{nameAt}
+use Rattle.body.specs.Body.{firstNamed}
 use Rattle.judge.specs.Properties.{has}
-use Rattle.judge.specs.Missing.{isMissing, misses, partnered}
+use Rattle.judge.specs.Missing.{partnered}
 
-module _ (s starts : List ℕ) where
-  -- ---- one line
-  module _ (e : Entry) where
-    pub not-missing : (e .required ≡ 1 → ⊥) → false ≡ isMissing (lineOf e) s starts
-    not-missing n = rw (ne-eqb (e .required) 1 n)
+module _ (s name : List ℕ) where
+  pub has-cons : (at : ℕ) (more : List ℕ) → has s (at ∷ more) name ≡ (same (nameAt s at) name || has s more name)
+  unfolding firstNamed
+  has-cons at more =
+      by-test (same (nameAt s at) name)
+      (λ e. rw e (lt-ltb 0 (suc (length more)) (omega arith)))
+      (λ e. rw e (leb·suc-suc (suc (firstNamed s name more)) (length more)))
 
-    pub may-miss : e .required ≡ 1 → not (has s starts (lineOf e .name)) ≡ isMissing (lineOf e) s starts
-    may-miss n = rw (eq-eqb (e .required) 1 n)
-
-  -- ---- some lines
-  module _ (ls : List Line) (k : ℕ) where
-    pub next : k < length ls → misses (drop k ls) s starts ≡ (isMissing (getD ls k free) s starts || misses (drop (k + 1) ls) s starts)
-    unfolding misses
-    next h = rw (add-one k, drop-cons ls k free h)
-
-    pub ended : length ls ≤ k → misses (drop k ls) s starts ≡ false
-    unfolding misses
-    ended h = rw (drop-of-length-le ls {i = k} h)
+  -- one more after them
+  pub has-snoc : (starts : List ℕ) (at : ℕ) → has s (starts ++ (at ∷ [])) name ≡ (has s starts name || same (nameAt s at) name)
+  unfolding firstNamed
+  has-snoc [] at = by-test (same (nameAt s at) name) (λ e. rw e) (λ e. rw e)
+  has-snoc (b ∷ starts) at =
+      rw (has-cons b (starts ++ (at ∷ [])), has-cons b starts, has-snoc starts at)
+      (by-test (same (nameAt s b) name) (λ e. rw e) (λ e. rw e))
 
 -- ---- partners: mi is asked for only where wb or wv is there
 module _ (wb wv mi : Bool) where

@@ -254,7 +254,7 @@ module _ {ls : List Line} {s : List ℕ} {m count : ℕ} {starts₀ numbers₀ m
     onward : drop (i + 1) all ≡ skim s (count - (i + 1)) (nextAt s at)
     onward = ap (λ k. drop k all) (add-one i) ∙ ap (drop 1) (sym (drop-cons all i 0 inner) ∙ here)
 
-    longer : take (i + 1) all ≡ done ++ (at ∷ [])
+    pub longer : take (i + 1) all ≡ done ++ (at ∷ [])
     longer = ap (λ k. take k all) (add-one i) ∙ take-suc all i 0 inner ∙ ap (λ x. done ++ (x ∷ [])) there
 
     module _ {name : List ℕ} (n : name ≡ nameAt s at) {hd : PropertyHeader} (e : hd ≡ headerAt s at)

@@ -6,8 +6,8 @@ use native.Mathlib.Numerals.{add-one}
 use mathlib.Core.Path.{_≡_, refl, sym, ap, _∙_, subst}
 use mathlib.Core.Bool.{true, false, true≢false}
 use mathlib.Core.List.{List, [], _∷_, _++_, map}
-use lib.ListN.{length, take, drop, getD, drop-of-length-le, length-append, length-map}
-use lib.Seq.{drop-cons, take-append-seam, sets, sets-eq}
+use lib.ListN.{length, drop, getD, drop-of-length-le, length-append, length-map}
+use lib.Seq.{drop-cons}
 use Rattle.base.specs.declared.Refusal.{Refusal}
 use Rattle.base.specs.Refusals.{refusedOr}
 use Rattle.le.specs.Le.{AreBytes}
@@ -15,7 +15,7 @@ use Rattle.faces.specs.declared.Face.{Face}
 use Rattle.faces.specs.Faces.{degenerate}
 use Rattle.rules.specs.declared.Entry.{Entry}
 use Rattle.rules.specs.Table.{Held, Line, free}
-use Rattle.rules.specs.Packing.{lineOf}
+use Rattle.rules.specs.Packing.{lineOf, linesFrom}
 use Rattle.rules.proofs.Laws.{found}
 use Rattle.rules.proofs.Helds.{no-link}
 use Rattle.props.specs.Step.{nameAt}
@@ -23,11 +23,11 @@ use Rattle.judge.specs.declared.valued.Fault.{Fault}
 use Rattle.judge.specs.declared.valued.Fault.the-variants.{Right, Whole, Element}
 use Rattle.judge.specs.declared.valued.Kept.{Kept}
 use Rattle.judge.specs.declared.Judged.{Judged}
-use Rattle.judge.specs.Properties.{ruleAt, lineNumber, Beside, besideOf}
+use Rattle.judge.specs.Properties.{ruleAt, lineNumber, Beside}
 use Rattle.judge.specs.Typed.{typed}
-use Rattle.judge.specs.Missing.{lacks}
 use Rattle.judge.specs.Valued.{facesAt, faceFault, faultOf, faultNumber, valued, heldFaces, nodeFaces, linkCount, nodeLinks}
-use Rattle.judge.specs.Judge.{verdictAt, refusedNode, acceptedNode, judgedBy, judgedAt, Bounded}
+use Rattle.judge.specs.Judge.{refusedNode, acceptedNode, judgedBy, Bounded}
+use Rattle.judge.specs.ByLine.{requiredAmong, lacksByLine, besideByLine, verdictByLine, judgedByLine}
 use Rattle.judge.specs.Private.{breaks, keptBy, keptAt, valuedTo}
 use Rattle.judge.proofs.Counted.{degenerate-append}
 use Rattle.judge.proofs.Faults.{held-faces, held-other, idle}
@@ -182,24 +182,31 @@ module _ {ls : List Line} {s : List ℕ} {b : Beside} {starts : List ℕ} {all :
       none-counted (λ five. absurd (omega (arith, five, nine))) (idle e s at b (rw nine)) 1 (rw nine) (omega arith)
 
 -- ---- 13, then 14, then 15
-module _ (kind : ℕ) (ls : List Line) (s starts : List ℕ) (bones : ℕ) where
+module _ (kind wanted : ℕ) (rows : List (List ℕ)) (s starts : List ℕ) (bones : ℕ) where
+  abbrev ls : List Line
+  ls = linesFrom rows
+
+  abbrev ns : List ℕ
+  ns = map (lineNumber ls s) starts
+
   by-typed : (k : ℕ) (v w : Refusal) (fs : List Face) (n : ℕ) → (k ≡ 0 → ⊥) → v .number ≡ k →
       refusedNode (v .number) (v .place) ≡ judgedBy (refusedOr k v w) fs n
   by-typed zero v w fs n h e = absurd (h refl)
   by-typed (suc k) v w fs n h e = rw e
 
   module _ {v : Refusal} (e : v ≡ typed ls s [] starts) where
-    pub mistyped : (v .number ≡ 0 → ⊥) → refusedNode (v .number) (v .place) ≡ judgedAt kind ls s starts bones
-    unfolding judgedAt verdictAt
+    pub mistyped : (v .number ≡ 0 → ⊥) → refusedNode (v .number) (v .place) ≡ judgedByLine kind wanted rows s starts bones
+    unfolding judgedByLine verdictByLine
     mistyped h = rw (← e) (by-typed (v .number) v _ (nodeFaces ls s starts) (nodeLinks ls s starts) h refl)
 
     module _ (t : v .number ≡ 0) where
-      pub lacking : lacks kind ls s starts ≡ true → refusedNode 14 0 ≡ judgedAt kind ls s starts bones
-      unfolding judgedAt verdictAt
+      pub lacking : lacksByLine kind wanted (requiredAmong rows ns) ns ≡ true → refusedNode 14 0 ≡ judgedByLine kind wanted rows s starts bones
+      unfolding judgedByLine verdictByLine
       lacking h = rw (← e, t, h)
 
-      pub by-values : lacks kind ls s starts ≡ false → valuedTo ls s (besideOf kind s starts bones) starts ≡ judgedAt kind ls s starts bones
-      unfolding judgedAt verdictAt valuedTo
+      pub by-values : lacksByLine kind wanted (requiredAmong rows ns) ns ≡ false →
+          valuedTo ls s (besideByLine kind s starts ns bones) starts ≡ judgedByLine kind wanted rows s starts bones
+      unfolding judgedByLine verdictByLine valuedTo
       by-values h = rw (← e, t, h)
 
 -- ---- a refusal counts nothing

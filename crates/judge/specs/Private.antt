@@ -1,9 +1,9 @@
 -- What private functions promise each other; nothing here need be believed.
-use Prim.Native.Nat.{ℕ, suc, _≤_}
+use Prim.Native.Nat.{ℕ, _≤_}
 use mathlib.Core.Path.{_≡_}
-use mathlib.Core.Bool.{Bool, true, false, cond, _||_}
+use mathlib.Core.Bool.{Bool, true, false, _||_}
 use mathlib.Core.List.{List, [], _∷_, map}
-use lib.Dec.{eqb, ltb}
+use lib.Dec.{eqb}
 use lib.ListN.{length, getD}
 use lib.Seq.{sets}
 use Rattle.faces.specs.declared.Face.{Face}
@@ -23,14 +23,6 @@ use Rattle.judge.specs.Judge.{judgedBy}
 -- properties start in the body
 abbrev pub StartsWithin : (s starts : List ℕ) → Type 0
 StartsWithin s starts = (i : ℕ) → getD starts i 0 ≤ length s
-
--- the first place of a number among some; how many there are where it is none of them
-unfoldable pub firstNumber : List ℕ → (k : ℕ) → ℕ
-firstNumber [] k = 0
-firstNumber (n ∷ ns) k = cond (eqb n k) 0 (suc (firstNumber ns k))
-
-abbrev pub hasNumber : List ℕ → (k : ℕ) → Bool
-hasNumber ns k = ltb (firstNumber ns k) (length ns)
 
 unfoldable pub hasKey : List ℕ → (key : ℕ) → Bool
 hasKey [] key = false

@@ -9,7 +9,8 @@ ghost use Rattle.body.specs.Body.{skim, skimmed};
 ghost use Rattle.rules.specs.Packing.{linesFrom};
 ghost use Rattle.judge.specs.Properties.{has, lineNumber};
 ghost use Rattle.judge.specs.Typed.{slotAt, marked, rightlyTyped};
-ghost use Rattle.judge.specs.Judge.{refusedNode, judgedAt, Bounded};
+ghost use Rattle.judge.specs.Judge.{refusedNode, Bounded};
+ghost use Rattle.judge.specs.ByLine.{judgedByLine};
 ghost use Rattle.judge.specs.Private.{Noted};
 
 mod missing;
@@ -50,6 +51,7 @@ fn refused_node(number: u32, place: usize) -> Judged
 fn judge_first(
     kind: u32,
     lines: &[rules::Columns],
+    wanted: usize,
     count: usize,
     body: &[u8],
     bones: u32,
@@ -60,16 +62,17 @@ fn judge_first(
 ) -> Judged
     requires { ⌜ (count ≤ mostProperties) × (length (now starts) ≡ mostProperties) × (length (now numbers) ≡ mostProperties) × (length (now marks) ≡ 1024) ⌝ }
     ensures result { λ r. ⌜ r
-        ≡ judgedAt kind (linesFrom (now (lines .entry))) (now (body .entry)) (skim (now (body .entry)) count 0) bones ⌝ }
+        ≡ judgedByLine kind wanted (now (lines .entry)) (now (body .entry)) (skim (now (body .entry)) count 0) bones ⌝ }
     ensures noted { λ r. ⌜ Noted (linesFrom (now (lines .entry))) (now (body .entry)) mark (skim (now (body .entry)) count 0)
         (now (starts .entry)) (now (numbers .entry)) (now (marks .entry)) (now (starts .exit)) (now (numbers .exit)) (now (marks .exit)) ⌝ }
     ensures bounds { λ r. ⌜ Bounded r (length (now (body .entry))) ⌝ }
 {
-    let v = typed::typed(lines, body, count, starts, numbers, marks, mark);
+    let t = typed::typed(lines, body, count, starts, numbers, marks, mark);
+    let v = t.refusal;
     if v.number != 0 {
         return refused_node(v.number, v.place);
     }
-    if missing::lacks(kind, lines, body, &starts[..count], &numbers[..count]) {
+    if missing::lacks(kind, wanted, t.required, &numbers[..count]) {
         return refused_node(14, 0);
     }
     valued::valued(
@@ -82,13 +85,15 @@ fn judge_first(
     )
 }
 
-// Judges a node by its kind, the lines of its kind, its property count, its body and the number of Bones beside it. Its properties
+// Judges a node by its kind, the lines of its kind and how many of them are required, its property count, its body and the number of
+// Bones beside it. Its properties
 // are found by their headers alone, as the walk has judged these: at most 64, none where the count is over that. Noted are, of
 // those before the first that 13 refuses, where each starts and where its line stands among the lines; and the slots of their names
 // are marked. Any mark gives the same answer; one that no slot has yet spares the most comparisons of names.
 pub fn judge(
     kind: u32,
     lines: &[rules::Columns],
+    wanted: usize,
     count: u32,
     body: &[u8],
     bones: u32,
@@ -98,7 +103,7 @@ pub fn judge(
     mark: u16,
 ) -> Judged
     ensures result { λ r. ⌜ r
-        ≡ judgedAt kind (linesFrom (now (lines .entry))) (now (body .entry)) (skimmed (now (body .entry)) count) bones ⌝ }
+        ≡ judgedByLine kind wanted (now (lines .entry)) (now (body .entry)) (skimmed (now (body .entry)) count) bones ⌝ }
     ensures starts { λ r. ⌜ now (starts .exit)
         ≡ sets (now (starts .entry)) 0 (rightlyTyped (linesFrom (now (lines .entry))) (now (body .entry)) [] (skimmed (now (body .entry)) count)) ⌝ }
     ensures numbers { λ r. ⌜ now (numbers .exit)
@@ -114,5 +119,16 @@ pub fn judge(
     } else {
         count as usize
     };
-    judge_first(kind, lines, n, body, bones, starts, numbers, marks, mark)
+    judge_first(
+        kind,
+        lines,
+        wanted,
+        n,
+        body,
+        bones,
+        starts,
+        numbers,
+        marks,
+        mark,
+    )
 }

@@ -2,14 +2,15 @@
 ghost use mathlib.Core.Path.{_≡_};
 ghost use mathlib.Core.Bool.{true, false};
 ghost use Prim.Native.Nat.{_+_, _≤_, _<_};
-ghost use mathlib.Core.List.{[]};
+ghost use mathlib.Core.List.{[], map};
 ghost use lib.ListN.{length};
 ghost use Rattle.base.specs.Limits.{mostProperties};
 ghost use Rattle.props.specs.Step.{nameAt};
 ghost use Rattle.body.specs.Body.{skim, nextBy};
 ghost use Rattle.rules.specs.Packing.{linesFrom};
-ghost use Rattle.judge.specs.Properties.{has};
+ghost use Rattle.judge.specs.Properties.{lineNumber, has};
 ghost use Rattle.judge.specs.Typed.{typed, lastLetters, keyOf, slotOf};
+ghost use Rattle.judge.specs.ByLine.{requiredAmong};
 ghost use Rattle.judge.specs.Private.{Noted};
 
 // The last eight letters of a property's name, as a number; of a shorter name, all of them. As the header stands before the
@@ -84,6 +85,18 @@ fn place_after(body: &[u8], at: usize, h: props::PropertyHeader, more: bool) -> 
     body::next_by(body, at, h)
 }
 
+fn wide(x: u32) -> usize
+    ensures { λ r. ⌜ (r ≡ x) × (r < 4294967296) ⌝ }
+{
+    x as usize
+}
+
+// What 13 says of some properties, and how many of those before have required lines.
+pub(crate) struct Verdict {
+    pub refusal: base::Refusal,
+    pub required: usize,
+}
+
 // The first of `count` properties whose name came before, or which has another type or length than its line says. Noted are,
 // of those before it, where each starts and where its line stands among the lines of the kind; and its slot is marked.
 pub(crate) fn typed(
@@ -94,15 +107,18 @@ pub(crate) fn typed(
     numbers: &mut [usize],
     marks: &mut [u16],
     mark: u16,
-) -> base::Refusal
+) -> Verdict
     requires { ⌜ (count ≤ mostProperties) × (mostProperties ≤ length (now starts)) × (mostProperties ≤ length (now numbers)) × (1024 ≤ length (now marks)) ⌝ }
-    ensures result { λ r. ⌜ r ≡ typed (linesFrom (now (lines .entry))) (now (body .entry)) [] (skim (now (body .entry)) count 0) ⌝ }
+    ensures result { λ r. ⌜ r .refusal ≡ typed (linesFrom (now (lines .entry))) (now (body .entry)) [] (skim (now (body .entry)) count 0) ⌝ }
     ensures noted { λ r. ⌜ Noted (linesFrom (now (lines .entry))) (now (body .entry)) mark (skim (now (body .entry)) count 0)
         (now (starts .entry)) (now (numbers .entry)) (now (marks .entry)) (now (starts .exit)) (now (numbers .exit)) (now (marks .exit)) ⌝ }
-    ensures place { λ r. ⌜ r .place ≤ 24 + length (now (body .entry)) ⌝ }
+    ensures required { λ r. ⌜ (r .refusal .number ≡ 0 → r .required
+        ≡ requiredAmong (now (lines .entry)) (map (lineNumber (linesFrom (now (lines .entry))) (now (body .entry))) (skim (now (body .entry)) count 0))) ⌝ }
+    ensures place { λ r. ⌜ r .refusal .place ≤ 24 + length (now (body .entry)) ⌝ }
 {
     let mut at: usize = 0;
     let mut i: usize = 0;
+    let mut required: usize = 0;
     while i < count {
         let rest = &body[at..];
         let h = props::header_at(rest, 0);
@@ -110,19 +126,27 @@ pub(crate) fn typed(
         let k = rules::line_named(lines, name);
         let slot = slot_at(rest, 0, name);
         let repeats = is_before(body, &starts[..i], name, marks[slot] == mark);
-        let misfits = rules::misfits(rules::line_in(lines, k), h.code, h.length);
+        let e = rules::line_in(lines, k);
+        let misfits = rules::misfits(e, h.code, h.length);
         if repeats | misfits {
             let place = 24 + at;
-            return base::Refusal { number: 13, place };
+            return Verdict {
+                refusal: base::Refusal { number: 13, place },
+                required,
+            };
         }
         starts[i] = at;
         numbers[i] = k;
         marks[slot] = mark;
+        required += wide(e.required);
         i += 1;
         at += place_after(rest, 0, h, i < count);
     }
-    base::Refusal {
-        number: 0,
-        place: 0,
+    Verdict {
+        refusal: base::Refusal {
+            number: 0,
+            place: 0,
+        },
+        required,
     }
 }

@@ -10,7 +10,8 @@ ghost use Rattle.le.specs.Le.{numberAt};
 ghost use Rattle.faces.specs.Faces.{widthOf};
 ghost use Rattle.kinds.specs.Kinds.{mesh, blendShape, curve};
 ghost use Rattle.rules.specs.Packing.{typesFrom, lineOf, linesFrom};
-ghost use Rattle.judge.specs.Properties.{lineNumber, restAt, lengthOf, valueOf, typesOf, besideOf};
+ghost use Rattle.judge.specs.Properties.{lineNumber, restAt};
+ghost use Rattle.judge.specs.ByLine.{lengthByLine, valueByLine, typesByLine, besideByLine};
 ghost use Rattle.judge.specs.Valued.{whole, sole, signed, parentOk, faultOf, facesAt, faceFault};
 ghost use Rattle.judge.specs.Judge.{Bounded};
 ghost use Rattle.judge.specs.Private.{StartsWithin, besideFrom, breaks, keptBy, valuedTo};
@@ -39,45 +40,39 @@ fn value_at(body: &[u8], at: usize, code: u16) -> u32
     le::number_at(props::rest_at(body, at), 0, width)
 }
 
-// The length and the first value of the property of a name; 0 where there is none.
-struct Named {
+// The length and the first value of the property of a line; 0 where there is none.
+struct Read {
     length: u32,
     value: u32,
 }
 
-fn read_named(
-    lines: &[rules::Columns],
-    body: &[u8],
-    starts: &[usize],
-    numbers: &[usize],
-    name: &[u8],
-) -> Named
-    requires { ⌜ now numbers ≡ map (lineNumber (linesFrom (now lines)) (now body)) (now starts) ⌝ }
-    ensures length { λ r. ⌜ r .length ≡ lengthOf (now (body .entry)) (now (starts .entry)) (now (name .entry)) ⌝ }
-    ensures value { λ r. ⌜ r .value ≡ valueOf (now (body .entry)) (now (starts .entry)) (now (name .entry)) ⌝ }
+fn read_by(body: &[u8], starts: &[usize], numbers: &[usize], k: usize) -> Read
+    requires { ⌜ length (now numbers) ≡ length (now starts) ⌝ }
+    ensures length { λ r. ⌜ r .length ≡ lengthByLine (now (body .entry)) (now (starts .entry)) (now (numbers .entry)) k ⌝ }
+    ensures value { λ r. ⌜ r .value ≡ valueByLine (now (body .entry)) (now (starts .entry)) (now (numbers .entry)) k ⌝ }
 {
-    let i = places::place_named(lines, body, starts, numbers, name);
-    if i < starts.len() {
+    let i = places::first_number(numbers, k);
+    if i < numbers.len() {
         let at = starts[i];
         let header = props::header_at(body, at);
-        return Named {
+        return Read {
             length: header.length,
             value: value_at(body, at, header.code),
         };
     }
-    Named {
+    Read {
         length: 0,
         value: 0,
     }
 }
 
 // The types that kp wants of kv: v4 for rq, N for vb, else f.
-fn types_of(lines: &[rules::Columns], body: &[u8], starts: &[usize], numbers: &[usize]) -> u32
-    requires { ⌜ now numbers ≡ map (lineNumber (linesFrom (now lines)) (now body)) (now starts) ⌝ }
-    ensures { λ r. ⌜ typesFrom r ≡ typesOf (now (body .entry)) (now (starts .entry)) ⌝ }
+fn types_of(body: &[u8], starts: &[usize], numbers: &[usize]) -> u32
+    requires { ⌜ length (now numbers) ≡ length (now starts) ⌝ }
+    ensures { λ r. ⌜ typesFrom r ≡ typesByLine (now (body .entry)) (now (starts .entry)) (now (numbers .entry)) ⌝ }
 {
-    let i = places::place_named(lines, body, starts, numbers, b"kp");
-    if starts.len() <= i {
+    let i = places::first_number(numbers, rules::columns::CURVE_KP);
+    if numbers.len() <= i {
         return FLOAT;
     }
     let string = props::rest_at(body, starts[i]);
@@ -90,18 +85,13 @@ fn types_of(lines: &[rules::Columns], body: &[u8], starts: &[usize], numbers: &[
     FLOAT
 }
 
-fn mesh_measures(
-    lines: &[rules::Columns],
-    body: &[u8],
-    starts: &[usize],
-    numbers: &[usize],
-    bones: u32,
-) -> Measures
-    requires { ⌜ now numbers ≡ map (lineNumber (linesFrom (now lines)) (now body)) (now starts) ⌝ }
-    ensures { λ r. ⌜ besideFrom r ≡ besideOf mesh (now (body .entry)) (now (starts .entry)) bones ⌝ }
+fn mesh_measures(body: &[u8], starts: &[usize], numbers: &[usize], bones: u32) -> Measures
+    requires { ⌜ length (now numbers) ≡ length (now starts) ⌝ }
+    ensures { λ r. ⌜ besideFrom r ≡ besideByLine mesh (now (body .entry)) (now (starts .entry)) (now (numbers .entry)) bones ⌝ }
 {
-    let vertices = read_named(lines, body, starts, numbers, b"vp").length;
-    let weights = read_named(lines, body, starts, numbers, b"mi").value as u64 * vertices as u64;
+    let vertices = read_by(body, starts, numbers, rules::columns::MESH_VP).length;
+    let weights = read_by(body, starts, numbers, rules::columns::MESH_MI).value as u64
+        * vertices as u64;
     Measures {
         vertices,
         weights,
@@ -112,17 +102,11 @@ fn mesh_measures(
     }
 }
 
-fn blend_shape_measures(
-    lines: &[rules::Columns],
-    body: &[u8],
-    starts: &[usize],
-    numbers: &[usize],
-    bones: u32,
-) -> Measures
-    requires { ⌜ now numbers ≡ map (lineNumber (linesFrom (now lines)) (now body)) (now starts) ⌝ }
-    ensures { λ r. ⌜ besideFrom r ≡ besideOf blendShape (now (body .entry)) (now (starts .entry)) bones ⌝ }
+fn blend_shape_measures(body: &[u8], starts: &[usize], numbers: &[usize], bones: u32) -> Measures
+    requires { ⌜ length (now numbers) ≡ length (now starts) ⌝ }
+    ensures { λ r. ⌜ besideFrom r ≡ besideByLine blendShape (now (body .entry)) (now (starts .entry)) (now (numbers .entry)) bones ⌝ }
 {
-    let indices = read_named(lines, body, starts, numbers, b"vi").length;
+    let indices = read_by(body, starts, numbers, rules::columns::BLEND_SHAPE_VI).length;
     Measures {
         vertices: 0,
         weights: 0,
@@ -133,18 +117,12 @@ fn blend_shape_measures(
     }
 }
 
-fn curve_measures(
-    lines: &[rules::Columns],
-    body: &[u8],
-    starts: &[usize],
-    numbers: &[usize],
-    bones: u32,
-) -> Measures
-    requires { ⌜ now numbers ≡ map (lineNumber (linesFrom (now lines)) (now body)) (now starts) ⌝ }
-    ensures { λ r. ⌜ besideFrom r ≡ besideOf curve (now (body .entry)) (now (starts .entry)) bones ⌝ }
+fn curve_measures(body: &[u8], starts: &[usize], numbers: &[usize], bones: u32) -> Measures
+    requires { ⌜ length (now numbers) ≡ length (now starts) ⌝ }
+    ensures { λ r. ⌜ besideFrom r ≡ besideByLine curve (now (body .entry)) (now (starts .entry)) (now (numbers .entry)) bones ⌝ }
 {
-    let keys = read_named(lines, body, starts, numbers, b"kb").length;
-    let types = types_of(lines, body, starts, numbers);
+    let keys = read_by(body, starts, numbers, rules::columns::CURVE_KB).length;
+    let types = types_of(body, starts, numbers);
     Measures {
         vertices: 0,
         weights: 0,
@@ -156,25 +134,18 @@ fn curve_measures(
 }
 
 // What the properties of a node are held against. What is of one kind stands apart, so that nothing is stored for it at another.
-fn measures_of(
-    kind: u32,
-    lines: &[rules::Columns],
-    body: &[u8],
-    starts: &[usize],
-    numbers: &[usize],
-    bones: u32,
-) -> Measures
-    requires { ⌜ now numbers ≡ map (lineNumber (linesFrom (now lines)) (now body)) (now starts) ⌝ }
-    ensures { λ r. ⌜ besideFrom r ≡ besideOf kind (now (body .entry)) (now (starts .entry)) bones ⌝ }
+fn measures_of(kind: u32, body: &[u8], starts: &[usize], numbers: &[usize], bones: u32) -> Measures
+    requires { ⌜ length (now numbers) ≡ length (now starts) ⌝ }
+    ensures { λ r. ⌜ besideFrom r ≡ besideByLine kind (now (body .entry)) (now (starts .entry)) (now (numbers .entry)) bones ⌝ }
 {
     if kind == kinds::MESH {
-        return mesh_measures(lines, body, starts, numbers, bones);
+        return mesh_measures(body, starts, numbers, bones);
     }
     if kind == kinds::BLEND_SHAPE {
-        return blend_shape_measures(lines, body, starts, numbers, bones);
+        return blend_shape_measures(body, starts, numbers, bones);
     }
     if kind == kinds::CURVE {
-        return curve_measures(lines, body, starts, numbers, bones);
+        return curve_measures(body, starts, numbers, bones);
     }
     Measures {
         vertices: 0,
@@ -311,10 +282,10 @@ pub(crate) fn valued(
     requires places { ⌜ StartsWithin (now body) (now starts) ⌝ }
     ensures result { λ r. ⌜ r
         ≡ valuedTo (linesFrom (now (lines .entry))) (now (body .entry))
-        (besideOf kind (now (body .entry)) (now (starts .entry)) bones) (now (starts .entry)) ⌝ }
+        (besideByLine kind (now (body .entry)) (now (starts .entry)) (now (numbers .entry)) bones) (now (starts .entry)) ⌝ }
     ensures bounds { λ r. ⌜ Bounded r (length (now (body .entry))) ⌝ }
 {
-    let m = measures_of(kind, lines, body, starts, numbers, bones);
+    let m = measures_of(kind, body, starts, numbers, bones);
     let mut faces: u64 = 0;
     let mut degenerate: u64 = 0;
     let mut links: u32 = 0;

@@ -15,15 +15,12 @@ use Rattle.table.specs.Table.{rowAt, rowsAt}
 use Rattle.table.proofs.Rests.{rest, rest-all, rest-more, rest-none}
 use Rattle.body.specs.Body.{properties, pass, firstNamed}
 use Rattle.faces.specs.Faces.{degenerate}
-use Rattle.rules.specs.declared.Entry.{Entry}
-use Rattle.rules.specs.Packing.{lineOf}
 use Rattle.rules.specs.Table.{Line}
-use Rattle.rules.specs.Rules.{linesOf}
+use Rattle.rules.specs.Rules.{linesOf, requiredIn}
 use Rattle.judge.specs.Properties.{has}
 use Rattle.judge.specs.Typed.{typed}
-use Rattle.judge.specs.Missing.{isMissing, misses, lacks}
+use Rattle.judge.specs.Missing.{misses, lacks}
 use Rattle.judge.specs.Valued.{valued, nodeFaces, nodeLinks}
-use Rattle.judge.proofs.Presence.{may-miss}
 use Rattle.judge.specs.Judge.{verdictAt, judgedAt, judged}
 use Rattle.format.specs.Rows.{bodyOf, ownBytes}
 use Rattle.links.specs.declared.Linked.{Linked}
@@ -38,9 +35,14 @@ use Rattle.reader.proofs.Linking.{links-kept}
 has-none : (s name : List ℕ) → has s [] name ≡ false
 has-none s name = le-ltb (firstNamed s name []) 0 (omega arith)
 
--- a required line is missing
-pub missing-bare : (e : Entry) → e .required ≡ 1 → true ≡ isMissing (lineOf e) [] []
-missing-bare e r = sym (rw (has-none [] (lineOf e .name))) ∙ may-miss [] [] e r
+-- a line is missing where one is required
+misses-required : (ls : List Line) → misses ls [] [] ≡ not (eqb (requiredIn ls) 0)
+unfolding misses requiredIn
+misses-required [] = refl
+misses-required (l ∷ ls) =
+    by-test (l .required)
+    (λ t. rw (t, has-none [] (l .name), ne-eqb (suc (requiredIn ls)) 0 (λ q. omega (arith, q))))
+    (λ t. rw t (misses-required ls))
 
 misses-bare : (ls : List Line) (s : List ℕ) → misses ls s [] ≡ misses ls [] []
 unfolding misses
@@ -80,10 +82,6 @@ module _ (s : List ℕ) (r : Row) (bones : ℕ) where
 pub judged-is-known : (r : Row) → isJudged r ≡ true → isKnown (r .kind) ≡ true
 judged-is-known r e = and-eq-true-iff (isKnown (r .kind)) _ .0 e .0
 
-twice : (b : Bool) → not (not b) ≡ b
-twice true = refl
-twice false = refl
-
 -- by the tests of the code
 module _ (r : Row) where
   pub unknown-unjudged : isKnown (r .kind) ≡ false → false ≡ isJudged r
@@ -92,9 +90,8 @@ module _ (r : Row) where
   pub properties-judged : isKnown (r .kind) ≡ true → (r .properties ≡ 0 → ⊥) → true ≡ isJudged r
   properties-judged t h = rw (t, ne-eqb (r .properties) 0 h)
 
-  pub required-judged : isKnown (r .kind) ≡ true → r .properties ≡ 0 → {ls : List Line} → ls ≡ linesOf (r .kind) → {b : Bool} → b ≡ not (misses ls [] []) →
-      not b ≡ isJudged r
-  required-judged t z e f = rw (t, eq-eqb (r .properties) 0 z, f, e) (twice (misses (linesOf (r .kind)) [] []))
+  pub required-judged : isKnown (r .kind) ≡ true → r .properties ≡ 0 → {k : ℕ} → k ≡ requiredIn (linesOf (r .kind)) → not (eqb k 0) ≡ isJudged r
+  required-judged t z e = rw (t, eq-eqb (r .properties) 0 z, e) (sym (misses-required (linesOf (r .kind))))
 
   pub bytes-known : isKnown (r .kind) ≡ true → 0 ≡ unknownBytes r
   bytes-known t = rw t

@@ -15,7 +15,7 @@ use Rattle.rules.specs.Rules.{linesOf}
 use Rattle.judge.specs.declared.Judged.{Judged}
 use Rattle.judge.specs.Properties.{ruleAt}
 use Rattle.judge.specs.Valued.{linkCount, nodeLinks}
-use Rattle.judge.specs.Judge.{judged, Bounded}
+use Rattle.judge.specs.Judge.{judged}
 use Rattle.judge.proofs.Counted.{judged-links}
 use Rattle.format.specs.Rows.{bodyOf}
 use Rattle.links.specs.Links.{Link, linksAt, rowLinks, linksFrom, linksOf, acceptedLinks, resolved, linked}

@@ -2,12 +2,13 @@
 use Prim.Native.Nat.{ℕ, zero, suc, _+_, _≤_, _<_}
 use native.Mathlib.Omega.{arith}
 use mathlib.Core.Path.{_≡_, refl, sym, ap, _∙_}
-use mathlib.Core.Bool.{true, false, not, _&&_, and-eq-true-iff, true≢false}
+use mathlib.Core.Bool.{true, false, not, _||_, true≢false}
 use mathlib.Core.List.{List, [], _∷_, map}
 use lib.ListN.{length, take, length-map}
 use lib.Dec.{eqb, ltb}
 use lib.Seq.{sets, length-sets}
-use borrow.Author.Tests.{ltb-false, eqb-true, eqb-false, not-true, eq-eqb}
+use borrow.Author.Tests.{ltb-false, eqb-true, not-false, eq-eqb}
+use Rattle.rules.proofs.Names.{neither}
 use Rattle.base.specs.declared.Refusal.{Refusal}
 use Rattle.base.specs.Refusals.{refusedOr}
 use Rattle.base.proofs.Refusals.{goes-on, is-refused}
@@ -20,7 +21,7 @@ use Rattle.body.specs.Body.{properties, skimmed}
 use Rattle.body.proofs.Skimmed.{length-skim, skim-all, skimmed-passed}
 use Rattle.rules.specs.Table.{Line}
 use Rattle.rules.specs.Rules.{linesOf}
-use Rattle.rules.proofs.Helds.{by-link, link-none}
+use Rattle.rules.proofs.Helds.{by-link}
 use Rattle.faces.specs.declared.Face.{Face}
 use Rattle.judge.specs.declared.Judged.{Judged}
 use Rattle.judge.specs.Properties.{ruleAt, lineNumber}
@@ -35,8 +36,8 @@ use Rattle.links.specs.Links.{acceptedLinks, linked}
 use Rattle.links.specs.Private.{Count, nodeLinked, rowLinked, rowsLinked}
 use Rattle.reader.specs.declared.Ruled.{Ruled}
 use Rattle.reader.specs.Reading.{judgedWith, ruled, ownUnknown}
-use Rattle.reader.specs.Private.{NotedIs, Noted, continued, JudgedAll}
-use Rattle.reader.proofs.Judging.{judged-known, judged-unknown, links-counted, no-links}
+use Rattle.reader.specs.Private.{Noted, continued, JudgedAll}
+use Rattle.reader.proofs.Judging.{judged-known, links-counted, no-links}
 
 -- ---- what a judgement notes
 
@@ -173,15 +174,16 @@ module _ (count : Count) where
               (row-unlinked s (l .links) r b (ap (λ x. x .number) (sym f) ∙ z) (ap (λ x. x .links) (sym f) ∙ none y))
           by (suc k) y = on-refused s r (rest t n (i + 1)) l (λ y₀. omega (arith, y, y₀))
 
--- a row's links are looked at where none failed before and it has some
-module _ (failed links : ℕ) where
-  pub looked-at : (eqb failed 0 && not (eqb links 0)) ≡ true → (failed ≡ 0) × (links ≡ 0 → ⊥)
+-- a row's links are looked at where it is not refused, has some, and none failed before
+module _ (number links failed : ℕ) where
+  pub looked-at : ((not (eqb number 0) || eqb links 0) || not (eqb failed 0)) ≡ false → (number ≡ 0) × (failed ≡ 0)
   looked-at e =
-      let both = and-eq-true-iff (eqb failed 0) _ .0 e in
-      (eqb-true failed 0 (both .0), eqb-false links 0 (not-true _ (both .1)))
+      let both = neither (not (eqb number 0) || eqb links 0) (not (eqb failed 0)) e in
+      let first = neither (not (eqb number 0)) (eqb links 0) (both .0) in
+      (eqb-true number 0 (not-false _ (first .0)), eqb-true failed 0 (not-false _ (both .1)))
 
-  pub passed-over : (eqb failed 0 && not (eqb links 0)) ≡ false → failed ≡ 0 → links ≡ 0
-  passed-over e z = by-test (eqb links 0) (λ t. eqb-true links 0 t) (λ t. absurd (true≢false (sym (rw (eq-eqb failed 0 z, t)) ∙ e)))
+  pub passed-over : ((not (eqb number 0) || eqb links 0) || not (eqb failed 0)) ≡ true → number ≡ 0 → failed ≡ 0 → links ≡ 0
+  passed-over e z y = by-test (eqb links 0) (λ t. eqb-true links 0 t) (λ t. absurd (true≢false (sym e ∙ rw (eq-eqb number 0 z, eq-eqb failed 0 y, t))))
 
 -- ---- all rows
 module _ (s : List ℕ) (rows : List Row) {rules : Ruled} {unknown : ℕ} (are : rules ≡ ruled s rows rows) (place : rules .place ≤ length s)

@@ -9,7 +9,7 @@ use lib.ListN.{length, getD}
 use borrow.Author.Tests.{eq-eqb, ne-eqb, eqb-true}
 use Rattle.base.specs.Lists.{Each}
 use Rattle.base.proofs.Lists.{each-append}
-use Rattle.kinds.specs.Kinds.{bone, isKnown}
+use Rattle.kinds.specs.Kinds.{bone}
 use Rattle.table.specs.declared.Row.{Row}
 use Rattle.table.specs.declared.Which.the-variants.{OfKind}
 use Rattle.table.specs.Table.{noParent, rowAt, rowsAt}
@@ -18,7 +18,7 @@ use Rattle.table.proofs.Counts.{counted-none}
 use Rattle.body.specs.Body.{properties, exactly, skimmed}
 use Rattle.body.proofs.Skimmed.{skimmed-passed}
 use Rattle.format.specs.Forest.{Forest, end, known, unknown, nodes, encode, fileOf}
-use Rattle.format.specs.Rows.{rows, rowsOf, bodyOf}
+use Rattle.format.specs.Rows.{rows, rowsOf}
 use Rattle.format.specs.Layout.{GoodBody, WellFormed, WellFormedFile}
 use Rattle.format.proofs.Bodies.{good-exactly}
 use Rattle.judge.specs.Judge.{judgedAt, judged}

@@ -1,6 +1,7 @@
 -- What private functions promise each other; nothing here need be believed.
 use Prim.Native.Nat.{ℕ, _+_, _-_, _*_, _^_, _≤_, _<_}
 use mathlib.Core.Path.{_≡_}
+use mathlib.Core.Logic.{_⊎_}
 use mathlib.Core.Bool.{Bool, true, false, cond, not, _&&_, _||_}
 use mathlib.Core.List.{List, [], _∷_, map}
 use lib.Dec.{eqb}
@@ -15,7 +16,7 @@ use Rattle.rules.specs.Rules.{linesOf}
 use Rattle.judge.specs.Properties.{lineNumber}
 use Rattle.judge.specs.Missing.{misses}
 use Rattle.links.specs.declared.Linked.{Linked}
-use Rattle.links.specs.Private.{Count, rowsLinked}
+use Rattle.links.specs.Private.{Count, rowLinked, rowsLinked}
 use Rattle.links.specs.Links.{acceptedLinks, linked}
 use Rattle.reader.specs.declared.Ruled.{Ruled}
 use Rattle.reader.specs.Reading.{bonesUnder, ruled, ownUnknown}
@@ -81,6 +82,11 @@ pub record NotedIs (s : List ℕ) (r : Row) (starts numbers : List ℕ) : Type 0
 -- the same, at the start of its buffers
 abbrev pub Noted : (s : List ℕ) → Row → (starts numbers : List ℕ) → Type 0
 Noted s r starts numbers = NotedIs s r (take (r .properties) starts) (take (r .properties) numbers)
+
+-- the links up to a row that counts some: with its own after those before it; or those before it, where one failed or the row has none
+abbrev pub LinkedOn : Count → (s : List ℕ) → Row → (links : ℕ) (before after : Linked) → Type 0
+LinkedOn count s r links before after =
+    ((before .number ≡ 0) × (after ≡ rowLinked count s (before .links) r)) ⊎ ((before .number ≡ 0 → links ≡ 0) × (after ≡ before))
 
 -- the links of rows that come after some: where these end with a refusal, that stays
 abbrev pub continued : Count → (s : List ℕ) → Linked → List Row → Linked

@@ -3,18 +3,20 @@ ghost use mathlib.Core.Path.{_≡_};
 ghost use mathlib.Core.Bool.{true};
 ghost use Prim.Native.Nat.{_+_, _^_, _≤_, _<_};
 ghost use mathlib.Core.List.{[], map};
-ghost use lib.ListN.{length, getD};
+ghost use lib.ListN.{length, take, getD};
 ghost use Rattle.base.specs.Limits.{mostBytes, mostProperties, mostRows};
 ghost use Rattle.kinds.specs.Kinds.{isKnown};
 ghost use Rattle.table.specs.Table.{rowsAt};
 ghost use Rattle.rules.specs.Table.{lines as allLines};
-ghost use Rattle.rules.specs.Packing.{columnsOf};
+ghost use Rattle.rules.specs.Packing.{columnsOf, linesFrom};
+ghost use Rattle.judge.specs.Properties.{lineNumber};
+ghost use Rattle.judge.specs.Private.{StartsWithin};
 ghost use Rattle.judge.specs.Judge.{Bounded};
 ghost use Rattle.format.specs.Rows.{bodyOf, allOwnBytes};
-ghost use Rattle.links.specs.Private.{AllAscending, between, countIn, rowLinked, rowsLinked};
+ghost use Rattle.links.specs.Private.{AllAscending, between, countIn, nodeLinked, rowsLinked};
 ghost use Rattle.walk.specs.Walk.{flagsOf};
 ghost use Rattle.reader.specs.Reading.{judgedWith, ruled, ownUnknown, checked, readingOf, tableAfter, numbersOf, Small};
-ghost use Rattle.reader.specs.Private.{Passed, RowsOk, BonesCounted, hasKind, Noted, continued, JudgedAll, isAccepted, leftAfter};
+ghost use Rattle.reader.specs.Private.{Passed, RowsOk, BonesCounted, hasKind, LinkedOn, continued, JudgedAll, isAccepted, leftAfter};
 
 mod targets;
 mod unjudged;
@@ -39,55 +41,12 @@ pub enum Reading {
 
 // ---- 13 to 15
 
-// The rules of the node in a row, which is known, by all lines, by the Bones under each row, and with buffers for what is noted of its
-// properties.
-fn judge_row(
-    file: &[u8],
-    row: table::Row,
-    counts: &[u16],
-    lines: &[rules::Columns],
-    starts: &mut [usize; 64],
-    numbers: &mut [usize; 64],
-    marks: &mut [u16; 1024],
-    mark: u16,
-) -> judge::Judged
-    requires row { ⌜ (now lines ≡ map columnsOf allLines) × Passed (now file) row × (isKnown (row .kind) ≡ true) ⌝ }
-    requires sizes { ⌜ (length (now starts) ≡ mostProperties) × (length (now numbers) ≡ mostProperties) ⌝ }
-    ensures { λ r. ⌜ (r ≡ judgedWith (now (file .entry)) row (getD (now (counts .entry)) (row .parent) 0))
-        × Bounded r (length (bodyOf (now (file .entry)) row)) ⌝ }
-    ensures noted { λ r. ⌜ (r .number ≡ 0 → Noted (now (file .entry)) row (now (starts .exit)) (now (numbers .exit))) ⌝ }
-    ensures sizes { λ r. ⌜ (length (now (starts .exit)) ≡ mostProperties) × (length (now (numbers .exit)) ≡ mostProperties) ⌝ }
-{
-    let body = format::body_of(file, row);
-    let own = rules::lines_of(lines, row.kind);
-    let bones = table::count_at(counts, row.parent as usize);
-    judge::judge(
-        row.kind,
-        own,
-        row.properties,
-        body,
-        bones,
-        starts,
-        numbers,
-        marks,
-        mark,
-    )
-}
-
-// What the rules of some rows give: number 0, or a refusal's number and place; and what was counted before it.
-struct Ruled {
-    number: u32,
-    place: usize,
-    faces: u64,
-    degenerate: u64,
-    links: u32,
-}
-
-// The links of the node in a row, by what its judgement noted.
-fn link_row<'a>(
-    file: &[u8],
-    row: table::Row,
-    lines: &[rules::Columns],
+// The links of a node by the first n places and numbers of lines that its judgement noted.
+fn link_noted<'a>(
+    own: &[rules::Columns],
+    start: usize,
+    body: &[u8],
+    n: usize,
     starts: &[usize],
     numbers: &[usize],
     before: u32,
@@ -97,19 +56,17 @@ fn link_row<'a>(
     files: &'a [u64],
 ) -> links::Linked
     requires sorted { ⌜ AllAscending (now materials) (now meshes) (now bones) (now files) ⌝ }
-    requires before { ⌜ before + mostProperties < 2 ^ 32 ⌝ }
-    requires lines { ⌜ now lines ≡ map columnsOf allLines ⌝ }
-    requires noted { ⌜ (isKnown (row .kind) ≡ true) × Noted (now file) row (now starts) (now numbers) ⌝ }
+    requires places { ⌜ (n ≤ length (now starts)) × (n ≤ length (now numbers)) × StartsWithin (now body) (take n (now starts)) ⌝ }
+    requires start { ⌜ start + length (now body) < 2 ^ 64 ⌝ }
+    requires before { ⌜ before + n < 2 ^ 32 ⌝ }
+    requires numbers { ⌜ take n (now numbers) ≡ map (lineNumber (linesFrom (now own)) (now body)) (take n (now starts)) ⌝ }
     ensures result { λ r. ⌜ r
-        ≡ rowLinked (countIn (now (materials .entry)) (now (meshes .entry)) (now (bones .entry)) (now (files .entry)))
-        (now (file .entry)) before row ⌝ }
-    ensures links { λ r. ⌜ r .links ≤ before + mostProperties ⌝ }
+        ≡ nodeLinked (countIn (now (materials .entry)) (now (meshes .entry)) (now (bones .entry)) (now (files .entry)))
+        (linesFrom (now (own .entry))) start (now (body .entry)) before (take n (now (starts .entry))) ⌝ }
+    ensures links { λ r. ⌜ r .links ≤ before + n ⌝ }
 {
-    let body = format::body_of(file, row);
-    let start = row.start as usize;
-    let n = row.properties as usize;
     targets::node_links(
-        rules::lines_of(lines, row.kind),
+        own,
         start,
         body,
         &starts[..n],
@@ -122,6 +79,83 @@ fn link_row<'a>(
     )
 }
 
+// What a row gives: the judgement of its node, and the links so far, in which the first that fails is kept.
+struct OfRow {
+    judged: judge::Judged,
+    linked: links::Linked,
+}
+
+// The rules of the node in a row, which is known, by all lines, by the Bones under each row, and with buffers for what is noted of its
+// properties; and its links by what was noted, after those before it, where none of these failed.
+fn judge_row<'a>(
+    file: &[u8],
+    row: table::Row,
+    counts: &[u16],
+    lines: &[rules::Columns],
+    starts: &mut [usize; 64],
+    numbers: &mut [usize; 64],
+    marks: &mut [u16; 1024],
+    mark: u16,
+    linked: links::Linked,
+    materials: &'a [u64],
+    meshes: &'a [u64],
+    bones: &'a [u64],
+    files: &'a [u64],
+) -> OfRow
+    requires row { ⌜ (now lines ≡ map columnsOf allLines) × Passed (now file) row × (isKnown (row .kind) ≡ true) ⌝ }
+    requires sizes { ⌜ (length (now starts) ≡ mostProperties) × (length (now numbers) ≡ mostProperties) ⌝ }
+    requires sorted { ⌜ AllAscending (now materials) (now meshes) (now bones) (now files) ⌝ }
+    requires before { ⌜ linked .links + mostProperties < 2 ^ 32 ⌝ }
+    ensures judged { λ r. ⌜ r .judged ≡ judgedWith (now (file .entry)) row (getD (now (counts .entry)) (row .parent) 0) ⌝ }
+    ensures bounds { λ r. ⌜ Bounded (r .judged) (length (bodyOf (now (file .entry)) row)) ⌝ }
+    ensures linked { λ r. ⌜ (r .judged .number ≡ 0 → LinkedOn
+        (countIn (now (materials .entry)) (now (meshes .entry)) (now (bones .entry)) (now (files .entry)))
+        (now (file .entry)) row (r .judged .links) linked (r .linked)) ⌝ }
+    ensures links { λ r. ⌜ r .linked .links ≤ linked .links + mostProperties ⌝ }
+    ensures sizes { λ r. ⌜ (length (now (starts .exit)) ≡ mostProperties) × (length (now (numbers .exit)) ≡ mostProperties) ⌝ }
+{
+    let body = format::body_of(file, row);
+    let own = rules::lines_of(lines, row.kind);
+    let judged = judge::judge(
+        row.kind,
+        own,
+        rules::required_of(row.kind),
+        row.properties,
+        body,
+        table::count_at(counts, row.parent as usize),
+        starts,
+        numbers,
+        marks,
+        mark,
+    );
+    if (judged.number != 0) | (judged.links == 0) | (linked.number != 0) {
+        return OfRow { judged, linked };
+    }
+    let linked = link_noted(
+        own,
+        row.start as usize,
+        body,
+        row.properties as usize,
+        starts,
+        numbers,
+        linked.links,
+        materials,
+        meshes,
+        bones,
+        files,
+    );
+    OfRow { judged, linked }
+}
+
+// What the rules of some rows give: number 0, or a refusal's number and place; and what was counted before it.
+struct Ruled {
+    number: u32,
+    place: usize,
+    faces: u64,
+    degenerate: u64,
+    links: u32,
+}
+
 // What some rows give: their rules; their links, those that end before the last row being those of the first that fails; and the own
 // bytes of the unknown nodes.
 struct Judgement {
@@ -130,21 +164,22 @@ struct Judgement {
     unknown: u64,
 }
 
-// What rows give of which none is refused.
-fn all_passed(
+fn rows_give(
+    number: u32,
+    place: usize,
     faces: u64,
     degenerate: u64,
     links: u32,
     linked: links::Linked,
     unknown: u64,
 ) -> Judgement
-    ensures rules { λ r. ⌜ r .rules ≡ record { number = 0; place = 0; faces = faces; degenerate = degenerate; links = links } ⌝ }
+    ensures rules { λ r. ⌜ r .rules ≡ record { number = number; place = place; faces = faces; degenerate = degenerate; links = links } ⌝ }
     ensures links { λ r. ⌜ (r .links ≡ linked) × (r .unknown ≡ unknown) ⌝ }
 {
     Judgement {
         rules: Ruled {
-            number: 0,
-            place: 0,
+            number,
+            place,
             faces,
             degenerate,
             links,
@@ -192,14 +227,14 @@ fn rules_of<'a>(
     let mut unknown: u64 = 0;
     let mut from: usize = 0;
     while from < nodes {
-        let next = unjudged::skip(table, nodes, from, lines, unknown);
+        let next = unjudged::skip(table, nodes, from, unknown);
         unknown = next.unknown;
         let i = next.row;
         if nodes <= i {
-            return all_passed(faces, degenerate, links, linked, unknown);
+            return rows_give(0, 0, faces, degenerate, links, linked, unknown);
         }
         let row = table::row_at(table, i);
-        let j = judge_row(
+        let r = judge_row(
             file,
             row,
             counts,
@@ -208,43 +243,25 @@ fn rules_of<'a>(
             &mut numbers,
             &mut marks,
             (i + 1) as u16,
+            linked,
+            materials,
+            meshes,
+            bones,
+            files,
         );
-        let start = row.start as usize;
+        let j = r.judged;
         if j.number != 0 {
-            let place = start + j.place - 24;
-            return Judgement {
-                rules: Ruled {
-                    number: j.number,
-                    place,
-                    faces,
-                    degenerate,
-                    links,
-                },
-                links: linked,
-                unknown,
-            };
+            let place = row.start as usize + j.place - 24;
+            return rows_give(j.number, place, faces, degenerate, links, linked, unknown);
         }
-        if (linked.number == 0) & (j.links != 0) {
-            linked = link_row(
-                file,
-                row,
-                lines,
-                &starts,
-                &numbers,
-                linked.links,
-                materials,
-                meshes,
-                bones,
-                files,
-            );
-        }
+        linked = r.linked;
         let more = j.faces;
         faces += more.0;
         degenerate += j.degenerate;
         links += j.links;
         from = i + 1;
     }
-    all_passed(faces, degenerate, links, linked, unknown)
+    rows_give(0, 0, faces, degenerate, links, linked, unknown)
 }
 
 // Whether one of the first rows is of a kind.

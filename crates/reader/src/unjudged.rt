@@ -1,33 +1,13 @@
 // Rows of which nothing is judged: unknown nodes, and nodes without properties where none is required.
 ghost use mathlib.Core.Path.{_≡_};
-ghost use mathlib.Core.Bool.{not};
-ghost use mathlib.Core.List.{[], map};
 ghost use Prim.Native.Nat.{_*_, _^_, _≤_, _<_};
 ghost use Rattle.base.specs.Limits.{mostRows};
 ghost use Rattle.kinds.specs.Kinds.{isKnown};
-ghost use Rattle.rules.specs.Table.{lines as allLines};
-ghost use Rattle.rules.specs.Packing.{columnsOf, linesFrom};
-ghost use Rattle.judge.specs.Missing.{misses};
 ghost use Rattle.reader.specs.Private.{isJudged, unknownBytes, Skips};
 
-// Whether none of some lines is required.
-fn none_required(lines: &[rules::Columns]) -> bool
-    ensures { λ r. ⌜ r ≡ not (misses (linesFrom (now (lines .entry))) [] []) ⌝ }
-{
-    let mut k: usize = 0;
-    while k < lines.len() {
-        let e = rules::line_in(lines, k);
-        if e.required == rules::columns::REQUIRED {
-            return false;
-        }
-        k += 1;
-    }
-    true
-}
-
 // Whether the node in a row has rules.
-fn is_judged(row: table::Row, known: bool, lines: &[rules::Columns]) -> bool
-    requires { ⌜ (known ≡ isKnown (row .kind)) × (now lines ≡ map columnsOf allLines) ⌝ }
+fn is_judged(row: table::Row, known: bool) -> bool
+    requires { ⌜ known ≡ isKnown (row .kind) ⌝ }
     ensures { λ r. ⌜ r ≡ isJudged row ⌝ }
 {
     if !known {
@@ -36,7 +16,7 @@ fn is_judged(row: table::Row, known: bool, lines: &[rules::Columns]) -> bool
     if row.properties != 0 {
         return true;
     }
-    !none_required(rules::lines_of(lines, row.kind))
+    rules::required_of(row.kind) != 0
 }
 
 // The own bytes of a row whose node is unknown; 0 of another.
@@ -58,15 +38,8 @@ pub(crate) struct Next {
 }
 
 // The first row from a given one on that is judged, or the number of all rows; and the own bytes of the unknown nodes before it, from those before the given one.
-pub(crate) fn skip(
-    table: &[u32],
-    nodes: usize,
-    from: usize,
-    lines: &[rules::Columns],
-    before: u64,
-) -> Next
-    requires rows { ⌜ (from ≤ nodes) × (nodes ≤ mostRows) × (before ≤ from * 2 ^ 33) ⌝ }
-    requires lines { ⌜ now lines ≡ map columnsOf allLines ⌝ }
+pub(crate) fn skip(table: &[u32], nodes: usize, from: usize, before: u64) -> Next
+    requires { ⌜ (from ≤ nodes) × (nodes ≤ mostRows) × (before ≤ from * 2 ^ 33) ⌝ }
     ensures { λ r. ⌜ Skips (now (table .entry)) nodes from before (r .row) (r .unknown) ⌝ }
 {
     let mut unknown = before;
@@ -74,7 +47,7 @@ pub(crate) fn skip(
     while i < nodes {
         let row = table::row_at(table, i);
         let known = kinds::known(row.kind);
-        if is_judged(row, known, lines) {
+        if is_judged(row, known) {
             return Next { row: i, unknown };
         }
         unknown += unknown_bytes(row, known);

@@ -3,3 +3,4 @@ pub mod Names
 pub mod Helds
 pub mod Together
 pub mod Spans
+pub mod Required

@@ -108,13 +108,25 @@ module _ (kind : ℕ) where
       let at = before lines kind in
       omega (arith, before-most lines, run-most (drop at lines), length-drop at lines, many)
 
--- for callers: the lines of a kind, of the rows that are lent for it where those of the whole table are
-pub lines-lent : (kind : ℕ) → linesFrom (rowsOf kind (map columnsOf lines)) ≡ linesOf kind
-unfolding rowsOf
-lines-lent kind =
-    let from = spanOf kind .from in
-    let n = spanOf kind .to - from in
-    let rows = map columnsOf lines in
-    let packed : linesFrom rows ≡ lines = ap (drop 1) PackedTable in
-    rw (le-leb (spanOf kind .to) (length rows) (omega (arith, inside kind, length-map lines columnsOf, many)))
-    (take-map lineFrom n (drop from rows) ∙ ap (take n) (drop-map lineFrom from rows) ∙ ap (λ ls. take n (drop from ls)) packed ∙ sym (of-span kind))
+-- for callers: the rows of a kind's lines, and these lines, of the rows that are lent for it where those of the whole table are
+module _ (kind : ℕ) where
+  pub rows-lent : rowsOf kind (map columnsOf lines) ≡ map columnsOf (linesOf kind)
+  unfolding rowsOf
+  rows-lent =
+      let from = spanOf kind .from in
+      let n = spanOf kind .to - from in
+      rw (le-leb (spanOf kind .to) (length (map columnsOf lines)) (omega (arith, inside kind, length-map lines columnsOf, many)))
+      (ap (take n) (sym (drop-map columnsOf from lines)) ∙ sym (take-map columnsOf n (drop from lines)) ∙ ap (map columnsOf) (sym (of-span kind)))
+
+  pub lines-lent : linesFrom (rowsOf kind (map columnsOf lines)) ≡ linesOf kind
+  unfolding rowsOf
+  lines-lent =
+      let from = spanOf kind .from in
+      let n = spanOf kind .to - from in
+      let rows = map columnsOf lines in
+      let packed : linesFrom rows ≡ lines = ap (drop 1) PackedTable in
+      rw (le-leb (spanOf kind .to) (length rows) (omega (arith, inside kind, length-map lines columnsOf, many)))
+      (take-map lineFrom n (drop from rows) ∙ ap (take n) (drop-map lineFrom from rows) ∙ ap (λ ls. take n (drop from ls)) packed ∙ sym (of-span kind))
+
+  pub lines-packed : linesFrom (map columnsOf (linesOf kind)) ≡ linesOf kind
+  lines-packed = ap linesFrom (sym rows-lent) ∙ lines-lent

@@ -53,6 +53,11 @@ ofKind (l ∷ ls) kind = cond (eqb (l .kind) kind) (l ∷ ofKind ls kind) (ofKin
 unfoldable pub linesOf : (kind : ℕ) → List Line
 linesOf kind = ofKind lines kind
 
+-- how many of some lines are required
+unfoldable pub requiredIn : List Line → ℕ
+requiredIn [] = 0
+requiredIn (l ∷ ls) = cond (l .required) (suc (requiredIn ls)) (requiredIn ls)
+
 -- where they stand in the table: how many lines come before the first of a kind, and how many of it come first
 unfoldable pub before : List Line → ℕ → ℕ
 before [] kind = 0

@@ -44,3 +44,19 @@ pub const KEY_PROPERTIES: u32 = 3;
 pub const MODES: u32 = 4;
 
 pub const AXES: u32 = 5;
+
+// Where some lines stand among those of their kind, by the letters of their kind and name: what other properties are held against is
+// read by them.
+pub const MESH_VP: usize = 1;
+
+pub const MESH_WB: usize = 6;
+
+pub const MESH_WV: usize = 7;
+
+pub const MESH_MI: usize = 11;
+
+pub const BLEND_SHAPE_VI: usize = 2;
+
+pub const CURVE_KP: usize = 1;
+
+pub const CURVE_KB: usize = 2;

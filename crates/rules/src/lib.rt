@@ -3,11 +3,10 @@ ghost use mathlib.Core.Path.{_≡_};
 ghost use Prim.Native.Nat.{_+_, _≤_};
 ghost use mathlib.Core.List.{map};
 ghost use lib.ListN.{length, getD};
-ghost use lib.Seq.{sets};
 ghost use Rattle.names.specs.Names.{same, numberAfter};
 ghost use Rattle.rules.specs.Table.{lines, free};
 ghost use Rattle.rules.specs.Packing.{lettersOf, stringsOf, typesFrom, lineOf, entryFrom, linesFrom, columnsOf};
-ghost use Rattle.rules.specs.Rules.{takes, misfits, isNumber, lists, findIn, spanOf, rowsOf, isText, isOneOf};
+ghost use Rattle.rules.specs.Rules.{takes, misfits, isNumber, lists, findIn, linesOf, requiredIn, spanOf, rowsOf, isText, isOneOf};
 ghost use Rattle.rules.specs.Private.{stringFrom, Passes};
 
 pub mod columns;
@@ -231,6 +230,27 @@ pub fn lines_of(rows: &[Columns], kind: u32) -> &[Columns]
         return &rows[0..0];
     }
     &rows[from..to]
+}
+
+// How many of the lines of a kind are required.
+pub fn required_of(kind: u32) -> usize
+    ensures { λ r. ⌜ r ≡ requiredIn (linesOf kind) ⌝ }
+{
+    match kind {
+        kinds::MESH => 2,
+        kinds::BLEND_SHAPE => 4,
+        kinds::BONE => 1,
+        kinds::IK_HANDLE => 2,
+        kinds::CONSTRAINT => 3,
+        kinds::MATERIAL => 2,
+        kinds::FILE => 1,
+        kinds::ANIMATION => 1,
+        kinds::CURVE => 5,
+        kinds::CURVE_MODE_OVERRIDE => 2,
+        kinds::NOTIFICATION_TRACK => 2,
+        kinds::INSTANCE => 4,
+        _ => 0,
+    }
 }
 
 // Whether a string stands at the start of some bytes: its letters, and then a zero.

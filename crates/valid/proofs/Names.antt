@@ -2,8 +2,8 @@
 use Prim.Native.Nat.{ℕ, suc}
 use native.Mathlib.Omega.{arith}
 use mathlib.Core.Path.{_≡_, refl}
-use mathlib.Core.Bool.{cond, _||_, false≢true}
-use mathlib.Core.List.{List, [], _∷_, _++_}
+use mathlib.Core.Bool.{cond, false≢true}
+use mathlib.Core.List.{List, _∷_}
 use lib.Dec.{leb·suc-suc}
 use lib.ListN.{length}
 use borrow.Author.Tests.{lt-ltb}
@@ -13,6 +13,7 @@ use Rattle.names.proofs.Laws.{same-eq}
 use Rattle.props.specs.Step.{nameAt}
 use Rattle.body.specs.Body.{firstNamed}
 use Rattle.judge.specs.Properties.{has, placeOf}
+use Rattle.judge.proofs.Presence.{has-cons}
 use Rattle.base.specs.Lists.{Each}
 use Rattle.format.specs.Layout.{Property}
 use Rattle.valid.specs.Obeys.{Has, ofNamed}
@@ -25,13 +26,6 @@ module _ (s name : List ℕ) where
   readOf read other starts = cond (has s starts name) (read (placeOf s starts name)) other
 
   module _ (at : ℕ) (more : List ℕ) where
-    has-cons : has s (at ∷ more) name ≡ (same (nameAt s at) name || has s more name)
-    unfolding firstNamed
-    has-cons =
-        by-test (same (nameAt s at) name)
-        (λ e. rw e (lt-ltb 0 (suc (length more)) (omega arith)))
-        (λ e. rw e (leb·suc-suc (suc (firstNamed s name more)) (length more)))
-
     read-cons : {A : Type 0} (read : ℕ → A) (other : A) → readOf read other (at ∷ more) ≡ cond (same (nameAt s at) name) (read at) (readOf read other more)
     unfolding firstNamed
     read-cons read other =
@@ -43,15 +37,7 @@ module _ (s name : List ℕ) where
   unfolding firstNamed
   says-has none = (λ e. absurd (false≢true e), λ h. absurd h)
   says-has (one {at} {p} {starts} {ps} a d) =
-      rw (has-cons at starts, a .name) (says-or (same (p .name) name) (has s starts name) (says-same (p .name) name) (says-has d))
-
-  -- one more after them
-  pub has-snoc : (starts : List ℕ) (at : ℕ) → has s (starts ++ (at ∷ [])) name ≡ (has s starts name || same (nameAt s at) name)
-  unfolding firstNamed
-  has-snoc [] at = by-test (same (nameAt s at) name) (λ e. rw e) (λ e. rw e)
-  has-snoc (b ∷ starts) at =
-      rw (has-cons b (starts ++ (at ∷ [])), has-cons b starts, has-snoc starts at)
-      (by-test (same (nameAt s b) name) (λ e. rw e) (λ e. rw e))
+      rw (has-cons s name at starts, a .name) (says-or (same (p .name) name) (has s starts name) (says-same (p .name) name) (says-has d))
 
 -- what is read of the property of a name is what is read at its place, where both agree
 pub read-named : {A : Type 0} (s name : List ℕ) (read : ℕ → A) (say : Property → A) (other : A) {starts : List ℕ} {ps : List Property} → Described s starts ps →

@@ -21,7 +21,7 @@ use Rattle.valid.proofs.Ruled.{FitsRules}
 use Rattle.valid.proofs.Values.{says-takes}
 use Rattle.valid.proofs.Says.{Says, says-eqb, says-same, says-or, says-not, Fails, fails, fails-not, fails-and, fails-or}
 use Rattle.valid.proofs.Described.{At, Described, none, one}
-use Rattle.valid.proofs.Names.{has-snoc}
+use Rattle.judge.proofs.Presence.{has-snoc}
 
 pub refused : (b : Bool) (n at : ℕ) (v : Refusal) → (n ≡ 0 → ⊥) → (cond b (refusal n at) v .number ≡ 0) ↔ (b ≡ false) × (v .number ≡ 0)
 refused true n at v h = (λ e. absurd (h e), λ p. absurd (true≢false (p .0)))

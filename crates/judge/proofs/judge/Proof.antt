@@ -5,10 +5,8 @@ use mathlib.Core.Path.{_≡_, ap, _∙_}
 use mathlib.Core.Logic.{⊎-elim}
 use Rattle.body.specs.Body.{skim, skimmed}
 use Rattle.body.proofs.Skimmed.{skim-none, skim-all}
-use Rattle.rules.specs.Packing.{linesFrom}
-use Rattle.judge.specs.Judge.{judgedAt}
+use Rattle.judge.specs.ByLine.{judgedByLine}
 use Rattle.judge.proofs.Typing.{noted-for}
-use borrow.Author.Needs.{needs}
 use Rattle.judge.proofs.judge.Statement.{statement}
 use Rattle.judge.proofs.judge.Tie as tie
 
@@ -35,7 +33,7 @@ returns c =
     let a = start j .args in
     let x = c .judge-first .ensures in
     let noted = noted-for (taken j) (x .1 .0) in (
-      x .0 ∙ ap (λ l. judgedAt (a .kind) (linesFrom (a .lines .now)) (a .body .now) l (a .bones)) (taken j),
+      x .0 ∙ ap (λ l. judgedByLine (a .kind) (a .wanted) (a .lines .now) (a .body .now) l (a .bones)) (taken j),
       (noted .starts, (noted .numbers, (noted .marks, x .1 .1))),
     )
 

@@ -4,13 +4,12 @@ use native.Mathlib.Omega.{arith}
 use mathlib.Core.Path.{_≡_, sym, ap, _∙_, subst}
 use mathlib.Core.List.{List, map}
 use lib.ListN.{length, take, getD, length-map}
-use lib.Seq.{length-take-le}
 use Rattle.body.specs.Body.{skim}
 use Rattle.body.proofs.Skimmed.{length-skim, skim-within}
 use Rattle.rules.specs.Table.{Line}
 use Rattle.rules.specs.Packing.{linesFrom}
-use Rattle.judge.specs.Properties.{lineNumber, besideOf}
-use Rattle.judge.specs.Missing.{lacks}
+use Rattle.judge.specs.Properties.{lineNumber}
+use Rattle.judge.specs.ByLine.{requiredAmong, lacksByLine, besideByLine}
 use Rattle.judge.specs.Private.{valuedTo}
 use Rattle.judge.proofs.Typing.{starts-noted, numbers-noted}
 use Rattle.judge.proofs.Values.{mistyped, lacking, by-values, refused-bounded}
@@ -38,8 +37,11 @@ module _ (t : tie.After-typed) where
   abbrev start : tie.Start
   start = t .before .before .before .before .before .before .before .before
 
+  abbrev rows : List (List ℕ)
+  rows = start .args .lines .now
+
   abbrev lines : List Line
-  lines = linesFrom (start .args .lines .now)
+  lines = linesFrom rows
 
   abbrev body : List ℕ
   body = start .args .body .now
@@ -50,44 +52,38 @@ module _ (t : tie.After-typed) where
   abbrev all : List ℕ
   all = skim body count 0
 
-  module _ (z : t .typed .result .number ≡ 0) where
+  abbrev numbers : List ℕ
+  numbers = map (lineNumber lines body) all
+
+  module _ (z : t .typed .result .refusal .number ≡ 0) where
     starts-are : take count (t .typed .last .1 .1 .1 .0) ≡ all
     starts-are = starts-noted (t .typed .ensures .1 .0) (t .typed .ensures .0) z count (sym (length-skim body count 0)) (omega (arith, start .pre .0, start .pre .1))
 
-    numbers-are : take count (t .typed .last .1 .1 .1 .1 .0) ≡ map (lineNumber lines body) (take count (t .typed .last .1 .1 .1 .0))
-    numbers-are =
-        numbers-noted (t .typed .ensures .1 .0) (t .typed .ensures .0) z count (sym (length-skim body count 0)) (omega (arith, start .pre .0, start .pre .2))
-        ∙ ap (map (lineNumber lines body)) (sym starts-are)
+    numbers-are : take count (t .typed .last .1 .1 .1 .1 .0) ≡ numbers
+    numbers-are = numbers-noted (t .typed .ensures .1 .0) (t .typed .ensures .0) z count (sym (length-skim body count 0)) (omega (arith, start .pre .0, start .pre .2))
 
     starts-many : count ≡ length (take count (t .typed .last .1 .1 .1 .0))
     starts-many = sym (ap length starts-are ∙ length-skim body count 0)
 
     numbers-many : count ≡ length (take count (t .typed .last .1 .1 .1 .1 .0))
-    numbers-many =
-        starts-many ∙ sym (ap length numbers-are ∙ length-map (take count (t .typed .last .1 .1 .1 .0)) (lineNumber lines body))
+    numbers-many = sym (ap length numbers-are ∙ length-map all (lineNumber lines body) ∙ length-skim body count 0)
 
 returns : tie.Need-returns
 returns c =
-    let t = c .before .before .before .before .before .before .before .before .before in
+    let t = c .before .before .before .before .before .before .before .before .before .before in
     let a = start t .args in (
-      c .refused-node .ensures ∙ mistyped (a .kind) (lines t) (body t) (all t) (a .bones) (t .typed .ensures .0) (c .before .if1 .taken),
-      (t .typed .ensures .1 .0, refused-bounded _ _ (length (body t)) (t .typed .ensures .1 .1) (c .refused-node .ensures)),
+      c .refused-node .ensures ∙ mistyped (a .kind) (a .wanted) (rows t) (body t) (all t) (a .bones) (t .typed .ensures .0) (c .before .if1 .taken),
+      (t .typed .ensures .1 .0, refused-bounded _ _ (length (body t)) (t .typed .ensures .1 .1 .1) (c .refused-node .ensures)),
     )
 
 slice-reshare-prefix-lacks : tie.Need-slice-reshare-prefix-lacks
 slice-reshare-prefix-lacks c = search needs
 
 slice-aggregate-lacks : tie.Need-slice-aggregate-lacks
-slice-aggregate-lacks c = let e = c .before in starts-many (e .before .before .before .before .before .before .before .before) (e .if1 .left)
-
-slice-reshare-prefix-lacks-2 : tie.Need-slice-reshare-prefix-lacks-2
-slice-reshare-prefix-lacks-2 c = search needs
-
-slice-aggregate-lacks-2 : tie.Need-slice-aggregate-lacks-2
-slice-aggregate-lacks-2 c = let e = c .before .before in numbers-many (e .before .before .before .before .before .before .before .before) (e .if1 .left)
+slice-aggregate-lacks c = let e = c .before in numbers-many (e .before .before .before .before .before .before .before .before .before) (e .if1 .left)
 
 lacks-requires : tie.Need-lacks-requires
-lacks-requires c κs = let e = c .before .before in numbers-are (e .before .before .before .before .before .before .before .before) (e .if1 .left)
+lacks-requires c κs = search needs
 
 refused-node-requires-2 : tie.Need-refused-node-requires-2
 refused-node-requires-2 c κs = search needs
@@ -104,13 +100,18 @@ same-length-6 c = search needs
 -- 14, of all properties
 module _ (l : tie.After-lacks) where
   abbrev passed : tie.Else1
-  passed = l .before .before .before
+  passed = l .before .before
 
   abbrev typed-at : tie.After-typed
-  typed-at = passed .before .before .before .before .before .before .before .before
+  typed-at = passed .before .before .before .before .before .before .before .before .before
 
-  lacked : lacks (start typed-at .args .kind) (lines typed-at) (body typed-at) (all typed-at) ≡ l .lacks .result
-  lacked = sym (l .lacks .ensures ∙ ap (lacks (start typed-at .args .kind) (lines typed-at) (body typed-at)) (starts-are typed-at (passed .if1 .left)))
+  lacked : let t = typed-at in let a = start t .args in lacksByLine (a .kind) (a .wanted) (requiredAmong (rows t) (numbers t)) (numbers t) ≡ l .lacks .result
+  lacked =
+      let t = typed-at in
+      let a = start t .args in
+      let z = passed .if1 .left in
+      sym (l .lacks .ensures ∙ ap (λ k. lacksByLine (a .kind) (a .wanted) k (take (count t) (t .typed .last .1 .1 .1 .1 .0))) (t .typed .ensures .1 .1 .0 z)
+      ∙ ap (lacksByLine (a .kind) (a .wanted) (requiredAmong (rows t) (numbers t))) (numbers-are t z))
 
 returns-2 : tie.Need-returns-2
 returns-2 c =
@@ -118,7 +119,7 @@ returns-2 c =
     let t = typed-at l in
     let a = start t .args in (
       c .refused-node2 .ensures
-          ∙ lacking (a .kind) (lines t) (body t) (all t) (a .bones) (t .typed .ensures .0) (passed l .if1 .left) (lacked l ∙ c .before .if2 .taken),
+          ∙ lacking (a .kind) (a .wanted) (rows t) (body t) (all t) (a .bones) (t .typed .ensures .0) (passed l .if1 .left) (lacked l ∙ c .before .if2 .taken),
       (t .typed .ensures .1 .0, refused-bounded 14 0 (length (body t)) (omega arith) (c .refused-node2 .ensures)),
     )
 
@@ -140,7 +141,10 @@ valued-requires c κs =
     let t = typed-at l in
     let z = passed l .if1 .left in (
       omega (arith, starts-many t z, start t .pre .0),
-      (numbers-are t z, λ i. subst (λ l. getD l i 0 ≤ length (body t)) (sym (starts-are t z)) (skim-within (body t) (count t) 0 (omega arith) i)),
+      (
+        numbers-are t z ∙ ap (map (lineNumber (lines t) (body t))) (sym (starts-are t z)),
+        λ i. subst (λ l. getD l i 0 ≤ length (body t)) (sym (starts-are t z)) (skim-within (body t) (count t) 0 (omega arith) i),
+      ),
     )
 
 same-length-7 : tie.Need-same-length-7
@@ -157,10 +161,12 @@ returns-3 c =
     let l = c .before .before .before .before in
     let t = typed-at l in
     let a = start t .args in
-    let z = passed l .if1 .left in (
+    let z = passed l .if1 .left in
+    let first = take (count t) (t .typed .last .1 .1 .1 .0) in (
       c .valued .ensures .0
-          ∙ ap (λ starts. valuedTo (lines t) (body t) (besideOf (a .kind) (body t) starts (a .bones)) starts) (starts-are t z)
-          ∙ by-values (a .kind) (lines t) (body t) (all t) (a .bones) (t .typed .ensures .0) z (lacked l ∙ c .before .before .before .if2 .left),
+          ∙ ap (λ ns. valuedTo (lines t) (body t) (besideByLine (a .kind) (body t) first ns (a .bones)) first) (numbers-are t z)
+          ∙ ap (λ starts. valuedTo (lines t) (body t) (besideByLine (a .kind) (body t) starts (numbers t) (a .bones)) starts) (starts-are t z)
+          ∙ by-values (a .kind) (a .wanted) (rows t) (body t) (all t) (a .bones) (t .typed .ensures .0) z (lacked l ∙ c .before .before .before .if2 .left),
       (t .typed .ensures .1 .0, c .valued .ensures .1),
     )
 
@@ -176,8 +182,6 @@ judge-first-spec =
     returns
     slice-reshare-prefix-lacks
     slice-aggregate-lacks
-    slice-reshare-prefix-lacks-2
-    slice-aggregate-lacks-2
     lacks-requires
     refused-node-requires-2
     same-length-4

@@ -1,7 +1,7 @@
 -- `reader::has_kind`: what the rest says is what the whole says.
 use Prim.Native.Nat.{_-_, _≤_}
 use native.Mathlib.Omega.{arith}
-use mathlib.Core.Path.{_≡_, refl, sym, _∙_}
+use mathlib.Core.Path.{_≡_, sym, _∙_}
 use borrow.Author.Needs.{needs}
 use Rattle.table.specs.Table.{rowsAt}
 use Rattle.table.proofs.Rests.{rest}

@@ -1,5 +1,4 @@
 -- `reader::rules_beside`: where the rules count no link, none fails.
-use native.Mathlib.Omega.{arith}
 use borrow.Author.Needs.{needs}
 use Rattle.table.specs.Table.{rowsAt}
 use Rattle.reader.proofs.Linking.{none-judged}

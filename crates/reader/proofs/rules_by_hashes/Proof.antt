@@ -1,14 +1,13 @@
 -- `reader::rules_by_hashes`: the hashes of the four kinds, counted, tell how many rows each link reaches.
 use Prim.Native.Nat.{_+_, _≤_}
 use native.Mathlib.Omega.{arith}
-use mathlib.Core.Path.{_≡_}
 use mathlib.Core.List.{List}
 use lib.ListN.{length}
 use Rattle.kinds.specs.Kinds.{mesh, bone, material, file}
 use Rattle.table.specs.declared.Row.{Row}
 use Rattle.table.specs.Table.{rowsAt}
 use Rattle.table.proofs.Rests.{length-rowsAt}
-use Rattle.links.specs.Private.{hashesOf, countIn, between}
+use Rattle.links.specs.Private.{hashesOf}
 use Rattle.links.proofs.Collecting.{hashes-room, AllCollected, all-collected}
 use Rattle.links.proofs.Targets.{counts-reached}
 use Rattle.links.proofs.Resolving.{linked-by}

@@ -8,12 +8,13 @@ use mathlib.Core.List.{[]}
 use lib.ListN.{length, getD}
 use Rattle.kinds.specs.Kinds.{isKnown}
 use Rattle.table.specs.Table.{rowAt, rowsAt}
+use Rattle.reader.specs.declared.Ruled.{Ruled}
 use Rattle.reader.specs.Reading.{bonesUnder, ruled, ownUnknown}
 use Rattle.links.specs.Private.{Count, countIn, rowsLinked}
 use Rattle.reader.specs.Private.{Passed, continued}
 use Rattle.table.proofs.Rests.{rest}
 use Rattle.reader.proofs.Loops.{onTop, row-place, rules-begun, rules-refused, rules-passed, rules-ended}
-use Rattle.reader.proofs.Linking.{looked-at, passed-over, links-begun, links-ended, links-linked, links-kept}
+use Rattle.reader.proofs.Linking.{links-begun, links-ended, links-linked, links-kept}
 use Rattle.reader.proofs.Bare.{judged-is-known, unknown-begun, unknown-none, unknown-ended, rules-skipped, links-skipped}
 use borrow.Author.Needs.{needs}
 use Rattle.reader.proofs.rules_of.Statement.{statement}
@@ -48,7 +49,7 @@ skip-requires : tie.Need-skip-requires Inv-loop μ-loop
 skip-requires c κs =
     let l = c .before in
     let s = l .before .before .before .before .before .before .before .before .before .before in
-    ((l .loop .inv .0, s .pre .0, l .loop .inv .9), l .before .before .table .ensures)
+    (l .loop .inv .0, s .pre .0, l .loop .inv .9)
 
 -- after the rows that are passed over: the loop and the start, and what is known of the rest
 module _ (k : tie.After-skip Inv-loop μ-loop) where
@@ -80,8 +81,8 @@ module _ (k : tie.After-skip Inv-loop μ-loop) where
       k .skip .result .unknown + ownUnknown (rest (a .table .now) (a .nodes) i) ≡ ownUnknown (rowsAt (a .table .now) 0 (a .nodes))
   bytes-here = k .skip .ensures .bytes ∙ at-loop .loop .inv .10
 
-all-passed-requires : tie.Need-all-passed-requires Inv-loop μ-loop
-all-passed-requires c κs = search needs
+rows-give-requires : tie.Need-rows-give-requires Inv-loop μ-loop
+rows-give-requires c κs = search needs
 
 returns : tie.Need-returns Inv-loop μ-loop
 returns c =
@@ -89,7 +90,7 @@ returns c =
     let a = start k .args in
     let l = at-loop k .loop in
     let end = c .before .if1 .taken in
-    let x = c .all-passed .ensures in
+    let x = c .rows-give .ensures in
     let ended = links-ended (counted k) (a .file .now) (a .table .now) (a .nodes) (i k) (l .linked) end in (
       x .0 ∙ sym (rules-ended (a .file .now) (a .table .now) (a .nodes) (l .faces) (l .degenerate) (l .links) (i k) end) ∙ rules-here k,
       (
@@ -138,78 +139,60 @@ judge-row-requires c κs =
     let s = start k in
     let is : row c .row-at .result ≡ rowAt (s .args .table .now) (i k) = row c .row-at .ensures in (
       (l .before .before .table .ensures, subst (Passed (s .args .file .now)) (sym is) (s .pre .1 (i k) (here c) .passed), known c),
-      (l .loop .inv .7, l .loop .inv .8),
+      ((l .loop .inv .7, l .loop .inv .8), (s .pre .3, omega (arith, few c, l .loop .inv .5, k .skip .ensures .onward))),
     )
 
-cast-start : tie.Need-cast-start Inv-loop μ-loop
-cast-start c = search needs
+cast-place : tie.Need-cast-place Inv-loop μ-loop
+cast-place c = search needs
 
 -- a judgement's place lies in the file
 module _ (j : tie.After-judge-row Inv-loop μ-loop) where
-  place : (24 ≤ row (j .before) .row-at .result .start + j .judge-row .result .place)
-      × (row (j .before) .row-at .result .start + j .judge-row .result .place ≤ 24 + length (start (skipped (j .before)) .args .file .now))
-  place = row-place _ _ _ _ (start (skipped (j .before)) .pre .1) (here (j .before)) (row (j .before) .row-at .ensures) (j .judge-row .ensures .0 .1)
+  place : (24 ≤ row (j .before) .row-at .result .start + j .judge-row .result .judged .place)
+      × (row (j .before) .row-at .result .start + j .judge-row .result .judged .place ≤ 24 + length (start (skipped (j .before)) .args .file .now))
+  place = row-place _ _ _ _ (start (skipped (j .before)) .pre .1) (here (j .before)) (row (j .before) .row-at .ensures) (j .judge-row .ensures .1 .0)
 
 add-place : tie.Need-add-place Inv-loop μ-loop
-add-place c = let j = c .before .before .before .before in omega (arith, place j .1, start (skipped (j .before)) .good .0 .1)
+add-place c = let j = c .before .before .before .before .before in omega (arith, place j .1, start (skipped (j .before)) .good .0 .1)
 
 sub-place : tie.Need-sub-place Inv-loop μ-loop
-sub-place c = place (c .before .before .before .before) .0
+sub-place c = place (c .before .before .before .before .before) .0
+
+rows-give-requires-2 : tie.Need-rows-give-requires-2 Inv-loop μ-loop
+rows-give-requires-2 c κs = search needs
 
 returns-2 : tie.Need-returns-2 Inv-loop μ-loop
 returns-2 c =
-    let j = c .before .before .before .before in
+    let j = c .before .before .before .before .before .before in
     let m = j .before in
-    let refuses = c .before .if2 .taken in
-    let says = rules-refused _ _ _ _ _ _ _ (here m) (row m .row-at .ensures) (beside-counted m) (j .judge-row .ensures .0 .0) refuses in
-    (sym says ∙ rules-here (skipped m), (omega (arith, place j .1), (λ z. absurd (refuses z), λ z. absurd (refuses z))))
+    let refuses = c .before .before .before .if2 .taken in
+    let x = c .rows-give2 .ensures .0 in
+    let says = rules-refused _ _ _ _ _ _ _ (here m) (row m .row-at .ensures) (beside-counted m) (j .judge-row .ensures .0) refuses in
+    let out : c .rows-give2 .result .rules .number ≡ 0 → ⊥ = λ z. refuses (sym (ap (λ (u : Ruled). u .number) x) ∙ z) in
+    (x ∙ sym says ∙ rules-here (skipped m), (omega (arith, place j .1, ap (λ (u : Ruled). u .place) x), (λ z. absurd (out z), λ z. absurd (out z))))
 
 -- a row that passed
-module _ (e : tie.After-struct-known5 Inv-loop μ-loop) where
-  abbrev passed : tie.Else2 Inv-loop μ-loop
-  passed = e .before .before
-
+module _ (e : tie.Else2 Inv-loop μ-loop) where
   abbrev judged : tie.After-judge-row Inv-loop μ-loop
-  judged = passed .before .before .before
-
-slice-aggregate-link-row : tie.Need-slice-aggregate-link-row Inv-loop μ-loop
-slice-aggregate-link-row c = sym (judged (c .before .before) .judge-row .ensures .1 .1 .0)
-
-slice-aggregate-link-row-2 : tie.Need-slice-aggregate-link-row-2 Inv-loop μ-loop
-slice-aggregate-link-row-2 c = sym (judged (c .before .before .before) .judge-row .ensures .1 .1 .1)
-
-link-row-requires : tie.Need-link-row-requires Inv-loop μ-loop
-link-row-requires c κs =
-    let e = c .before .before .before in
-    let j = judged e in
-    let m = j .before in
-    let k = skipped m in
-    let l = at-loop k in (
-      start k .pre .3,
-      (
-        omega (arith, few m, l .loop .inv .5, k .skip .ensures .onward),
-        (l .before .before .table .ensures, (known m, j .judge-row .ensures .1 .0 (passed e .if2 .left))),
-      ),
-    )
+  judged = e .before .before .before
 
 -- what was counted stays below what so many rows can have
 add-faces : tie.Need-add-faces Inv-loop μ-loop
 add-faces c =
     let j = judged (c .before .before .before) in
     let k = skipped (j .before) in
-    omega (arith, few (j .before), k .skip .ensures .onward, at-loop k .loop .inv .1, j .judge-row .ensures .0 .1 .faces)
+    omega (arith, few (j .before), k .skip .ensures .onward, at-loop k .loop .inv .1, j .judge-row .ensures .1 .0 .faces)
 
 add-degenerate : tie.Need-add-degenerate Inv-loop μ-loop
 add-degenerate c =
     let j = judged (c .before .before .before .before) in
     let k = skipped (j .before) in
-    omega (arith, few (j .before), k .skip .ensures .onward, at-loop k .loop .inv .2, j .judge-row .ensures .0 .1 .degenerates)
+    omega (arith, few (j .before), k .skip .ensures .onward, at-loop k .loop .inv .2, j .judge-row .ensures .1 .0 .degenerates)
 
 add-links : tie.Need-add-links Inv-loop μ-loop
 add-links c =
     let j = judged (c .before .before .before .before .before) in
     let k = skipped (j .before) in
-    omega (arith, few (j .before), k .skip .ensures .onward, at-loop k .loop .inv .3, j .judge-row .ensures .0 .1 .links)
+    omega (arith, few (j .before), k .skip .ensures .onward, at-loop k .loop .inv .3, j .judge-row .ensures .1 .0 .links)
 
 add-from : tie.Need-add-from Inv-loop μ-loop
 add-from c = omega (arith, few (judged (c .before .before .before .before .before) .before))
@@ -221,39 +204,37 @@ loop-less c =
 
 loop-again : tie.Need-loop-again Inv-loop μ-loop
 loop-again c =
-    let n = c .before .before .before .before in
-    let e = n .before in
+    let e = c .before .before .before .before .before in
     let j = judged e in
     let m = j .before in
     let k = skipped m in
     let x = k .skip .ensures in
     let l = at-loop k .loop .inv in
-    let judgement = j .judge-row .ensures .0 in
-    let most = judgement .1 in
-    let came = n .if3 .came in
+    let y = j .judge-row .ensures in
+    let most = y .1 .0 in
     let a = start k .args in
     let old = at-loop k .loop .linked in
     let is = row m .row-at .ensures in
-    let links = j .judge-row .result .links in (
+    let passed = e .if2 .left in (
       omega (arith, here m),
       omega (arith, l .1, most .faces, x .onward),
       omega (arith, l .2, most .degenerates, x .onward),
       omega (arith, l .3, most .links, x .onward),
-      sym (rules-passed _ _ _ _ _ _ _ (here m) is (beside-counted m) (judgement .0) (passed e .if2 .left)) ∙ rules-here k,
-      ⊎-elim (λ w. omega (arith, ap (λ x. x .links) (w .4), w .3 .ensures .1, l .5, x .onward)) (λ w. omega (arith, ap (λ x. x .links) (w .1), l .5, x .onward)) came,
+      sym (rules-passed _ _ _ _ _ _ _ (here m) is (beside-counted m) (y .0) passed) ∙ rules-here k,
+      omega (arith, y .1 .1 .1 .0, l .5, x .onward),
       ⊎-elim
-          (λ w. links-linked (counted k) (a .file .now) (a .table .now) (a .nodes) (i k) (here m) is old (looked-at (old .number) links (w .0 .taken) .0) (w .4 ∙ w .3 .ensures .0))
-          (λ w. links-kept (counted k) (a .file .now) (a .table .now) (a .nodes) (i k) (here m) is old _ (judgement .0) (passed e .if2 .left) (passed-over (old .number) links (w .0 .left)) (w .1))
-          came
+          (λ w. links-linked (counted k) (a .file .now) (a .table .now) (a .nodes) (i k) (here m) is old (w .0) (w .1))
+          (λ w. links-kept (counted k) (a .file .now) (a .table .now) (a .nodes) (i k) (here m) is old _ (y .0) passed (w .0) (w .1))
+          (y .1 .1 .0 passed)
           ∙ links-here k,
-      j .judge-row .ensures .1 .1 .0,
-      j .judge-row .ensures .1 .1 .1,
+      y .1 .1 .1 .1 .0,
+      y .1 .1 .1 .1 .1,
       omega (arith, x .small),
       omega (arith, unknown-none (a .table .now) (a .nodes) (i k) (here m) is (known m), bytes-here k),
     )
 
-all-passed-requires-2 : tie.Need-all-passed-requires-2 Inv-loop μ-loop
-all-passed-requires-2 c κs = search needs
+rows-give-requires-3 : tie.Need-rows-give-requires-3 Inv-loop μ-loop
+rows-give-requires-3 c κs = search needs
 
 returns-3 : tie.Need-returns-3 Inv-loop μ-loop
 returns-3 c =
@@ -262,7 +243,7 @@ returns-3 c =
     let end = c .before .loop-test .left in
     let v = l .loop in
     let count = countIn (a .materials .now) (a .meshes .now) (a .bones .now) (a .files .now) in
-    let x = c .all-passed2 .ensures in
+    let x = c .rows-give3 .ensures in
     let ended = links-ended count (a .file .now) (a .table .now) (a .nodes) (v .from) (v .linked) end in (
       x .0 ∙ sym (rules-ended (a .file .now) (a .table .now) (a .nodes) (v .faces) (v .degenerate) (v .links) (v .from) end) ∙ v .inv .4,
       (
@@ -284,24 +265,22 @@ rules-of-spec =
     slice-aggregate-lines
     loop-holds
     skip-requires
-    all-passed-requires
+    rows-give-requires
     returns
     row-at-requires
     add-judge-row
     cast-judge-row
     judge-row-requires
-    cast-start
+    cast-place
     add-place
     sub-place
+    rows-give-requires-2
     returns-2
-    slice-aggregate-link-row
-    slice-aggregate-link-row-2
-    link-row-requires
     add-faces
     add-degenerate
     add-links
     add-from
     loop-less
     loop-again
-    all-passed-requires-2
+    rows-give-requires-3
     returns-3)

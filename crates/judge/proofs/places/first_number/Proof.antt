@@ -4,7 +4,7 @@ use native.Mathlib.Omega.{arith}
 use mathlib.Core.Path.{_≡_, sym, _∙_}
 use lib.ListN.{length, drop}
 use borrow.Author.Needs.{needs}
-use Rattle.judge.specs.Private.{firstNumber}
+use Rattle.judge.specs.ByLine.{firstNumber}
 use Rattle.judge.proofs.Named.{number-found, number-other, number-nowhere}
 use Rattle.judge.proofs.places.first_number.Statement.{statement}
 use Rattle.judge.proofs.places.first_number.Tie as tie

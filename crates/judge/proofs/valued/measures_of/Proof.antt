@@ -1,6 +1,6 @@
 -- `judge::valued::measures_of`: each kind by its letters.
 use borrow.Author.Tests.{ne-eqb}
-use Rattle.judge.specs.Properties.{besideOf}
+use Rattle.judge.specs.ByLine.{besideByLine}
 use borrow.Author.Needs.{needs}
 use Rattle.judge.proofs.valued.measures_of.Statement.{statement}
 use Rattle.judge.proofs.valued.measures_of.Tie as tie
@@ -24,7 +24,7 @@ returns-3 : tie.Need-returns-3
 returns-3 c = rw (c .before .if3 .taken) (c .curve-measures .ensures)
 
 returns-4 : tie.Need-returns-4
-unfolding besideOf
+unfolding besideByLine
 returns-4 c =
     rw (ne-eqb _ _ (c .before .before .if1 .left), ne-eqb _ _ (c .before .if2 .left), ne-eqb _ _ (c .if3 .left))
 

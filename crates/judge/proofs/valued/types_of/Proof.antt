@@ -2,20 +2,18 @@
 use mathlib.Core.Path.{_≡_, sym, ap}
 use borrow.Author.Tests.{lt-ltb, le-ltb}
 use Rattle.base.specs.Letters.{letters}
-use Rattle.judge.specs.Properties.{wantedTypes, typesOf}
+use Rattle.judge.specs.Properties.{wantedTypes}
+use Rattle.judge.specs.ByLine.{typesByLine}
 use borrow.Author.Needs.{needs}
 use Rattle.judge.proofs.valued.types_of.Statement.{statement}
 use Rattle.judge.proofs.valued.types_of.Tie as tie
 
-slice-aggregate-place-named : tie.Need-slice-aggregate-place-named
-slice-aggregate-place-named c = search needs
-
-place-named-requires : tie.Need-place-named-requires
-place-named-requires c κs = search needs
+first-number-requires : tie.Need-first-number-requires
+first-number-requires c κs = search needs
 
 returns : tie.Need-returns
-unfolding typesOf letters
-returns c = rw (← c .before .place-named .ensures .0, le-ltb _ _ (c .if1 .taken))
+unfolding typesByLine letters
+returns c = rw (← c .before .first-number .ensures, le-ltb _ _ (c .if1 .taken))
 
 mul-rest-at : tie.Need-mul-rest-at
 mul-rest-at c = search needs
@@ -34,12 +32,12 @@ is-text-requires c κs = search needs
 
 -- what the string at that place wants is what is sought
 wanted : (c : tie.After-rest-at) →
-    let a = c .before .before .before .before .before .before .before .before .args in
-    typesOf (a .body .now) (a .starts .now) ≡ wantedTypes (c .rest-at .result .now)
-unfolding typesOf letters
+    let a = c .before .before .before .before .before .before .before .args in
+    typesByLine (a .body .now) (a .starts .now) (a .numbers .now) ≡ wantedTypes (c .rest-at .result .now)
+unfolding typesByLine letters
 wanted c =
     let t = c .before .before in
-    rw (← t .before .place-named .ensures .0, lt-ltb _ _ (t .if1 .left)) (ap wantedTypes (sym (c .rest-at .ensures)))
+    rw (← t .before .first-number .ensures, lt-ltb _ _ (t .if1 .left)) (ap wantedTypes (sym (c .rest-at .ensures)))
 
 returns-2 : tie.Need-returns-2
 unfolding letters
@@ -71,8 +69,7 @@ pub types-of-spec : {M : Type 1} → statement M
 types-of-spec =
     tie.close
     (tie.spec
-    slice-aggregate-place-named
-    place-named-requires
+    first-number-requires
     returns
     mul-rest-at
     shared-slice-read-rest-at

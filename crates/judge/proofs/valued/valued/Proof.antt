@@ -10,7 +10,8 @@ use mir.Val.{Fits}
 use Rattle.le.specs.Le.{AreBytes}
 use Rattle.rules.specs.Packing.{lineOf, linesFrom}
 use Rattle.judge.specs.declared.Judged.{Judged}
-use Rattle.judge.specs.Properties.{ruleAt, besideOf}
+use Rattle.judge.specs.Properties.{ruleAt}
+use Rattle.judge.specs.ByLine.{besideByLine}
 use Rattle.judge.specs.Judge.{refusedNode, Bounded}
 use Rattle.judge.specs.Private.{besideFrom, valuedTo}
 use Rattle.judge.proofs.Faults.{held-faces}
@@ -20,13 +21,15 @@ use Rattle.judge.proofs.valued.valued.Tie as tie
 
 abbrev Inv-loop : tie.InvT-loop
 Inv-loop kind lines body starts numbers bones m faces₀ degenerate₀ links₀ i₀ faces degenerate links i =
-    Counting (linesFrom lines) body (besideFrom m) starts (valuedTo (linesFrom lines) body (besideOf kind body starts bones) starts) faces degenerate links i
+    Counting (linesFrom lines) body (besideFrom m) starts (valuedTo (linesFrom lines) body (besideByLine kind body starts numbers bones) starts) faces degenerate links i
 
 abbrev μ-loop : tie.MeasureT-loop
 μ-loop kind lines body starts numbers bones m faces₀ degenerate₀ links₀ i₀ faces degenerate links i = length starts - i
 
 measures-of-requires : tie.Need-measures-of-requires Inv-loop μ-loop
-measures-of-requires c κs = search needs
+measures-of-requires c κs =
+    let s = c .before .before .before in
+    as-many (linesFrom (s .args .lines .now)) (s .args .body .now) (s .args .starts .now) (s .pre .1 .0)
 
 loop-holds : tie.Need-loop-holds Inv-loop μ-loop
 loop-holds c =
@@ -37,7 +40,7 @@ loop-holds c =
       degenerate-most = omega arith;
       links-most = omega arith;
       says = ap (λ b. onTop 0 0 0 (linesFrom (a .lines .now)) (a .body .now) b (a .starts .now)) (c .measures-of .ensures)
-          ∙ on-none (linesFrom (a .lines .now)) (a .body .now) (besideOf (a .kind) (a .body .now) (a .starts .now) (a .bones)) (a .starts .now);
+          ∙ on-none (linesFrom (a .lines .now)) (a .body .now) (besideByLine (a .kind) (a .body .now) (a .starts .now) (a .numbers .now) (a .bones)) (a .starts .now);
     }
 
 mul-at : tie.Need-mul-at Inv-loop μ-loop
@@ -70,7 +73,7 @@ module _ (c : tie.After-line-in Inv-loop μ-loop) where
   at = getD (start .args .starts .now) (head .loop .i) 0
 
   abbrev all : Judged
-  all = let a = start .args in valuedTo (linesFrom (a .lines .now)) (a .body .now) (besideOf (a .kind) (a .body .now) (a .starts .now) (a .bones)) (a .starts .now)
+  all = let a = start .args in valuedTo (linesFrom (a .lines .now)) (a .body .now) (besideByLine (a .kind) (a .body .now) (a .starts .now) (a .numbers .now) (a .bones)) (a .starts .now)
 
   within : Fits w64 (24 + at)
   within = omega (arith, start .good .1 .1 .0 .1, start .pre .1 .1 (head .loop .i))

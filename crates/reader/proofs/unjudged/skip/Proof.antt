@@ -13,16 +13,16 @@ use Rattle.reader.proofs.unjudged.skip.Statement.{statement}
 use Rattle.reader.proofs.unjudged.skip.Tie as tie
 
 abbrev Inv-loop : tie.InvT-loop
-Inv-loop table nodes from lines before unknown₀ i₀ unknown i =
+Inv-loop table nodes from before unknown₀ i₀ unknown i =
     (from ≤ i) × (i ≤ nodes) × ((j : ℕ) → from ≤ j → j < i → isJudged (rowAt table j) ≡ false)
     × (unknown + ownUnknown (rest table nodes i) ≡ before + ownUnknown (rest table nodes from)) × (unknown ≤ i * 2 ^ 33)
 
 abbrev μ-loop : tie.MeasureT-loop
-μ-loop table nodes from lines before unknown₀ i₀ unknown i = nodes - i
+μ-loop table nodes from before unknown₀ i₀ unknown i = nodes - i
 
 loop-holds : tie.Need-loop-holds Inv-loop μ-loop
 loop-holds c =
-    let s = c .before in (omega arith, s .pre .0 .0, λ j a b. absurd (omega (arith, a, b)), refl, s .pre .0 .2)
+    let s = c .before in (omega arith, s .pre .0, λ j a b. absurd (omega (arith, a, b)), refl, s .pre .2)
 
 row-at-requires : tie.Need-row-at-requires Inv-loop μ-loop
 row-at-requires c κs = search needs
@@ -31,8 +31,7 @@ known-requires : tie.Need-known-requires Inv-loop μ-loop
 known-requires c κs = search needs
 
 is-judged-requires : tie.Need-is-judged-requires Inv-loop μ-loop
-is-judged-requires c κs =
-    let s = c .before .before .before .before .before in (c .known .ensures, s .pre .1)
+is-judged-requires c κs = c .known .ensures
 
 -- the row in turn, and whether it is judged
 module _ (c : tie.After-is-judged Inv-loop μ-loop) where
@@ -70,10 +69,10 @@ unknown-bytes-requires c κs = c .before .before .known .ensures
 add-unknown : tie.Need-add-unknown Inv-loop μ-loop
 add-unknown c =
     let j = c .before .before in
-    omega (arith, at-loop j .loop .inv .4, turn j .loop-test .taken, start j .pre .0 .1, c .unknown-bytes .ensures .1)
+    omega (arith, at-loop j .loop .inv .4, turn j .loop-test .taken, start j .pre .1, c .unknown-bytes .ensures .1)
 
 add-i : tie.Need-add-i Inv-loop μ-loop
-add-i c = let j = c .before .before in omega (arith, turn j .loop-test .taken, start j .pre .0 .1)
+add-i c = let j = c .before .before in omega (arith, turn j .loop-test .taken, start j .pre .1)
 
 loop-less : tie.Need-loop-less Inv-loop μ-loop
 loop-less c = let j = c .before .before in omega (arith, turn j .loop-test .taken)
