@@ -9,16 +9,19 @@ use crate::large::Maker;
 use crate::rng::Rng;
 use crate::tree::{numbers_data, File, Node, Property};
 
-pub const ALL: [Maker; 12] = [
+pub const ALL: [Maker; 15] = [
     ("1,024 x 64 names of 32 letters, no data", long_names),
     ("the same, the last name twice: refused", repeated_name),
+    ("the same, names that differ in letter 8", eighth_letters),
     ("1,000 x 62 names like roughness1x", near_material),
     ("1,000 x 62 names like wb1x", near_mesh),
+    ("1,000 x 62 names like extra258x", near_numbered),
     ("1,023 bare Metadata", bare_metadata),
     ("341 chains of Root, Model, Skeleton", chains),
     ("1,020 bones, hashes down by 2^32, a handle", far_hashes),
     ("1,022 Models with an empty string", empty_strings),
     ("1,000 meshes of 22 faces, the last bad: refused", bad_mesh),
+    ("5,000 faces in b, the 865th bad: refused", bad_inside),
     ("16 MiB of f in i, bad at its end: refused", bad_at_end),
     ("16 MiB of a string without a zero: refused", open_string),
     ("1,025 nodes: refused", one_too_many),
@@ -44,9 +47,13 @@ fn repeated_name(_: &mut Rng) -> File {
     on_nodes(ROOT, MAX_NODES, &names, 0)
 }
 
-/// Free names that start as a listed one.
-fn near(kind: u32, mut properties: Vec<Property>, prefix: &str) -> File {
-    let free = (0..MAX_PROPERTIES - 2).map(|number| {
+fn eighth_letters(_: &mut Rng) -> File {
+    on_nodes(ROOT, MAX_NODES, &Names { shared: 7, ..LONG }, 0)
+}
+
+/// Free names that start as a listed one, numbered from here on.
+fn near(kind: u32, mut properties: Vec<Property>, prefix: &str, from: usize) -> File {
+    let free = (from..from + MAX_PROPERTIES - 2).map(|number| {
         let name = format!("{prefix}{number}x");
         Property::new(B, name.as_bytes(), 0, Vec::new())
     });
@@ -54,9 +61,16 @@ fn near(kind: u32, mut properties: Vec<Property>, prefix: &str) -> File {
     in_model(vec![Node::with(kind, properties, Vec::new()); 1_000])
 }
 
+fn material() -> Vec<Property> {
+    vec![Property::string("n", b""), Property::string("t", b"")]
+}
+
 fn near_material(_: &mut Rng) -> File {
-    let needed = vec![Property::string("n", b""), Property::string("t", b"")];
-    near(MATERIAL, needed, "roughness")
+    near(MATERIAL, material(), "roughness", 0)
+}
+
+fn near_numbered(_: &mut Rng) -> File {
+    near(MATERIAL, material(), "extra", 258)
 }
 
 fn near_mesh(_: &mut Rng) -> File {
@@ -64,7 +78,7 @@ fn near_mesh(_: &mut Rng) -> File {
         Property::array(V3, "vp", Vec::new()),
         Property::array(B, "f", Vec::new()),
     ];
-    near(MESH, needed, "wb")
+    near(MESH, needed, "wb", 0)
 }
 
 fn in_root(nodes: Vec<Node>) -> File {
@@ -111,6 +125,17 @@ fn bad_mesh(_: &mut Rng) -> File {
     indices[65] = 3;
     meshes[999] = mesh(&indices);
     in_model(meshes)
+}
+
+fn bad_inside(_: &mut Rng) -> File {
+    let mut indices = vec![0; 15_000];
+    indices[2_593] = 1;
+    let mut node = mesh(&[]);
+    node.properties = vec![
+        Property::array(V3, "vp", vec![0; 12]),
+        Property::array(B, "f", indices),
+    ];
+    in_model(vec![node])
 }
 
 fn bad_at_end(rng: &mut Rng) -> File {
