@@ -4,7 +4,7 @@ use native.Mathlib.Nat.{zero-add, suc-add, add-mul}
 use native.Mathlib.Omega.{arith}
 use mathlib.Core.Path.{_≡_, refl, sym, ap, _∙_}
 use mathlib.Core.Bool.{Bool, true, false, cond, _||_, or-false, or-assoc, true≢false}
-use mathlib.Core.List.{List, [], _∷_, _++_}
+use mathlib.Core.List.{List, [], _∷_, _++_, append-nil}
 use lib.Dec.{leb}
 use lib.ListN.{length, take, drop, length-take, length-drop}
 use lib.Seq.{drop-drop}
@@ -198,3 +198,29 @@ module _ (v : ℕ) (bs : List ℕ) (at n left : ℕ) (few : n ≤ left) {u w : �
 
     pub counted-block : (d : ℕ) → d + t .degenerate + degenerate later ≡ d + degenerate onward
     counted-block d = omega (arith, ap (λ t. t .degenerate) e, ap degenerate in-block, degenerate-append block later)
+
+-- ---- small blocks of a block with a value past the limit
+module _ (w v : ℕ) (bs : List ℕ) where
+  pub clean-none : anyOutside v (facesIn w 0 bs) ≡ false
+  unfolding facesIn anyOutside
+  clean-none = refl
+
+  pub clean-more : (i k at : ℕ) {t : Tally} → at ≡ i * (3 * w) → 64 * (3 * w) ≤ k → t ≡ tallyOf v (facesIn w 64 (take k (drop at bs))) → t .outside ≡ false →
+      anyOutside v (facesIn w i bs) ≡ false → anyOutside v (facesIn w (i + 64) bs) ≡ false
+  clean-more i k at {t} a h e o c =
+      let next : anyOutside v (facesIn w 64 (drop (i * (3 * w)) bs)) ≡ false =
+      ap (λ j. anyOutside v (facesIn w 64 (drop j bs))) (sym a) ∙ ap (anyOutside v) (sym (faces-part w 64 k (drop at bs) h)) ∙ sym (ap (λ (t : Tally). t .outside) e) ∙ o in
+      ap (anyOutside v) (faces-split w i 64 bs) ∙ outside-append v (facesIn w i bs) (facesIn w 64 (drop (i * (3 * w)) bs)) ∙ rw (c, next)
+
+  -- what the others say, the clean ones being passed
+  pub bad-after : (i n k at : ℕ) → i ≤ n → at ≡ i * (3 * w) → anyOutside v (facesIn w i bs) ≡ false → anyOutside v (facesIn w n bs) ≡ true →
+      scanFrom v (k + 3 * i) (facesIn w (n - i) (drop at bs)) ≡ scanFrom v k (facesIn w n bs)
+  bad-after i n k at h a c o =
+      let others = facesIn w (n - i) (drop at bs) in
+      let all : i + (n - i) ≡ n = omega (arith, h) in
+      let split : facesIn w n bs ≡ facesIn w i bs ++ others =
+      ap (λ m. facesIn w m bs) (sym all) ∙ faces-split w i (n - i) bs ∙ ap (λ j. facesIn w i bs ++ facesIn w (n - i) (drop j bs)) (sym a) in
+      let many : k + 3 * length (facesIn w i bs) ≡ k + 3 * i = omega (arith, length-facesIn w i bs) in
+      let says : below v (k + 3 * i) others ≡ below v k (facesIn w n bs) =
+      ap (λ j. below v j others) (sym many) ∙ sym (block-passed v k (facesIn w i bs) others c) ∙ ap (below v k) (sym split) in
+      ap {A = Values} (λ r. countedBy r others) says ∙ block-stops v k (facesIn w n bs) [] others (facesIn w n bs) o ∙ ap (λ fs. countedBy (below v k fs) (facesIn w n bs)) (append-nil (facesIn w n bs))

@@ -1,12 +1,12 @@
 // The faces of a mesh: whether each of their values is a vertex, how many faces there are, and how many are degenerate.
 ghost use mathlib.Core.Path.{_≡_};
 ghost use Prim.Native.Nat.{_+_, _*_, _≤_, _<_};
-ghost use mathlib.Core.Bool.{cond, _||_};
+ghost use mathlib.Core.Bool.{true, false, cond, _||_};
 ghost use mathlib.Core.List.{[]};
 ghost use lib.ListN.{length};
 ghost use lib.Dec.{leb, ltb};
 ghost use Rattle.le.specs.Le.{numberAt};
-ghost use Rattle.faces.specs.Private.{faceAt, isOutside, withFace, tallyOf, scanFrom};
+ghost use Rattle.faces.specs.Private.{anyOutside, faceAt, isOutside, withFace, tallyOf, scanFrom};
 ghost use Rattle.faces.specs.Faces.{widthOf, facesIn, isDegenerate, countedBy, scanOf, scanNumbers};
 ghost use Rattle.faces.specs.declared.Values.the-variants.{Below, NotBelow};
 
@@ -392,7 +392,44 @@ fn block_of(left: u32) -> u32
     if left < 1024 { left } else { 1024 }
 }
 
-// Passes over `count` faces, all there, by blocks; a block with a value past the limit is passed over again, one by one.
+// How many faces of a block come before the small block that has its first value past the limit; or before what small blocks do not fill.
+fn clean_faces(block: &[u8], code: u16, n: u32, vertices: u32) -> u32
+    requires { ⌜ (n ≤ 1024) × (n * (3 * widthOf code) ≤ length (now block)) ⌝ }
+    ensures within { λ r. ⌜ r ≤ n ⌝ }
+    ensures clean { λ r. ⌜ anyOutside vertices (facesIn (widthOf code) r (now (block .entry))) ≡ false ⌝ }
+{
+    let step = 3 * width_of(code) as usize;
+    let mut done: u32 = 0;
+    while 64 <= n - done {
+        let at = done as usize * step;
+        let end = at + 64 * step;
+        let t = tally_of(&block[at..end], code, 64, vertices);
+        if t.outside {
+            return done;
+        }
+        done += 64;
+    }
+    done
+}
+
+// Passes over a block with a value past the limit again: by small blocks up to the one that has it, and then one by one.
+fn scan_bad(block: &[u8], code: u16, n: u32, vertices: u32, start: u64) -> Scanned
+    requires block { ⌜ (n ≤ 1024) × (n * (3 * widthOf code) ≤ length (now block)) × (start ≤ 11 * 4294967296) ⌝ }
+    requires bad { ⌜ anyOutside vertices (facesIn (widthOf code) n (now block)) ≡ true ⌝ }
+    ensures { λ r. ⌜ r ≡ scanFrom vertices start (facesIn (widthOf code) n (now (block .entry))) ⌝ }
+{
+    let clean = clean_faces(block, code, n, vertices);
+    let at = clean as usize * (3 * width_of(code) as usize);
+    scan_each(
+        &block[at..],
+        code,
+        n - clean,
+        vertices,
+        start + 3 * clean as u64,
+    )
+}
+
+// Passes over `count` faces, all there, by blocks; a block with a value past the limit is passed over again.
 fn scan_blocks(bytes: &[u8], code: u16, count: u32, vertices: u32) -> Scanned
     requires { ⌜ count * (3 * widthOf code) ≤ length (now bytes) ⌝ }
     ensures { λ r. ⌜ r ≡ scanOf vertices (facesIn (widthOf code) count (now (bytes .entry))) ⌝ }
@@ -409,7 +446,7 @@ fn scan_blocks(bytes: &[u8], code: u16, count: u32, vertices: u32) -> Scanned
         let block = &bytes[at..end];
         let t = tally_of(block, code, n, vertices);
         if t.outside {
-            return scan_each(block, code, n, vertices, done);
+            return scan_bad(block, code, n, vertices, done);
         }
         let equal = t.degenerate;
         proper += (n - equal) as u64;

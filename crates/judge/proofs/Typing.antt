@@ -27,20 +27,34 @@ use Rattle.rules.proofs.Laws.{found}
 use Rattle.rules.proofs.Names.{neither}
 use Rattle.base.specs.declared.Refusal.{Refusal}
 use Rattle.judge.specs.Properties.{lineNumber, has}
-use Rattle.judge.specs.Typed.{isMistyped, typed, rightlyTyped, lastLetters, summed, keyFrom, keyOf, slotOf, slotAt, marked}
+use Rattle.judge.specs.Typed.{isMistyped, typed, rightlyTyped, lastLetters, summed, keyFrom, keyOf, keyAt, slotOf, slotAt, marked}
 use Rattle.base.specs.Refusals.{refusal, noRefusal}
 use Rattle.judge.specs.Private.{hasKey, Noted}
 
 -- ---- slots
--- a property of the name has the name's slot
-unnamed : (s name starts : List ℕ) → hasKey (map (slotAt s) starts) (slotOf name) ≡ false → firstNamed s name starts ≡ length starts
-unfolding hasKey firstNamed
-unnamed s name [] e = refl
-unnamed s name (at ∷ more) e =
-    let both = neither (eqb (slotAt s at) (slotOf name)) (hasKey (map (slotAt s) more) (slotOf name)) e in
-    by-test (same (nameAt s at) name)
-    (λ t. absurd (true≢false (sym (eq-eqb _ _ (ap slotOf (same-eq (nameAt s at) name t))) ∙ both .0)))
-    (λ t. rw t (ap suc (unnamed s name more (both .1))))
+-- a property of the name has what the name has
+module _ (f : List ℕ → ℕ) (s name : List ℕ) where
+  unnamed : (starts : List ℕ) → hasKey (map (λ at. f (nameAt s at)) starts) (f name) ≡ false → firstNamed s name starts ≡ length starts
+  unfolding hasKey firstNamed
+  unnamed [] e = refl
+  unnamed (at ∷ more) e =
+      let both = neither (eqb (f (nameAt s at)) (f name)) (hasKey (map (λ at. f (nameAt s at)) more) (f name)) e in
+      by-test (same (nameAt s at) name)
+      (λ t. absurd (true≢false (sym (eq-eqb _ _ (ap f (same-eq (nameAt s at) name t))) ∙ both .0)))
+      (λ t. rw t (ap suc (unnamed more (both .1))))
+
+  pub no-such : (starts : List ℕ) → hasKey (map (λ at. f (nameAt s at)) starts) (f name) ≡ false → has s starts name ≡ false
+  no-such starts e = let end = unnamed starts e in le-ltb (firstNamed s name starts) (length starts) (omega arith)
+
+-- a key among some, one at a time
+module _ (keys : List ℕ) (key i : ℕ) (any : Bool) where
+  pub key-next : i < length keys → ((any || eqb (getD keys i 0) key) || hasKey (drop (i + 1) keys) key) ≡ (any || hasKey (drop i keys) key)
+  unfolding hasKey
+  key-next h = rw (add-one i, drop-cons keys i 0 h) (by-test any (λ t. rw t) (λ t. rw t))
+
+  pub key-ended : length keys ≤ i → any ≡ (any || hasKey (drop i keys) key)
+  unfolding hasKey
+  key-ended h = rw (drop-of-length-le keys {i = i} h) (by-test any (λ t. rw t) (λ t. rw t))
 
 -- slots that are marked
 module _ (m : ℕ) where
@@ -73,15 +87,13 @@ module _ (m : ℕ) where
   marked-more marks (j ∷ js) k = marked-more (set marks j m) js k
 
 -- where a name's slot has another mark, none of the names before it is the same
-pub unseen : (s name starts marks₀ : List ℕ) (m : ℕ) {marks₁ : List ℕ} (slot : ℕ) → marks₁ ≡ marked m marks₀ (map (slotAt s) starts) → slot ≡ slotOf name →
+pub unseen : (s name starts marks₀ : List ℕ) (m : ℕ) {marks₁ : List ℕ} (slot : ℕ) → marks₁ ≡ marked m marks₀ (map (slotAt s) starts) → slot ≡ slotOf (keyOf name) →
     slot < length marks₀ → eqb (getD marks₁ slot 0) m ≡ false → has s starts name ≡ false
 unseen s name starts marks₀ m {marks₁} slot e k h n =
-    let out : hasKey (map (slotAt s) starts) (slotOf name) ≡ false =
-    by-test (hasKey (map (slotAt s) starts) (slotOf name))
+    no-such (λ name. slotOf (keyOf name)) s name starts
+    (by-test (hasKey (map (slotAt s) starts) (slotOf (keyOf name)))
     (λ t. absurd (eqb-false _ _ n (ap (λ l. getD l slot 0) e ∙ marked-there m marks₀ (map (slotAt s) starts) slot h (ap (hasKey (map (slotAt s) starts)) k ∙ t))))
-    (λ t. t) in
-    let end = unnamed s name starts out in
-    le-ltb (firstNamed s name starts) (length starts) (omega arith)
+    (λ t. t))
 
 two-eights : (w : ℕ) → 2 ^ (8 * w) ≡ 256 ^ w
 two-eights zero = refl
@@ -131,10 +143,10 @@ module _ (name : List ℕ) where
   keyLeft sum i = keyFrom ((length name - 1 - i) / 8) sum (drop i name)
 
   module _ (sum i : ℕ) (h : 8 < length name - i) where
-    pub key-step : {eight twice next : ℕ} → eight ≡ numberAt 8 name i → twice ≡ (sum + sum) % 2 ^ 64 → next ≡ (twice + eight) % 2 ^ 64 →
+    pub key-step : {eight thrice next : ℕ} → eight ≡ numberAt 8 name i → thrice ≡ ((sum + sum) % 2 ^ 64 + sum) % 2 ^ 64 → next ≡ (thrice + eight) % 2 ^ 64 →
         keyLeft next (i + 8) ≡ keyLeft sum i
     unfolding keyFrom numberAt
-    key-step {eight} {twice} {next} e t n =
+    key-step {eight} {thrice} {next} e t n =
         let left = (length name - 1 - (i + 8)) / 8 in
         let more : (length name - 1 - i) / 8 ≡ suc left = omega (arith, h) in
         let letters : numberAt 8 (drop i name) 0 ≡ eight = sym e in
@@ -144,10 +156,10 @@ module _ (name : List ℕ) where
   pub key-start : keyLeft 0 0 ≡ keyFrom ((length name - 1) / 8) 0 name
   key-start = let whole : length name - 1 - 0 ≡ length name - 1 = omega arith in ap (λ n. keyFrom (n / 8) 0 name) whole
 
-  pub key-done : (sum i : ℕ) → length name - i ≤ 8 → keyLeft sum i ≡ keyFrom ((length name - 1) / 8) 0 name → {last twice key : ℕ} →
-      last ≡ lastLetters name → twice ≡ (sum + sum) % 2 ^ 64 → key ≡ (twice + last) % 2 ^ 64 → key ≡ keyOf name
+  pub key-done : (sum i : ℕ) → length name - i ≤ 8 → keyLeft sum i ≡ keyFrom ((length name - 1) / 8) 0 name → {last thrice key : ℕ} →
+      last ≡ lastLetters name → thrice ≡ ((sum + sum) % 2 ^ 64 + sum) % 2 ^ 64 → key ≡ (thrice + last) % 2 ^ 64 → key ≡ keyOf name
   unfolding keyFrom keyOf
-  key-done sum i h left {last} {twice} {key} e t k =
+  key-done sum i h left {last} {thrice} {key} e t k =
       let none : (length name - 1 - i) / 8 ≡ 0 = omega (arith, h) in
       let all : sum ≡ keyFrom ((length name - 1) / 8) 0 name = sym (ap (λ k. keyFrom k sum (drop i name)) none) ∙ left in
       k ∙ ap (λ m. (m + last) % 2 ^ 64) t ∙ ap (λ m. summed m last) all ∙ ap (summed (keyFrom ((length name - 1) / 8) 0 name)) e
@@ -181,22 +193,23 @@ unfolding skim
 skim-last s a b e = rw e
 
 -- the first `count` properties are judged one after the other; those before i are right, and noted
-pub record Noting (ls : List Line) (s : List ℕ) (m count : ℕ) (starts₀ numbers₀ marks₀ starts₁ numbers₁ marks₁ : List ℕ) (at i : ℕ) : Type 0 where
+pub record Noting (ls : List Line) (s : List ℕ) (m count : ℕ) (starts₀ numbers₀ keys₀ marks₀ starts₁ numbers₁ keys₁ marks₁ : List ℕ) (at i : ℕ) : Type 0 where
   pub within : i ≤ count
   pub inside : at ≤ length s
   pub left : drop i (skim s count 0) ≡ skim s (count - i) at
   pub starts : starts₁ ≡ sets starts₀ 0 (map (λ x. x) (take i (skim s count 0)))
   pub numbers : numbers₁ ≡ sets numbers₀ 0 (map (lineNumber ls s) (take i (skim s count 0)))
+  pub keys : keys₁ ≡ sets keys₀ 0 (map (keyAt s) (take i (skim s count 0)))
   pub marks : marks₁ ≡ marked m marks₀ (map (slotAt s) (take i (skim s count 0)))
   pub passes : typed ls s (take i (skim s count 0)) (drop i (skim s count 0)) ≡ typed ls s [] (skim s count 0)
   pub rights : take i (skim s count 0) ++ rightlyTyped ls s (take i (skim s count 0)) (drop i (skim s count 0)) ≡ rightlyTyped ls s [] (skim s count 0)
 
-pub noting : (ls : List Line) (s : List ℕ) (m count : ℕ) (a b c : List ℕ) → Noting ls s m count a b c a b c 0 0
+pub noting : (ls : List Line) (s : List ℕ) (m count : ℕ) (a b c d : List ℕ) → Noting ls s m count a b c d a b c d 0 0
 unfolding marked
-noting ls s m count a b c = record { within = omega arith; inside = omega arith; left = let whole : count ≡ count - 0 = omega arith in ap (λ k. skim s k 0) whole; starts = refl; numbers = refl; marks = refl; passes = refl; rights = refl }
+noting ls s m count a b c d = record { within = omega arith; inside = omega arith; left = let whole : count ≡ count - 0 = omega arith in ap (λ k. skim s k 0) whole; starts = refl; numbers = refl; keys = refl; marks = refl; passes = refl; rights = refl }
 
-module _ {ls : List Line} {s : List ℕ} {m count : ℕ} {starts₀ numbers₀ marks₀ starts₁ numbers₁ marks₁ : List ℕ} {at i : ℕ}
-    (o : Noting ls s m count starts₀ numbers₀ marks₀ starts₁ numbers₁ marks₁ at i) where
+module _ {ls : List Line} {s : List ℕ} {m count : ℕ} {starts₀ numbers₀ keys₀ marks₀ starts₁ numbers₁ keys₁ marks₁ : List ℕ} {at i : ℕ}
+    (o : Noting ls s m count starts₀ numbers₀ keys₀ marks₀ starts₁ numbers₁ keys₁ marks₁ at i) where
   abbrev all : List ℕ
   all = skim s count 0
 
@@ -210,6 +223,9 @@ module _ {ls : List Line} {s : List ℕ} {m count : ℕ} {starts₀ numbers₀ m
   pub numbers-long : length numbers₁ ≡ length numbers₀
   numbers-long = ap length (o .numbers) ∙ length-sets numbers₀ 0 (map (lineNumber ls s) done)
 
+  pub keys-long : length keys₁ ≡ length keys₀
+  keys-long = ap length (o .keys) ∙ length-sets keys₀ 0 (map (keyAt s) done)
+
   pub marks-long : length marks₁ ≡ length marks₀
   marks-long = ap length (o .marks) ∙ marked-length m marks₀ (map (slotAt s) done)
 
@@ -221,19 +237,28 @@ module _ {ls : List Line} {s : List ℕ} {m count : ℕ} {starts₀ numbers₀ m
   before-are h = ap (take i) (o .starts ∙ ap (sets starts₀ 0) (map-same done)) ∙ first-of starts₀ done i (sym many) h
 
   -- where the slot of a name has another mark, none of them has the name
-  pub unseen-before : i ≤ length starts₀ → (name : List ℕ) (slot : ℕ) → slot ≡ slotOf name → slot < length marks₀ →
+  pub unseen-before : i ≤ length starts₀ → (name : List ℕ) (slot : ℕ) → slot ≡ slotOf (keyOf name) → slot < length marks₀ →
       eqb (getD marks₁ slot 0) m ≡ false → has s (take i starts₁) name ≡ false
   unseen-before h name slot k b e = ap (λ l. has s l name) (before-are h) ∙ unseen s name done marks₀ m slot (o .marks) k b e
 
+  -- where none of their keys is the name's, neither
+  pub unkeyed-before : i ≤ length starts₀ → i ≤ length keys₀ → (name : List ℕ) {key : ℕ} → key ≡ keyOf name → hasKey (take i keys₁) key ≡ false →
+      has s (take i starts₁) name ≡ false
+  unkeyed-before h g name {key} k e =
+      let keys : take i keys₁ ≡ map (keyAt s) done =
+      ap (take i) (o .keys) ∙ first-of keys₀ (map (keyAt s) done) i (sym (length-map done (keyAt s) ∙ many)) g in
+      ap (λ l. has s l name) (before-are h) ∙ no-such keyOf s name done (ap (λ l. hasKey l (keyOf name)) (sym keys) ∙ ap (hasKey (take i keys₁)) (sym k) ∙ e)
+
   -- what is noted where all are right, or where one is not
-  noted-as : (l : List ℕ) → l ≡ done → rightlyTyped ls s [] all ≡ l → Noted ls s m all starts₀ numbers₀ marks₀ starts₁ numbers₁ marks₁
+  noted-as : (l : List ℕ) → l ≡ done → rightlyTyped ls s [] all ≡ l → Noted ls s m all starts₀ numbers₀ keys₀ marks₀ starts₁ numbers₁ keys₁ marks₁
   noted-as l e r = record {
     starts = o .starts ∙ ap (sets starts₀ 0) (map-same done ∙ sym e ∙ sym r);
     numbers = o .numbers ∙ ap (λ l. sets numbers₀ 0 (map (lineNumber ls s) l)) (sym e ∙ sym r);
+    keys = o .keys ∙ ap (λ l. sets keys₀ 0 (map (keyAt s) l)) (sym e ∙ sym r);
     marks = o .marks ∙ ap (λ l. marked m marks₀ (map (slotAt s) l)) (sym e ∙ sym r);
   }
 
-  pub all-noted : count ≤ i → (noRefusal ≡ typed ls s [] all) × Noted ls s m all starts₀ numbers₀ marks₀ starts₁ numbers₁ marks₁
+  pub all-noted : count ≤ i → (noRefusal ≡ typed ls s [] all) × Noted ls s m all starts₀ numbers₀ keys₀ marks₀ starts₁ numbers₁ keys₁ marks₁
   unfolding typed rightlyTyped
   all-noted h =
       let end : drop i all ≡ [] = drop-of-length-le all {i = i} (omega (arith, length-skim s count 0, h)) in
@@ -281,21 +306,22 @@ module _ {ls : List Line} {s : List ℕ} {m count : ℕ} {starts₀ numbers₀ m
       unfolding rightlyTyped
       kept = rw (mistyped, here, longer, onward)
 
-      pub refused : (r || x) ≡ true → (refusal 13 (24 + at) ≡ typed ls s [] all) × Noted ls s m all starts₀ numbers₀ marks₀ starts₁ numbers₁ marks₁
+      pub refused : (r || x) ≡ true → (refusal 13 (24 + at) ≡ typed ls s [] all) × Noted ls s m all starts₀ numbers₀ keys₀ marks₀ starts₁ numbers₁ keys₁ marks₁
       refused t =
           (sym (rw t at step) ∙ o .passes, noted-as done refl (sym (o .rights) ∙ ap (λ l. done ++ l) (rw t at kept) ∙ append-nil done))
 
-      pub passed : (r || x) ≡ false → {slot next : ℕ} → slot ≡ slotOf name → (ltb (i + 1) count ≡ true → next ≡ nextBy s at hd) → next ≤ length s →
-          Noting ls s m count starts₀ numbers₀ marks₀ (set starts₁ i at) (set numbers₁ i k) (set marks₁ slot m) next (i + 1)
-      passed t {slot} {next} q y b = record {
+      pub passed : (r || x) ≡ false → {key slot next : ℕ} → key ≡ keyOf name → slot ≡ slotOf key → (ltb (i + 1) count ≡ true → next ≡ nextBy s at hd) → next ≤ length s →
+          Noting ls s m count starts₀ numbers₀ keys₀ marks₀ (set starts₁ i at) (set numbers₁ i k) (set keys₁ i key) (set marks₁ slot m) next (i + 1)
+      passed t {key} {slot} {next} w q y b = record {
         within = omega arith;
         inside = b;
         left = onward ∙ by-test (ltb (i + 1) count) (λ t. ap (skim s (count - (i + 1))) (sym (y t ∙ by-own)))
             (λ t. skim-last s (nextAt s at) next (omega (arith, ltb-false (i + 1) count t)));
         starts = sets-more (λ x. x) all i 0 inner (sym there) starts₀ (o .starts);
         numbers = sets-more (lineNumber ls s) all i 0 inner (numbered ∙ ap (lineNumber ls s) (sym there)) numbers₀ (o .numbers);
+        keys = sets-more (keyAt s) all i 0 inner (w ∙ ap keyOf n ∙ ap (keyAt s) (sym there)) keys₀ (o .keys);
         marks =
-            ap (λ l. set l slot m) (o .marks) ∙ ap (λ k. set (marked m marks₀ (map (slotAt s) done)) k m) (q ∙ ap slotOf n)
+            ap (λ l. set l slot m) (o .marks) ∙ ap (λ k. set (marked m marks₀ (map (slotAt s) done)) k m) (q ∙ ap slotOf (w ∙ ap keyOf n))
             ∙ sym (marked-more m marks₀ (map (slotAt s) done) (slotAt s at)) ∙ ap (marked m marks₀) (sym (ap (map (slotAt s)) longer ∙ map-append (slotAt s) done (at ∷ [])));
         passes = sym (rw t at step) ∙ o .passes;
         rights =
@@ -305,8 +331,8 @@ module _ {ls : List Line} {s : List ℕ} {m count : ℕ} {starts₀ numbers₀ m
       }
 
 -- what is noted where none is refused: the first n numbers of the buffers
-module _ {ls : List Line} {s : List ℕ} {m : ℕ} {all starts₀ numbers₀ marks₀ starts₁ numbers₁ marks₁ : List ℕ}
-    (o : Noted ls s m all starts₀ numbers₀ marks₀ starts₁ numbers₁ marks₁)
+module _ {ls : List Line} {s : List ℕ} {m : ℕ} {all starts₀ numbers₀ keys₀ marks₀ starts₁ numbers₁ keys₁ marks₁ : List ℕ}
+    (o : Noted ls s m all starts₀ numbers₀ keys₀ marks₀ starts₁ numbers₁ keys₁ marks₁)
     {v : Refusal} (e : v ≡ typed ls s [] all) (z : v .number ≡ 0) (n : ℕ) (k : n ≡ length all) where
   right : rightlyTyped ls s [] all ≡ all
   right = all-right ls s [] all (ap (λ (v : Refusal). v .number) (sym e) ∙ z)
@@ -319,7 +345,7 @@ module _ {ls : List Line} {s : List ℕ} {m : ℕ} {all starts₀ numbers₀ mar
       ap (take n) (o .numbers ∙ ap (λ l. sets numbers₀ 0 (map (lineNumber ls s) l)) right)
       ∙ first-of numbers₀ (map (lineNumber ls s) all) n (k ∙ sym (length-map all (lineNumber ls s))) h
 
-pub noted-for : {ls : List Line} {s : List ℕ} {m : ℕ} {all all′ starts₀ numbers₀ marks₀ starts₁ numbers₁ marks₁ : List ℕ} → all ≡ all′ →
-    Noted ls s m all starts₀ numbers₀ marks₀ starts₁ numbers₁ marks₁ → Noted ls s m all′ starts₀ numbers₀ marks₀ starts₁ numbers₁ marks₁
-noted-for {ls} {s} {m} {all} {all′} {starts₀} {numbers₀} {marks₀} {starts₁} {numbers₁} {marks₁} e o =
-    subst (λ l. Noted ls s m l starts₀ numbers₀ marks₀ starts₁ numbers₁ marks₁) e o
+pub noted-for : {ls : List Line} {s : List ℕ} {m : ℕ} {all all′ starts₀ numbers₀ keys₀ marks₀ starts₁ numbers₁ keys₁ marks₁ : List ℕ} → all ≡ all′ →
+    Noted ls s m all starts₀ numbers₀ keys₀ marks₀ starts₁ numbers₁ keys₁ marks₁ → Noted ls s m all′ starts₀ numbers₀ keys₀ marks₀ starts₁ numbers₁ keys₁ marks₁
+noted-for {ls} {s} {m} {all} {all′} {starts₀} {numbers₀} {keys₀} {marks₀} {starts₁} {numbers₁} {keys₁} {marks₁} e o =
+    subst (λ l. Noted ls s m l starts₀ numbers₀ keys₀ marks₀ starts₁ numbers₁ keys₁ marks₁) e o

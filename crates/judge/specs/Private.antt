@@ -16,7 +16,7 @@ use Rattle.judge.specs.declared.valued.Fault.the-variants.{Right, Whole,
 use Rattle.judge.specs.declared.valued.Kept.{Kept}
 use Rattle.judge.specs.declared.valued.Measures.{Measures}
 use Rattle.judge.specs.Properties.{lineNumber, Beside}
-use Rattle.judge.specs.Typed.{rightlyTyped, slotAt, marked}
+use Rattle.judge.specs.Typed.{rightlyTyped, keyAt, slotAt, marked}
 use Rattle.judge.specs.Valued.{faultOf, heldFaces, valued, nodeFaces, nodeLinks}
 use Rattle.judge.specs.Judge.{judgedBy}
 
@@ -57,8 +57,9 @@ keptAt h s at b = keptBy (faultOf h s at b) (heldFaces h s at)
 unfoldable pub valuedTo : List Line → (s : List ℕ) → Beside → (starts : List ℕ) → Judged
 valuedTo ls s b starts = judgedBy (valued ls s b starts) (nodeFaces ls s starts) (nodeLinks ls s starts)
 
--- what 13 notes of the properties that it passes: where they start and their lines; and the slots that it marks
-pub record Noted (ls : List Line) (s : List ℕ) (mark : ℕ) (all starts₀ numbers₀ marks₀ starts₁ numbers₁ marks₁ : List ℕ) : Type 0 where
+-- what 13 notes of the properties that it passes: where they start, their lines and the keys of their names; and the slots that it marks
+pub record Noted (ls : List Line) (s : List ℕ) (mark : ℕ) (all starts₀ numbers₀ keys₀ marks₀ starts₁ numbers₁ keys₁ marks₁ : List ℕ) : Type 0 where
   pub starts : starts₁ ≡ sets starts₀ 0 (rightlyTyped ls s [] all)
   pub numbers : numbers₁ ≡ sets numbers₀ 0 (map (lineNumber ls s) (rightlyTyped ls s [] all))
+  pub keys : keys₁ ≡ sets keys₀ 0 (map (keyAt s) (rightlyTyped ls s [] all))
   pub marks : marks₁ ≡ marked mark marks₀ (map (slotAt s) (rightlyTyped ls s [] all))

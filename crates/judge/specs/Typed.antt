@@ -35,9 +35,9 @@ rightlyTyped ls s before (at ∷ more) = cond (isMistyped ls s before at) [] (at
 unfoldable pub lastLetters : List ℕ → ℕ
 lastLetters name = numberAt 8 name (length name - 8)
 
--- a number that equal names share: k numbers of eight letters and the last ones, each added to twice the sum so far, at 64 bits
+-- a number that equal names share: k numbers of eight letters and the last ones, each added to three times the sum so far, at 64 bits
 abbrev pub summed : (sum eight : ℕ) → ℕ
-summed sum eight = ((sum + sum) % 2 ^ 64 + eight) % 2 ^ 64
+summed sum eight = (((sum + sum) % 2 ^ 64 + sum) % 2 ^ 64 + eight) % 2 ^ 64
 
 unfoldable pub keyFrom : (k sum : ℕ) → List ℕ → ℕ
 keyFrom zero sum name = sum
@@ -46,12 +46,15 @@ keyFrom (suc k) sum name = keyFrom k (summed sum (numberAt 8 name 0)) (drop 8 na
 unfoldable pub keyOf : List ℕ → ℕ
 keyOf name = summed (keyFrom ((length name - 1) / 8) 0 name) (lastLetters name)
 
+abbrev pub keyAt : (s : List ℕ) (at : ℕ) → ℕ
+keyAt s at = keyOf (nameAt s at)
+
 -- one of 1,024 slots, by sums and products at 64 bits
-unfoldable pub slotOf : List ℕ → ℕ
-slotOf name = (keyOf name % 2 ^ 32 * 0x9E3779B1 + keyOf name / 2 ^ 32 * 0x85EBCA77) % 2 ^ 64 / 2 ^ 27 % 1024
+unfoldable pub slotOf : (key : ℕ) → ℕ
+slotOf key = (key % 2 ^ 32 * 0x9E3779B1 + key / 2 ^ 32 * 0x85EBCA77) % 2 ^ 64 / 2 ^ 27 % 1024
 
 abbrev pub slotAt : (s : List ℕ) (at : ℕ) → ℕ
-slotAt s at = slotOf (nameAt s at)
+slotAt s at = slotOf (keyAt s at)
 
 -- the marks with some slots marked
 unfoldable pub marked : (mark : ℕ) (marks slots : List ℕ) → List ℕ

@@ -8,7 +8,7 @@ ghost use Rattle.base.specs.Limits.{mostProperties};
 ghost use Rattle.body.specs.Body.{skim, skimmed};
 ghost use Rattle.rules.specs.Packing.{linesFrom};
 ghost use Rattle.judge.specs.Properties.{has, lineNumber};
-ghost use Rattle.judge.specs.Typed.{slotAt, marked, rightlyTyped};
+ghost use Rattle.judge.specs.Typed.{keyAt, slotAt, marked, rightlyTyped};
 ghost use Rattle.judge.specs.Judge.{refusedNode, Bounded};
 ghost use Rattle.judge.specs.ByLine.{judgedByLine};
 ghost use Rattle.judge.specs.Private.{Noted};
@@ -57,17 +57,19 @@ fn judge_first(
     bones: u32,
     starts: &mut [usize],
     numbers: &mut [usize],
+    keys: &mut [u64],
     marks: &mut [u16],
     mark: u16,
 ) -> Judged
-    requires { ⌜ (count ≤ mostProperties) × (length (now starts) ≡ mostProperties) × (length (now numbers) ≡ mostProperties) × (length (now marks) ≡ 1024) ⌝ }
+    requires { ⌜ (count ≤ mostProperties) × (length (now starts) ≡ mostProperties) × (length (now numbers) ≡ mostProperties) × (length (now keys) ≡ mostProperties) × (length (now marks) ≡ 1024) ⌝ }
     ensures result { λ r. ⌜ r
         ≡ judgedByLine kind wanted (now (lines .entry)) (now (body .entry)) (skim (now (body .entry)) count 0) bones ⌝ }
     ensures noted { λ r. ⌜ Noted (linesFrom (now (lines .entry))) (now (body .entry)) mark (skim (now (body .entry)) count 0)
-        (now (starts .entry)) (now (numbers .entry)) (now (marks .entry)) (now (starts .exit)) (now (numbers .exit)) (now (marks .exit)) ⌝ }
+        (now (starts .entry)) (now (numbers .entry)) (now (keys .entry)) (now (marks .entry))
+        (now (starts .exit)) (now (numbers .exit)) (now (keys .exit)) (now (marks .exit)) ⌝ }
     ensures bounds { λ r. ⌜ Bounded r (length (now (body .entry))) ⌝ }
 {
-    let t = typed::typed(lines, body, count, starts, numbers, marks, mark);
+    let t = typed::typed(lines, body, count, starts, numbers, keys, marks, mark);
     let v = t.refusal;
     if v.number != 0 {
         return refused_node(v.number, v.place);
@@ -88,7 +90,7 @@ fn judge_first(
 // Judges a node by its kind, the lines of its kind and how many of them are required, its property count, its body and the number of
 // Bones beside it. Its properties
 // are found by their headers alone, as the walk has judged these: at most 64, none where the count is over that. Noted are, of
-// those before the first that 13 refuses, where each starts and where its line stands among the lines; and the slots of their names
+// those before the first that 13 refuses, where each starts, where its line stands among the lines and the key of its name; and the slots of their names
 // are marked. Any mark gives the same answer; one that no slot has yet spares the most comparisons of names.
 pub fn judge(
     kind: u32,
@@ -99,6 +101,7 @@ pub fn judge(
     bones: u32,
     starts: &mut [usize; 64],
     numbers: &mut [usize; 64],
+    keys: &mut [u64; 64],
     marks: &mut [u16; 1024],
     mark: u16,
 ) -> Judged
@@ -108,6 +111,9 @@ pub fn judge(
         ≡ sets (now (starts .entry)) 0 (rightlyTyped (linesFrom (now (lines .entry))) (now (body .entry)) [] (skimmed (now (body .entry)) count)) ⌝ }
     ensures numbers { λ r. ⌜ now (numbers .exit)
         ≡ sets (now (numbers .entry)) 0 (map (lineNumber (linesFrom (now (lines .entry))) (now (body .entry)))
+        (rightlyTyped (linesFrom (now (lines .entry))) (now (body .entry)) [] (skimmed (now (body .entry)) count))) ⌝ }
+    ensures keys { λ r. ⌜ now (keys .exit)
+        ≡ sets (now (keys .entry)) 0 (map (keyAt (now (body .entry)))
         (rightlyTyped (linesFrom (now (lines .entry))) (now (body .entry)) [] (skimmed (now (body .entry)) count))) ⌝ }
     ensures marks { λ r. ⌜ now (marks .exit)
         ≡ marked mark (now (marks .entry)) (map (slotAt (now (body .entry)))
@@ -128,6 +134,7 @@ pub fn judge(
         bones,
         starts,
         numbers,
+        keys,
         marks,
         mark,
     )

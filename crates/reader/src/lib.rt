@@ -94,6 +94,7 @@ fn judge_row<'a>(
     lines: &[rules::Columns],
     starts: &mut [usize; 64],
     numbers: &mut [usize; 64],
+    keys: &mut [u64; 64],
     marks: &mut [u16; 1024],
     mark: u16,
     linked: links::Linked,
@@ -125,6 +126,7 @@ fn judge_row<'a>(
         table::count_at(counts, row.parent as usize),
         starts,
         numbers,
+        keys,
         marks,
         mark,
     );
@@ -215,6 +217,7 @@ fn rules_of<'a>(
     let lines: &[rules::Columns] = &table_lines;
     let mut starts = [0usize; 64];
     let mut numbers = [0usize; 64];
+    let mut keys = [0u64; 64];
     let mut marks = [0u16; 1024];
     let mut linked = links::Linked {
         number: 0,
@@ -241,6 +244,7 @@ fn rules_of<'a>(
             lines,
             &mut starts,
             &mut numbers,
+            &mut keys,
             &mut marks,
             (i + 1) as u16,
             linked,

@@ -8,6 +8,7 @@ use lib.ListN.{length, take, drop}
 use borrow.Author.Needs.{needs}
 use Rattle.faces.specs.declared.Face.{Face}
 use Rattle.faces.specs.declared.Values.{Values}
+use Rattle.faces.specs.declared.Tally.{Tally}
 use Rattle.faces.specs.Faces.{widthOf, facesIn, below, degenerate as degenerates, countedBy}
 use Rattle.faces.proofs.Laws.{ended, length-facesIn, below-none, count-none, scan-below, scan-whole}
 use Rattle.faces.proofs.Blocks.{tally-few, block-fits, block-long, below-block, past-block, counted-block}
@@ -90,8 +91,19 @@ module _ (m : tie.After-tally-of Inv-loop μ-loop) where
       tally-few (widthOf (a .code)) (a .vertices) (b .block-of .result)
       (take (l .loop .at + b .block-of .result * (3 * l .before .width-of .result) - l .loop .at) (drop (l .loop .at) (a .bytes .now))) (m .tally-of .ensures)
 
-scan-each-requires : tie.Need-scan-each-requires Inv-loop μ-loop
-scan-each-requires c κs = omega arith
+scan-bad-requires : tie.Need-scan-bad-requires Inv-loop μ-loop
+scan-bad-requires c κs =
+    let m = c .before in
+    let b = m .before .before in
+    let l = b .before .before in
+    let a = l .before .before .before .args in (
+      (
+        omega (arith, b .block-of .ensures),
+        block-long (a .vertices) (a .bytes .now) (l .loop .at) (b .block-of .result) (l .loop .left) (omega arith) (l .before .width-of .ensures .0) (l .loop .inv .2),
+        omega (arith, l .loop .inv .0),
+      ),
+      sym (ap (λ (t : Tally). t .outside) (m .tally-of .ensures)) ∙ c .if1 .taken,
+    )
 
 returns : tie.Need-returns Inv-loop μ-loop
 returns c =
@@ -99,7 +111,7 @@ returns c =
     let b = m .before .before in
     let l = b .before .before in
     let a = l .before .before .before .args in
-    c .scan-each .ensures
+    c .scan-bad .ensures
     ∙ past-block (a .vertices) (a .bytes .now) (l .loop .at) (b .block-of .result) (l .loop .left) (omega arith) (l .before .width-of .ensures .0) (m .tally-of .ensures)
     (l .loop .done) (c .before .if1 .taken) (all m)
     ∙ ap {A = Values} (λ r. countedBy r (all m)) (l .loop .inv .3)
@@ -185,7 +197,7 @@ scan-blocks-spec =
     part-block-start
     part-block-end
     tally-of-requires
-    scan-each-requires
+    scan-bad-requires
     returns
     sub-proper
     cast-proper

@@ -25,16 +25,16 @@ module _ (c : tie.Joined1) where
       ⊎-elim (λ w. skim-none s k (c .if1 .n) (w .0 .taken) (w .1)) (λ w. skim-all s k (c .if1 .n) (w .0 .left) (w .1)) (c .if1 .came)
 
 judge-first-requires : tie.Need-judge-first-requires
-judge-first-requires c κs = (few (c .before .before .before), omega arith, omega arith, omega arith)
+judge-first-requires c κs = (few (c .before .before .before .before), omega arith, omega arith, omega arith, omega arith)
 
 returns : tie.Need-returns
 returns c =
-    let j = c .before .before .before .before in
+    let j = c .before .before .before .before .before in
     let a = start j .args in
     let x = c .judge-first .ensures in
     let noted = noted-for (taken j) (x .1 .0) in (
       x .0 ∙ ap (λ l. judgedByLine (a .kind) (a .wanted) (a .lines .now) (a .body .now) l (a .bones)) (taken j),
-      (noted .starts, (noted .numbers, (noted .marks, x .1 .1))),
+      (noted .starts, (noted .numbers, (noted .keys, (noted .marks, x .1 .1)))),
     )
 
 pub judge-spec : {M : Type 1} → statement M

@@ -18,7 +18,7 @@ use Rattle.judge.proofs.judge_first.Statement.{statement}
 use Rattle.judge.proofs.judge_first.Tie as tie
 
 typed-requires : tie.Need-typed-requires
-typed-requires c κs = let p = c .before .before .before .before .before .before .before .pre in (p .0, omega (arith, p .1), omega (arith, p .2), omega (arith, p .3))
+typed-requires c κs = let p = c .before .before .before .before .before .before .before .before .before .pre in (p .0, omega (arith, p .1), omega (arith, p .2), omega (arith, p .3), omega (arith, p .4))
 
 refused-node-requires : tie.Need-refused-node-requires
 refused-node-requires c κs = search needs
@@ -32,10 +32,13 @@ same-length-2 c = search needs
 same-length-3 : tie.Need-same-length-3
 same-length-3 c = search needs
 
+same-length-4 : tie.Need-same-length-4
+same-length-4 c = search needs
+
 -- after 13: the node, and what was noted
 module _ (t : tie.After-typed) where
   abbrev start : tie.Start
-  start = t .before .before .before .before .before .before .before .before
+  start = t .before .before .before .before .before .before .before .before .before .before
 
   abbrev rows : List (List ℕ)
   rows = start .args .lines .now
@@ -70,7 +73,7 @@ module _ (t : tie.After-typed) where
 
 returns : tie.Need-returns
 returns c =
-    let t = c .before .before .before .before .before .before .before .before .before .before in
+    let t = c .before .before .before .before .before .before .before .before .before .before .before .before in
     let a = start t .args in (
       c .refused-node .ensures ∙ mistyped (a .kind) (a .wanted) (rows t) (body t) (all t) (a .bones) (t .typed .ensures .0) (c .before .if1 .taken),
       (t .typed .ensures .1 .0, refused-bounded _ _ (length (body t)) (t .typed .ensures .1 .1 .1) (c .refused-node .ensures)),
@@ -80,7 +83,7 @@ slice-reshare-prefix-lacks : tie.Need-slice-reshare-prefix-lacks
 slice-reshare-prefix-lacks c = search needs
 
 slice-aggregate-lacks : tie.Need-slice-aggregate-lacks
-slice-aggregate-lacks c = let e = c .before in numbers-many (e .before .before .before .before .before .before .before .before .before) (e .if1 .left)
+slice-aggregate-lacks c = let e = c .before in numbers-many (e .before .before .before .before .before .before .before .before .before .before .before) (e .if1 .left)
 
 lacks-requires : tie.Need-lacks-requires
 lacks-requires c κs = search needs
@@ -88,14 +91,17 @@ lacks-requires c κs = search needs
 refused-node-requires-2 : tie.Need-refused-node-requires-2
 refused-node-requires-2 c κs = search needs
 
-same-length-4 : tie.Need-same-length-4
-same-length-4 c = search needs
-
 same-length-5 : tie.Need-same-length-5
 same-length-5 c = search needs
 
 same-length-6 : tie.Need-same-length-6
 same-length-6 c = search needs
+
+same-length-7 : tie.Need-same-length-7
+same-length-7 c = search needs
+
+same-length-8 : tie.Need-same-length-8
+same-length-8 c = search needs
 
 -- 14, of all properties
 module _ (l : tie.After-lacks) where
@@ -103,7 +109,7 @@ module _ (l : tie.After-lacks) where
   passed = l .before .before
 
   abbrev typed-at : tie.After-typed
-  typed-at = passed .before .before .before .before .before .before .before .before .before
+  typed-at = passed .before .before .before .before .before .before .before .before .before .before .before
 
   lacked : let t = typed-at in let a = start t .args in lacksByLine (a .kind) (a .wanted) (requiredAmong (rows t) (numbers t)) (numbers t) ≡ l .lacks .result
   lacked =
@@ -147,14 +153,17 @@ valued-requires c κs =
       ),
     )
 
-same-length-7 : tie.Need-same-length-7
-same-length-7 c = search needs
-
-same-length-8 : tie.Need-same-length-8
-same-length-8 c = search needs
-
 same-length-9 : tie.Need-same-length-9
 same-length-9 c = search needs
+
+same-length-10 : tie.Need-same-length-10
+same-length-10 c = search needs
+
+same-length-11 : tie.Need-same-length-11
+same-length-11 c = search needs
+
+same-length-12 : tie.Need-same-length-12
+same-length-12 c = search needs
 
 returns-3 : tie.Need-returns-3
 returns-3 c =
@@ -179,21 +188,24 @@ judge-first-spec =
     same-length
     same-length-2
     same-length-3
+    same-length-4
     returns
     slice-reshare-prefix-lacks
     slice-aggregate-lacks
     lacks-requires
     refused-node-requires-2
-    same-length-4
     same-length-5
     same-length-6
+    same-length-7
+    same-length-8
     returns-2
     slice-reshare-prefix-valued
     slice-aggregate-valued
     slice-reshare-prefix-valued-2
     slice-aggregate-valued-2
     valued-requires
-    same-length-7
-    same-length-8
     same-length-9
+    same-length-10
+    same-length-11
+    same-length-12
     returns-3)

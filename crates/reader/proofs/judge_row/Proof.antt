@@ -48,7 +48,7 @@ judge-requires c κs = search needs
 -- the node, its lines, and what its judgement is
 module _ (j : tie.After-judge) where
   abbrev counted : tie.After-count-at
-  counted = j .before .before .before .before
+  counted = j .before .before .before .before .before
 
   abbrev wanted : tie.After-required-of
   wanted = counted .before .before
@@ -98,7 +98,7 @@ module _ (j : tie.After-judge) where
       ∙ ap (judgedWith (start .args .file .now) (start .args .row)) (counted .count-at .ensures)
 
   bounded : Bounded (j .judge .result) (length body)
-  bounded = subst (λ l. Bounded (j .judge .result) (length l)) (bodied .body-of .ensures) (j .judge .ensures .1 .1 .1 .1)
+  bounded = subst (λ l. Bounded (j .judge .result) (length l)) (bodied .body-of .ensures) (j .judge .ensures .1 .1 .1 .1 .1)
 
   abbrev starts : List ℕ
   starts = j .judge .last .1 .1 .1 .1 .1 .1 .0

@@ -21,7 +21,7 @@ use Rattle.reader.proofs.rules_of.Statement.{statement}
 use Rattle.reader.proofs.rules_of.Tie as tie
 
 abbrev Inv-loop : tie.InvT-loop
-Inv-loop file table nodes counts materials meshes bones files lines starts₀ numbers₀ marks₀ linked₀ faces₀ degenerate₀ links₀ unknown₀ from₀ starts numbers marks linked faces degenerate links unknown from =
+Inv-loop file table nodes counts materials meshes bones files lines starts₀ numbers₀ keys₀ marks₀ linked₀ faces₀ degenerate₀ links₀ unknown₀ from₀ starts numbers keys marks linked faces degenerate links unknown from =
     (from ≤ nodes) × (faces ≤ from * 274877906944) × (degenerate ≤ from * 274877906944) × (links ≤ from * 64)
     × (onTop faces degenerate links (ruled file (rowsAt table 0 nodes) (rest table nodes from))
     ≡ ruled file (rowsAt table 0 nodes) (rowsAt table 0 nodes))
@@ -33,7 +33,7 @@ Inv-loop file table nodes counts materials meshes bones files lines starts₀ nu
     × (unknown + ownUnknown (rest table nodes from) ≡ ownUnknown (rowsAt table 0 nodes))
 
 abbrev μ-loop : tie.MeasureT-loop
-μ-loop file table nodes counts materials meshes bones files lines starts₀ numbers₀ marks₀ linked₀ faces₀ degenerate₀ links₀ unknown₀ from₀ starts numbers marks linked faces degenerate links unknown from = nodes - from
+μ-loop file table nodes counts materials meshes bones files lines starts₀ numbers₀ keys₀ marks₀ linked₀ faces₀ degenerate₀ links₀ unknown₀ from₀ starts numbers keys marks linked faces degenerate links unknown from = nodes - from
 
 table-requires : tie.Need-table-requires Inv-loop μ-loop
 table-requires c κs = search needs
@@ -108,7 +108,7 @@ row-at-requires c κs = search needs
 -- where a row is judged
 module _ (m : tie.After-marks Inv-loop μ-loop) where
   abbrev row : tie.After-row-at Inv-loop μ-loop
-  row = m .before .before .before
+  row = m .before .before .before .before
 
   abbrev skipped : tie.After-skip Inv-loop μ-loop
   skipped = row .before .before

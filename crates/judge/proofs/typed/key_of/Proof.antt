@@ -38,11 +38,11 @@ part-u64-at-end c = omega (arith, c .loop-test .taken)
 u64-at-requires : tie.Need-u64-at-requires Inv-loop μ-loop
 u64-at-requires c κs = search needs
 
+thrice-requires : tie.Need-thrice-requires Inv-loop μ-loop
+thrice-requires c κs = search needs
+
 wrapping-add-u64-requires : tie.Need-wrapping-add-u64-requires Inv-loop μ-loop
 wrapping-add-u64-requires c κs = search needs
-
-wrapping-add-u64-requires-2 : tie.Need-wrapping-add-u64-requires-2 Inv-loop μ-loop
-wrapping-add-u64-requires-2 c κs = search needs
 
 loop-less : tie.Need-loop-less Inv-loop μ-loop
 loop-less c = omega (arith, c .before .before .before .before .loop-test .taken)
@@ -56,15 +56,15 @@ loop-again c =
       omega (arith, i .loop-test .taken),
       key-step name (l .loop .key) (l .loop .i) (omega (arith, i .loop-test .taken))
           (u .u64-at .ensures ∙ numberAt-part 8 (l .loop .i + 8 - l .loop .i) name (l .loop .i) 0 (omega arith) ∙ ap (numberAt 8 name) (omega arith))
-          (c .before .wrapping-add-u64 .ensures) (c .wrapping-add-u642 .ensures)
+          (c .before .thrice .ensures) (c .wrapping-add-u64 .ensures)
           ∙ l .loop .inv .1,
     )
 
-wrapping-add-u64-requires-3 : tie.Need-wrapping-add-u64-requires-3 Inv-loop μ-loop
-wrapping-add-u64-requires-3 c κs = search needs
+thrice-requires-2 : tie.Need-thrice-requires-2 Inv-loop μ-loop
+thrice-requires-2 c κs = search needs
 
-wrapping-add-u64-requires-4 : tie.Need-wrapping-add-u64-requires-4 Inv-loop μ-loop
-wrapping-add-u64-requires-4 c κs = search needs
+wrapping-add-u64-requires-2 : tie.Need-wrapping-add-u64-requires-2 Inv-loop μ-loop
+wrapping-add-u64-requires-2 c κs = search needs
 
 returns : tie.Need-returns Inv-loop μ-loop
 returns c =
@@ -72,7 +72,7 @@ returns c =
     let l = o .before in
     let s = l .before .before in
     key-done (s .args .name .now) (l .loop .key) (l .loop .i) (omega (arith, o .loop-test .left)) (l .loop .inv .1) (s .pre)
-    (c .before .wrapping-add-u643 .ensures) (c .wrapping-add-u644 .ensures)
+    (c .before .thrice2 .ensures) (c .wrapping-add-u642 .ensures)
 
 pub key-of-spec : {M : Type 1} → statement M
 key-of-spec =
@@ -87,10 +87,10 @@ key-of-spec =
     part-u64-at-start
     part-u64-at-end
     u64-at-requires
+    thrice-requires
     wrapping-add-u64-requires
-    wrapping-add-u64-requires-2
     loop-less
     loop-again
-    wrapping-add-u64-requires-3
-    wrapping-add-u64-requires-4
+    thrice-requires-2
+    wrapping-add-u64-requires-2
     returns)
