@@ -1,4 +1,6 @@
 // Little-endian numbers, and bytes, at any place of any bytes. A byte past the end reads as zero, and is not written.
+#![tactic(auto)]
+
 ghost use Rattle.std.specs.Prelude.{◌≡◌, ◌≤◌, ◌<◌, min, length, take};
 ghost use Rattle.std.proofs.lemmas.List.Edits.{sets};
 ghost use Rattle.le.specs.Le.{number_at, le};

@@ -1,0 +1,19 @@
+-- `le::put_bytes`: nothing past the end, else as many as have room into the part that starts at the place.
+use native.Mathlib.Omega.{arith}
+use mathlib.Core.Path.{sym}
+use mathlib.Core.Logic.{⊎_elim, inl, inr}
+use borrow.Author.Rules.{rules}
+use Rattle.le.proofs.Puts.{put_part}
+use Rattle.base.proofs.Stores.{sets_past}
+use Rattle.le.proofs.put_bytes.Goals as goal
+
+pub returns-then-out-at : goal.returns-then-out-at
+returns-then-out-at c = let a = c.args in sym (sets_past a.out.now a.at a.bytes.now c.if-out-at.true)
+
+pub copy_to-requires : goal.copy_to-requires
+copy_to-requires c = ⊎_elim (λ w. (omega (arith, w.1), omega (arith, w.1, w.0.taken))) (λ w. (omega (arith, w.1, w.0.left), omega (arith, w.1))) c.if-bytes-rest.branch
+
+pub returns : goal.returns
+returns c =
+    let a = c.args in
+    put_part a.out.now a.at a.bytes.now c.if-bytes-rest.n (⊎_elim (λ w. inl w.1) (λ w. inr w.1) c.if-bytes-rest.branch) c.copy_to.ensures
