@@ -1,7 +1,8 @@
 // What every part uses: a refusal, and document 01's limits.
+#![tactic(auto)]
 
 // A refusal: its number, 0 for none, and its place.
-#[derive(Drop)]
+#[derive(Clone, Copy)]
 pub struct Refusal {
     pub number: u32,
     pub place: usize,

@@ -1,4 +1,6 @@
 // The properties of a body: a given number of them from its start on, where each starts, and the first of a name.
+#![tactic(auto)]
+
 ghost use Rattle.std.specs.Prelude.{◌≡◌, ◌≤◌, ◌<◌, length};
 ghost use Rattle.base.specs.Limits.{most_properties};
 ghost use Rattle.body.specs.Body.{pass, properties, sought, sought_numbers, exactly, end_of, index_of, next_by, first_named};
@@ -10,7 +12,7 @@ fn wide(x: u16) -> usize
 }
 
 // How a walk over properties ended: with number 0 just past the last, with another refused at a property.
-#[derive(Drop)]
+#[derive(Clone, Copy)]
 pub struct Passed {
     pub number: u32,
     pub at: usize,
@@ -18,7 +20,7 @@ pub struct Passed {
 
 // How a search among properties ended: at the first that has the name, with where its data starts and ends and how many come
 // after it; past the last, where none has it; or refused at a property.
-#[derive(Drop)]
+#[derive(Clone, Copy)]
 pub enum Sought {
     Found { start: usize, end: usize, left: u32 },
     Nowhere(usize),
@@ -86,7 +88,7 @@ pub fn exact(body: &[u8], count: u32) -> bool
 }
 
 // Where each property that was passed starts, and then where the walk ended; zeros after that.
-#[derive(Drop)]
+#[derive(Clone, Copy)]
 pub struct Index {
     pub number: u32,
     pub count: usize,

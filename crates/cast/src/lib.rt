@@ -1,4 +1,6 @@
 // The exported functions. include/cast.h declares them.
+#![tactic(auto)]
+
 ghost use Rattle.std.specs.Prelude.{◌≡◌, ◌≤◌, length};
 ghost use Rattle.cast.specs.Cast.{answer_of, found_of, written_as};
 ghost use Rattle.lookup.specs.Lookup.{lookup_of};
@@ -7,7 +9,7 @@ ghost use Rattle.removal.specs.Trimmer.{trimmed_of, trimmed_output, trimmed_tabl
 ghost use Rattle.writer.specs.Writer.{written_of, output_after};
 
 #[repr(C)]
-#[derive(Drop)]
+#[derive(Clone, Copy)]
 pub struct CastReading {
     pub number: u32,
     pub place: u32,
@@ -63,7 +65,7 @@ pub extern "C" fn cast_read(file: &[u8], table: &mut [u32]) -> CastReading
 }
 
 #[repr(C)]
-#[derive(Drop)]
+#[derive(Clone, Copy)]
 pub struct CastFound {
     pub number: u32,
     pub place: u32,
@@ -96,7 +98,7 @@ pub extern "C" fn cast_lookup(bytes: &[u8], table: &[u32], row: usize, name: &[u
 }
 
 #[repr(C)]
-#[derive(Drop)]
+#[derive(Clone, Copy)]
 pub struct CastWritten {
     pub number: u32,
     pub place: u32,

@@ -1,4 +1,6 @@
 // Prints the listing of the file on standard input.
+#![tactic(auto)]
+
 fn main() {
     let mut input = [0u8; 32769];
     let mut out = [0u8; 98304];

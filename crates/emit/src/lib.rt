@@ -1,5 +1,7 @@
 // Emitting a plan: the bytes of a file from rows and a source, in a lent output. Sizes, the root count and the length are
 // computed from the rows.
+#![tactic(auto)]
+
 ghost use Rattle.std.specs.Prelude.{◌≡◌, ℕ, ◌+◌, ◌≤◌, ◌<◌, length, get_or};
 ghost use Rattle.std.proofs.lemmas.List.Edits.{sets};
 ghost use Rattle.base.specs.Limits.{most_rows};
@@ -13,7 +15,7 @@ ghost use Rattle.emit.specs.Private.{node_bytes, Sized, MeasuresRows};
 const MOST_BYTES: u64 = base::MOST_BYTES as u64;
 
 // Number 0 and the file's length, or a refusal's number and place; all other numbers are 0.
-#[derive(Drop)]
+#[derive(Clone, Copy)]
 pub struct Written {
     pub number: u32,
     pub place: u32,
@@ -32,7 +34,7 @@ pub fn refused_writing(number: u32, place: u32) -> Written
 }
 
 // The Root rows, and the length of the file; or that it is over 16,777,216.
-#[derive(Drop)]
+#[derive(Clone, Copy)]
 struct Measured {
     over: bool,
     roots: u32,

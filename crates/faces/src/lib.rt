@@ -1,4 +1,6 @@
 // The faces of a mesh: whether each of their values is a vertex, how many faces there are, and how many are degenerate.
+#![tactic(auto)]
+
 ghost use Rattle.std.specs.Prelude.{◌≡◌, ◌+◌, ◌*◌, ◌≤◌, ◌<◌, true, false, cond, ◌||◌, [], length, leb, ltb};
 ghost use Rattle.le.specs.Le.{number_at};
 ghost use Rattle.faces.specs.Private.{any_outside, face_at, is_outside, with_face, tally_of, scan_from};
@@ -6,11 +8,11 @@ ghost use Rattle.faces.specs.Faces.{width_of, faces_in, is_degenerate, counted_b
 ghost use Rattle.faces.specs.declared.Values.TheVariants.{Below, NotBelow};
 
 // A number of faces. It has a type of its own, so that own bytes are never added to it.
-#[derive(Drop)]
+#[derive(Clone, Copy)]
 pub struct Faces(pub u64);
 
 // The three values of a face.
-#[derive(Drop)]
+#[derive(Clone, Copy)]
 pub struct Face {
     pub a: u32,
     pub b: u32,
@@ -18,14 +20,14 @@ pub struct Face {
 }
 
 // Each value is below the limit; or the first that is not.
-#[derive(Drop)]
+#[derive(Clone, Copy)]
 pub enum Values {
     Below,
     NotBelow(u64),
 }
 
 // What a pass over faces gives: with a value that is past the limit, no faces.
-#[derive(Drop)]
+#[derive(Clone, Copy)]
 pub struct Scanned {
     pub values: Values,
     pub faces: Faces,
@@ -123,7 +125,7 @@ fn scan_each(bytes: &[u8], code: u16, count: u32, vertices: u32, start: u64) -> 
 }
 
 // Whether a value of some faces is past the limit, and how many of them are degenerate.
-#[derive(Drop)]
+#[derive(Clone, Copy)]
 struct Tally {
     outside: bool,
     degenerate: u32,

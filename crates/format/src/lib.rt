@@ -1,5 +1,7 @@
 // The theory of the format: definitions and laws of forests of nodes, their bytes and their rows (specs/, proofs/); and a
 // node's charge.
+#![tactic(auto)]
+
 ghost use Rattle.std.specs.Prelude.{◌≡◌, ◌<◌};
 ghost use Rattle.format.specs.Rows.{own_bytes, body_of, outside};
 
@@ -7,7 +9,7 @@ ghost use Rattle.format.specs.Rows.{own_bytes, body_of, outside};
 pub const FIRST_FOUR: u32 = 0x74736163;
 
 // A node's own bytes. They have a type of their own, so that faces are never added to them.
-#[derive(Drop)]
+#[derive(Clone, Copy)]
 pub struct OwnBytes(pub u64);
 
 // The own bytes of the node in a row. A body that ends before its start has none.

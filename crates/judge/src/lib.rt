@@ -1,4 +1,6 @@
 // The rules of properties on one node: refusals 13, 14 and 15, the node's faces and its links.
+#![tactic(auto)]
+
 ghost use Rattle.std.specs.Prelude.{◌≡◌, ◌≤◌, [], map, length};
 ghost use Rattle.std.proofs.lemmas.List.Edits.{sets};
 ghost use Rattle.base.specs.Limits.{most_properties};
@@ -24,7 +26,7 @@ fn has(body: &[u8], starts: &[usize], name: &[u8]) -> bool
 
 // What a node's rules give: number 0, its faces, how many of them are degenerate, and its links; or a refusal's number and
 // its place as an offset from the node's header.
-#[derive(Drop)]
+#[derive(Clone, Copy)]
 pub struct Judged {
     pub number: u32,
     pub place: usize,

@@ -109,7 +109,7 @@ fn wide(x: u32) -> usize
 }
 
 // What 13 says of some properties, and how many of those before have required lines.
-#[derive(Drop)]
+#[derive(Clone, Copy)]
 pub(crate) struct Verdict {
     pub refusal: base::Refusal,
     pub required: usize,

@@ -20,7 +20,7 @@ const V4: u32 = props::V4 as u32;
 
 // What a property is held against, in numbers: a mesh's number of vertices, and mi times that; the lengths of vi and of kb, and
 // the types that kp wants; and the number of Bones beside the node.
-#[derive(Drop)]
+#[derive(Clone, Copy)]
 struct Measures {
     vertices: u32,
     weights: u64,
@@ -39,7 +39,7 @@ fn value_at(body: &[u8], at: usize, code: u16) -> u32
 }
 
 // The length and the first value of the property of a line; 0 where there is none.
-#[derive(Drop)]
+#[derive(Clone, Copy)]
 struct Read {
     length: u32,
     value: u32,
@@ -157,7 +157,7 @@ fn measures_of(kind: u32, body: &[u8], starts: &[usize], numbers: &[usize], bone
 }
 
 // What a property breaks: nothing; a rule of its length, its string or its type; or its first bad element.
-#[derive(Drop)]
+#[derive(Clone, Copy)]
 pub enum Fault {
     Right,
     Whole,
@@ -225,7 +225,7 @@ fn fault_of(e: rules::Entry, body: &[u8], at: usize, m: Measures) -> Fault
 }
 
 // What a property breaks, and where it breaks nothing how many faces and degenerate ones it counts.
-#[derive(Drop)]
+#[derive(Clone, Copy)]
 struct Kept {
     fault: Fault,
     faces: u64,

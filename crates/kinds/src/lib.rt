@@ -1,4 +1,6 @@
 // The kinds of nodes: which are known, and which may stand under which.
+#![tactic(auto)]
+
 ghost use Rattle.std.specs.Prelude.{◌≡◌};
 ghost use Rattle.kinds.specs.Kinds.{parents_of, is_listed, is_known, may_stand, standing_of};
 ghost use Rattle.kinds.specs.Private.{is_none, is_kind, has_known, stands_by};
@@ -37,7 +39,7 @@ pub const INSTANCE: u32 = 0x74736E69;
 pub const METADATA: u32 = 0x6174656D;
 
 // The parents of a kind: none, at the top; one kind; either of two; or the kind is unknown.
-#[derive(Drop)]
+#[derive(Clone, Copy)]
 enum Parents {
     Top,
     Under(u32),
@@ -78,7 +80,7 @@ pub fn known(kind: u32) -> bool
 }
 
 // The kind of the node around a node, or that there is none: the node is at the top.
-#[derive(Drop)]
+#[derive(Clone, Copy)]
 pub enum Parent {
     None,
     Kind(u32),
@@ -131,7 +133,7 @@ pub fn may_stand(parent: Parent, kind: u32) -> bool
 }
 
 // How a node stands in its place: it may not, or it may, of a known kind or an unknown one.
-#[derive(Drop)]
+#[derive(Clone, Copy)]
 pub enum Standing {
     Barred,
     Known,

@@ -1,4 +1,6 @@
 // The listing of a file: its lines as text in a lent buffer, one at a time or all of them.
+#![tactic(auto)]
+
 ghost use Rattle.std.specs.Prelude.{◌≡◌, ◌++◌, ◌+◌, ◌*◌, ◌≤◌, ◌<◌, length, take};
 ghost use Rattle.std.proofs.lemmas.List.Edits.{sets};
 ghost use Rattle.text.specs.Text.{place_after, with_text, decimal};
@@ -11,7 +13,7 @@ ghost use Rattle.listing.specs.Private.{Puts, PutsWhole};
 ghost use Rattle.listing.specs.Listing.{parent_text, newline, text_of, node_lines, foot_lines, file_lines, printed, listing_of};
 
 // A line of the listing.
-#[derive(Drop)]
+#[derive(Clone, Copy)]
 pub enum TextLine {
     // The first line of an accepted file: its flags, nodes and bytes.
     Summary {

@@ -1,9 +1,11 @@
 // A property by name: in any bytes, by any table and any row.
+#![tactic(auto)]
+
 ghost use Rattle.std.specs.Prelude.{◌≡◌, length};
 ghost use Rattle.lookup.specs.Lookup.{in_body, lookup_of, FoundWithin, number_of, part_of};
 
 // Where a property's data lies; or the number of the refusal.
-#[derive(Drop)]
+#[derive(Clone, Copy)]
 pub enum Found {
     At { start: usize, end: usize },
     Refused(u32),

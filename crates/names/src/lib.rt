@@ -1,4 +1,6 @@
 // Names of properties: which bytes may be one, whether two are the same, and the number in a name such as `c12`.
+#![tactic(auto)]
+
 ghost use Rattle.std.specs.Prelude.{◌≡◌, ◌+◌, ◌≤◌, length, drop};
 ghost use Rattle.names.specs.Names.{size_ok, byte_ok, bytes_ok, same, read_digits, number, number_after, numeral_numbers};
 
@@ -108,7 +110,7 @@ pub fn same(a: &[u8], b: &[u8]) -> bool
 }
 
 // What a name with a pattern `%d` is: one with this number, or another name.
-#[derive(Drop)]
+#[derive(Clone, Copy)]
 pub enum Numeral {
     Is(u32),
     Not,

@@ -1,4 +1,6 @@
 // Judging a plan: refusals 21 to 24 of its rows over the source's bytes.
+#![tactic(auto)]
+
 ghost use Rattle.std.specs.Prelude.{◌≡◌, ◌≤◌, ◌<◌, min, length};
 ghost use Rattle.base.specs.Limits.{most_rows};
 ghost use Rattle.kinds.specs.Kinds.{is_known};

@@ -1,4 +1,6 @@
 // One property at a time: its type, its name, its data, and the position just past it.
+#![tactic(auto)]
+
 ghost use Rattle.std.specs.Prelude.{◌≡◌, ◌+◌, ◌≤◌, ◌<◌, leb, length, drop};
 ghost use Rattle.props.specs.Types.{element_size, no_such, size_numbers};
 ghost use Rattle.props.specs.Step.{to_zero, data_size, step_at, header_at, code_at, length_at, name_at, start_at, data_at, step_numbers};
@@ -26,7 +28,7 @@ pub const V4: u16 = 0x7634; // v4
 pub const STRING: u16 = 0x73; // s
 
 // The size of one element, by type code. A string's size is found in its data.
-#[derive(Drop)]
+#[derive(Clone, Copy)]
 pub enum Size {
     Bytes(u32),
     Text,
@@ -111,7 +113,7 @@ fn to_zero(bytes: &[u8]) -> usize
 }
 
 // How many bytes the data takes, or what it is refused with.
-#[derive(Drop)]
+#[derive(Clone, Copy)]
 enum Extent {
     Takes(usize),
     Refused(u32),
@@ -157,7 +159,7 @@ pub fn data_size(code: u16, length: u32, rest: &[u8]) -> usize
 }
 
 // A property's header.
-#[derive(Drop)]
+#[derive(Clone, Copy)]
 pub struct PropertyHeader {
     pub code: u16,
     pub size: u16,
@@ -203,21 +205,21 @@ fn name_out(code: u16) -> u32
 }
 
 // A position in a body.
-#[derive(Drop)]
+#[derive(Clone, Copy)]
 pub struct Cursor {
     pub at: usize,
 }
 
 // Where the name and the data of a property start. The name ends where the data starts, the data where the next
 // property does.
-#[derive(Drop)]
+#[derive(Clone, Copy)]
 pub struct Offsets {
     pub name: usize,
     pub start: usize,
 }
 
 // Past a property; or the refusal of the property at the cursor.
-#[derive(Drop)]
+#[derive(Clone, Copy)]
 pub enum Step {
     Past { offsets: Offsets, next: Cursor },
     Refused(u32),

@@ -1,4 +1,6 @@
 // The reader: refusals 1 to 17 in order, the rows in the lent table, and the charges.
+#![tactic(auto)]
+
 ghost use Rattle.std.specs.Prelude.{◌≡◌, true, ◌+◌, ◌^◌, ◌≤◌, ◌<◌, [], map, length, take, get_or};
 ghost use Rattle.base.specs.Limits.{most_bytes, most_properties, most_rows};
 ghost use Rattle.kinds.specs.Kinds.{is_known};
@@ -19,7 +21,7 @@ mod unjudged;
 
 // What is answered of an accepted file: its nodes and flags; the own bytes of its known and of its unknown nodes; its
 // faces, and how many of them are degenerate; its links.
-#[derive(Drop)]
+#[derive(Clone, Copy)]
 pub struct Account {
     pub nodes: u32,
     pub flags: u32,
@@ -31,7 +33,7 @@ pub struct Account {
 }
 
 // The answer of a reading.
-#[derive(Drop)]
+#[derive(Clone, Copy)]
 pub enum Reading {
     Accepted(Account),
     Refused { number: u32, place: u32 },
@@ -78,7 +80,7 @@ fn link_noted<'a>(
 }
 
 // What a row gives: the judgement of its node, and the links so far, in which the first that fails is kept.
-#[derive(Drop)]
+#[derive(Clone, Copy)]
 struct OfRow {
     judged: judge::Judged,
     linked: links::Linked,
@@ -149,7 +151,7 @@ fn judge_row<'a>(
 }
 
 // What the rules of some rows give: number 0, or a refusal's number and place; and what was counted before it.
-#[derive(Drop)]
+#[derive(Clone, Copy)]
 struct Ruled {
     number: u32,
     place: usize,
@@ -160,7 +162,7 @@ struct Ruled {
 
 // What some rows give: their rules; their links, those that end before the last row being those of the first that fails; and the own
 // bytes of the unknown nodes.
-#[derive(Drop)]
+#[derive(Clone, Copy)]
 struct Judgement {
     rules: Ruled,
     links: links::Linked,

@@ -31,7 +31,7 @@ fn unknown_bytes(row: table::Row, known: bool) -> u64
 }
 
 // A row, and the own bytes of the unknown nodes before it.
-#[derive(Drop)]
+#[derive(Clone, Copy)]
 pub(crate) struct Next {
     pub row: usize,
     pub unknown: u64,

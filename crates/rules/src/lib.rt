@@ -1,4 +1,6 @@
 // The rules of properties: one constant table, a line for each kind and name.
+#![tactic(auto)]
+
 ghost use Rattle.std.specs.Prelude.{◌≡◌, ◌+◌, ◌≤◌, map, length, get_or};
 ghost use Rattle.names.specs.Names.{same, number_after};
 ghost use Rattle.rules.specs.Table.{lines, free};
@@ -13,7 +15,7 @@ mod lines;
 pub type Columns = [u32; 12];
 
 // A line in numbers: its name's size and letters, four to a number, and what `held` and `lines` say of the others.
-#[derive(Drop)]
+#[derive(Clone, Copy)]
 pub struct Entry {
     pub kind: u32,
     pub size: u32,
@@ -50,7 +52,7 @@ fn entry_from(row: Columns) -> Entry
 }
 
 // Some letters, and zeros after them.
-#[derive(Drop)]
+#[derive(Clone, Copy)]
 pub struct Letters {
     pub size: usize,
     pub bytes: [u8; 12],
@@ -183,7 +185,7 @@ pub fn line_in(lines: &[Columns], i: usize) -> Entry
 }
 
 // Lines of the table, from one place up to another.
-#[derive(Drop)]
+#[derive(Clone, Copy)]
 struct Span {
     from: usize,
     to: usize,

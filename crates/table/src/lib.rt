@@ -1,4 +1,6 @@
 // The table: rows of eight numbers in a lent slice. No other crate knows where a row's numbers lie.
+#![tactic(auto)]
+
 ghost use Rattle.std.specs.Prelude.{◌≡◌, ◌+◌, ◌*◌, ◌≤◌, min, length, get_or};
 ghost use Rattle.std.proofs.lemmas.List.Edits.{sets};
 ghost use Rattle.base.specs.Limits.{most_rows};
@@ -7,7 +9,7 @@ ghost use Rattle.table.specs.Counts.{is_counted, counts_under};
 
 // A node: its kind, the halves of its hash, its parent's row (0xFFFFFFFF for none), where its body starts and ends, its
 // property count and its child count.
-#[derive(Drop)]
+#[derive(Clone, Copy)]
 pub struct Row {
     pub kind: u32,
     pub low: u32,
@@ -159,7 +161,7 @@ pub fn is_plan(numbers: &[u32]) -> bool
 }
 
 // Which rows are counted: all, or those of a kind.
-#[derive(Drop)]
+#[derive(Clone, Copy)]
 pub enum Which {
     All,
     OfKind(u32),

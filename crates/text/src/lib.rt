@@ -1,4 +1,6 @@
 // Text in a lent buffer: letters, and numbers in decimal and in hexadecimal. What does not have room is not put.
+#![tactic(auto)]
+
 ghost use Rattle.std.specs.Prelude.{◌≡◌, ◌++◌, ◌+◌, ◌≤◌, ◌<◌, length};
 ghost use Rattle.std.proofs.lemmas.List.Edits.{sets};
 ghost use Rattle.text.specs.Text.{with_text, place_after, digits, decimal, hexadecimal};

@@ -1,4 +1,6 @@
 // The trimmer: a file without one node of an unknown kind, or a refusal: the reader's, or 30 to 32.
+#![tactic(auto)]
+
 ghost use Rattle.std.specs.Prelude.{◌≡◌, true, ◌+◌, ◌-◌, ◌≤◌, ◌<◌, length};
 ghost use Rattle.base.specs.Limits.{most_bytes, most_rows};
 ghost use Rattle.table.specs.Table.{rows_at, put_rows, has_room, cleared, filled};

@@ -36,6 +36,8 @@ node_faces_lem : (kind : ℕ) (s starts : List ℕ) (ps : List Property) → Des
     → length (node_faces (lines_of kind) s starts) ≤ length (flat_map property_bytes ps)
 unfolding node_faces flat_map
 node_faces_lem kind s [] [] none h = omega arith
+node_faces_lem kind s [] (p ∷ ps) x4 h = elim x4 [ ]
+node_faces_lem kind s (at ∷ starts) [] x4 h = elim x4 [ ]
 node_faces_lem kind s (at ∷ starts) (p ∷ ps) (one here more) h =
     let a = property_faces kind s here h.0 in
     let b = node_faces_lem kind s starts ps more h.1 in

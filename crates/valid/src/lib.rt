@@ -1,1 +1,2 @@
 // What makes a file acceptable, as propositions: definitions (specs/) and laws (proofs/), and no code.
+#![tactic(auto)]

@@ -3,7 +3,7 @@ ghost use Rattle.std.specs.Prelude.{◌≡◌, [], ◌∷◌};
 ghost use Rattle.vectors.specs.Answers.{answered, extended, bit};
 
 // At most twelve numbers, and zeros after them.
-#[derive(Drop)]
+#[derive(Clone, Copy)]
 pub struct Answer {
     pub count: usize,
     pub numbers: [u64; 12],

@@ -1,5 +1,7 @@
 // Runs framed cases from standard input, and prints a line for each: the function's number, then its answer and a
 // checksum of each buffer that it was lent. frame.rt has the layout of a case.
+#![tactic(auto)]
+
 mod answer;
 mod buffers;
 mod cases;

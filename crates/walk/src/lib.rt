@@ -1,4 +1,6 @@
 // The walk over a file's nodes: refusals 2 to 12, and a row for each node.
+#![tactic(auto)]
+
 ghost use Rattle.std.specs.Prelude.{◌≡◌, ◌+◌, ◌≤◌, length, drop};
 ghost use Rattle.base.specs.Limits.{most_bytes, most_rows};
 ghost use Rattle.table.specs.Table.{with_row};
@@ -6,7 +8,7 @@ ghost use Rattle.walk.specs.Walk.{header_at, ill_sized, row_of_header, node_at, 
 ghost use Rattle.walk.specs.Private.{is_barred, known_there, refusal_there, passed_at, left_over, Came};
 
 // The numbers of a node's header, the hash in its halves.
-#[derive(Drop)]
+#[derive(Clone, Copy)]
 pub struct Header {
     pub kind: u32,
     pub size: u32,
@@ -113,7 +115,7 @@ fn left_over(left: usize) -> u32
 
 // Where a walk came to: with number 0 just past what it walked, with another at what it is refused for; and how many rows
 // the table then has.
-#[derive(Drop)]
+#[derive(Clone, Copy)]
 struct Reached {
     number: u32,
     at: usize,
@@ -266,7 +268,7 @@ fn walk_children(
 }
 
 // What a walk over a file answers: number 0, how many nodes it has, and its flags; or the refusal's number and place.
-#[derive(Drop)]
+#[derive(Clone, Copy)]
 pub struct Answer {
     pub number: u32,
     pub place: u32,

@@ -1,4 +1,6 @@
 // The writer: a plan's rows and a source's bytes to a file, or a refusal of 20 to 26.
+#![tactic(auto)]
+
 ghost use Rattle.std.specs.Prelude.{◌≡◌, length};
 ghost use Rattle.writer.specs.Writer.{written_of, output_after};
 

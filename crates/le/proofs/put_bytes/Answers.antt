@@ -6,14 +6,16 @@ use borrow.Author.Rules.{rules}
 use Rattle.le.proofs.Puts.{put_part}
 use Rattle.base.proofs.Stores.{sets_past}
 use Rattle.le.proofs.put_bytes.Goals as goal
+use Rattle.le.proofs.put_bytes.Goals.{else-bytes-rest, then-bytes-rest}
 
 pub returns-then-out-at : goal.returns-then-out-at
 returns-then-out-at c = let a = c.args in sym (sets_past a.out.now a.at a.bytes.now c.if-out-at.true)
 
 pub copy_to-requires : goal.copy_to-requires
-copy_to-requires c = ⊎_elim (λ w. (omega (arith, w.1), omega (arith, w.1, w.0.taken))) (λ w. (omega (arith, w.1, w.0.left), omega (arith, w.1))) c.if-bytes-rest.branch
+copy_to-requires c = elim c.if-bytes-rest.branch [ then-bytes-rest w ↦ (omega arith, omega arith) | else-bytes-rest w ↦ (omega arith, omega arith) ]
 
+-- GONE same_length: same_length c = search rules
 pub returns : goal.returns
 returns c =
     let a = c.args in
-    put_part a.out.now a.at a.bytes.now c.if-bytes-rest.n (⊎_elim (λ w. inl w.1) (λ w. inr w.1) c.if-bytes-rest.branch) c.copy_to.ensures
+    put_part a.out.now a.at a.bytes.now c.if-bytes-rest.n (elim c.if-bytes-rest.branch [ then-bytes-rest w ↦ inl w.1 | else-bytes-rest w ↦ inr w.1 ]) c.copy_to.ensures

@@ -1,0 +1,23 @@
+-- `body::next_by`: by a header, and by how many bytes the data takes.
+use native.Mathlib.Omega.{arith}
+use Rattle.body.proofs.Skimmed.{next_past, next_short, next_long, next_whole}
+use borrow.Author.Rules.{rules}
+use Rattle.body.proofs.next_by.Goals as goal
+
+pub returns-then-n-at : goal.returns-then-n-at
+returns-then-n-at c = let a = c.args in next_past a.body.now a.at a.h (omega (arith, c.if-n-at.true))
+
+pub returns-then-n-at-2 : goal.returns-then-n-at-2
+returns-then-n-at-2 c =
+    let a = c.args in
+    next_short a.body.now a.at a.h c.wide-data.ensures.0 (omega (arith, c.if-n-at-2.true, c.if-n-at.false))
+
+pub returns-then-n-start : goal.returns-then-n-start
+returns-then-n-start c =
+    let a = c.args in
+    next_long a.body.now a.at a.h c.wide-data.ensures.0 c.data_size-taken.ensures (omega (arith, c.if-n-start.true))
+
+pub returns : goal.returns
+returns c =
+    let a = c.args in
+    next_whole a.body.now a.at a.h c.wide-data.ensures.0 c.data_size-taken.ensures (omega (arith, c.if-n-start.false, c.if-n-at-2.false))

@@ -1,0 +1,19 @@
+-- `cast::cast_lookup`: the answer of `lookup::find`, in numbers.
+use native.Mathlib.Omega.{arith}
+use mathlib.Core.Path.{sym, ap, subst, ◌∙◌}
+use lib.ListN.{length}
+use Rattle.lookup.specs.declared.Found.TheVariants.{Refused}
+use Rattle.lookup.specs.Lookup.{number_of, FoundWithin}
+use Rattle.cast.specs.Cast.{found_of}
+use borrow.Author.Rules.{rules}
+use Rattle.cast.proofs.cast_lookup.Goals as goal
+
+pub returns-in_default : goal.returns-in_default
+returns-in_default c =
+    (ap (λ n. found_of (Refused n)) (c.number.ensures ∙ ap number_of c.in_default.is) ∙ ap found_of (sym c.in_default.is ∙ c.find-found.ensures.0), (omega arith, omega arith))
+
+pub returns : goal.returns
+returns c =
+    let a = c.args in
+    let lies = subst (FoundWithin (length a.bytes.now)) c.in-At.is c.find-found.ensures.1.0 in
+    (ap found_of (sym c.in-At.is ∙ c.find-found.ensures.0), lies)

@@ -1,0 +1,9 @@
+-- `emit::put_file_header`: its four numbers, one after the other.
+use borrow.Author.Rules.{rules}
+use Rattle.emit.proofs.Headers.{file_header_put}
+use Rattle.emit.proofs.put_file_header.Goals as goal
+
+pub returns : goal.returns
+returns c =
+    file_header_put c.args.out.now c.args.roots c.args.flags c.put_u32.ensures c.put_u32-2.ensures c.put_u32-3.ensures
+    c.put_u32-4.ensures

@@ -1,0 +1,11 @@
+-- `emit::put_node`: the header, and the body after it.
+use native.Mathlib.Omega.{arith}
+use Rattle.emit.proofs.Nodes.{part_put, node_put}
+use borrow.Author.Rules.{rules}
+use Rattle.emit.proofs.put_node.Goals as goal
+
+pub returns : goal.returns
+returns c =
+    let a = c.args in
+    let head = part_put a.out.now a.at a.row a.size (omega (arith, c.requires)) c.put_header.ensures in
+    node_put a.source.now a.out.now a.at a.row a.size head c.body_of-body.ensures c.put_bytes.ensures

@@ -1,0 +1,32 @@
+-- `faces::group_b`: the values passed are tallied as if each were the first of a face.
+use Prim.Native.Nat.{◌+◌, ◌-◌, ◌*◌, ◌≤◌}
+use native.Mathlib.Omega.{arith}
+use mathlib.Core.Path.{◌≡◌, refl, ◌∙◌}
+use mathlib.Core.Bool.{◌||◌}
+use lib.Dec.{leb}
+use borrow.Author.Rules.{rules}
+use Rattle.faces.proofs.Groups.{any_value, equal_firsts, values_none, firsts_none, values_step, firsts_step, group_ended}
+use Rattle.faces.proofs.group_b.Goals as goal
+
+pub loop-i-init : goal.loop-i-init
+loop-i-init c =
+    let a = c.args in
+    (omega arith, omega arith, omega arith, values_none 1 a.vertices a.bytes.now, firsts_none 1 a.vertices a.bytes.now)
+
+pub loop-i-preserved : goal.loop-i-preserved
+loop-i-preserved c =
+    let a = c.args in
+    let i = c.loop-i.i in (
+      omega arith,
+      omega arith,
+      omega arith,
+      values_step 1 a.vertices a.bytes.now i i c.loop-i.greatest (omega arith) c.loop-i.invariant.3 c.byte_at-value.ensures c.greater_b-greatest.ensures.0,
+      firsts_step 1 a.vertices a.bytes.now i i (omega arith) c.loop-i.invariant.4
+          (c.face_of_b-f.ensures ∙ rw (c.byte_at-value.ensures, c.byte_at.ensures, c.byte_at-in-loop-i.ensures))
+          (rw (c.one-degenerate.ensures.0, c.is_degenerate.ensures)),
+    )
+
+pub returns : goal.returns
+returns c =
+    let a = c.args in
+    group_ended 1 a.vertices a.bytes.now c.loop-i.i 15 c.loop-i.greatest (omega arith) c.loop-i.invariant.3 c.loop-i.invariant.4 c.by_greatest.ensures

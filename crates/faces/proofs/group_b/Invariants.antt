@@ -1,0 +1,20 @@
+-- `faces::group_b`: the values passed are tallied as if each were the first of a face.
+use Prim.Native.Nat.{◌+◌, ◌-◌, ◌*◌, ◌≤◌}
+use native.Mathlib.Omega.{arith}
+use mathlib.Core.Path.{◌≡◌, refl, ◌∙◌}
+use mathlib.Core.Bool.{◌||◌}
+use lib.Dec.{leb}
+use borrow.Author.Rules.{rules}
+use Rattle.faces.proofs.Groups.{any_value, equal_firsts, values_none, firsts_none, values_step, firsts_step, group_ended}
+use Rattle.faces.proofs.group_b.Given as goal
+
+abbrev pub invariant-loop-i : goal.invariant-loop-i
+invariant-loop-i l =
+    (l.i ≤ 48)
+    × (l.degenerate ≤ l.i)
+    × (l.greatest ≤ 255)
+    × (leb l.vertices l.greatest ≡ (leb l.vertices 0 || any_value 1 l.vertices l.i l.bytes))
+    × (l.degenerate ≡ equal_firsts 1 l.i l.bytes)
+
+abbrev pub decreases-loop-i : goal.decreases-loop-i
+decreases-loop-i l = 48 - l.i

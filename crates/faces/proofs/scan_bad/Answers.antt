@@ -1,0 +1,69 @@
+-- `faces::scan_bad`: what the faces after the clean ones say is what all say.
+use Prim.Native.Nat.{ℕ, ◌+◌, ◌-◌, ◌*◌, ◌≤◌}
+use native.Mathlib.Nat.{mul-le-mul}
+use native.Mathlib.Omega.{arith}
+use mathlib.Core.Path.{◌≡◌, ap, ◌∙◌}
+use lib.ListN.{length}
+use borrow.Author.Rules.{rules}
+use Rattle.le.proofs.Laws.{rest_drop}
+use Rattle.faces.specs.Faces.{width_of, faces_in}
+use Rattle.faces.specs.Private.{scan_from}
+use Rattle.faces.proofs.Blocks.{bad_after}
+use Rattle.faces.proofs.scan_bad.Goals as goal
+
+pub clean_faces-clean-requires : goal.clean_faces-clean-requires
+clean_faces-clean-requires c = let p = c.requires.0 in (p.0, p.1)
+
+-- the clean faces lie in the block
+pub overflow_mul-at : goal.overflow_mul-at
+overflow_mul-at c = omega arith
+
+module _ (w : tie.After-width-of) where
+  abbrev clean : ℕ
+  clean = w.before.clean-faces.result
+
+  abbrev start : tie.Start
+  start = w.before.before.before
+
+  abbrev at : ℕ
+  at = clean * (3 * w.width_of_lem.result)
+
+  same : at ≡ clean * (3 * width_of start.args.code)
+  same = ap (λ k. clean * (3 * k)) w.width_of_lem.ensures.0
+
+  within : at ≤ length start.args.block.now
+  within =
+      let n = start.args.n in
+      let step = 3 * w.width_of_lem.result in
+      let own : step ≤ step = omega arith in
+      let most : clean * step ≤ n * step = mul-le-mul w.before.clean-faces.ensures.0 own in
+      omega (arith, most, ap (λ k. n * (3 * k)) w.width_of_lem.ensures.0, start.pre.0.1)
+
+pub overflow_mul-at-2 : goal.overflow_mul-at-2
+overflow_mul-at-2 c = omega (arith, within (goal.at.overflow_mul-at-2 c).After-width_of)
+
+pub slice_bounds-scan_each-count : goal.slice_bounds-scan_each-count
+slice_bounds-scan_each-count c = within (goal.at.slice_bounds-scan_each-count c).After-width_of
+
+pub slice_bounds-scan_each-start : goal.slice_bounds-scan_each-start
+slice_bounds-scan_each-start c = within (goal.at.slice_bounds-scan_each-start c).After-width_of
+
+pub slice_bounds-scan_each-end : goal.slice_bounds-scan_each-end
+slice_bounds-scan_each-end c = omega (arith, within (goal.at.slice_bounds-scan_each-end c).After-width_of)
+
+pub overflow_sub-n : goal.overflow_sub-n
+overflow_sub-n c = c.clean_faces-clean.ensures.0
+
+pub overflow_add-start : goal.overflow_add-start
+overflow_add-start c = let w = (goal.at.overflow_add-start c).After-width_of in omega (arith, w.before.clean-faces.ensures.0, (start w).requires.0)
+
+pub scan_each-requires : goal.scan_each-requires
+scan_each-requires c = let w = (goal.at.scan_each-requires c).After-width_of in omega (arith, w.before.clean-faces.ensures.0, (start w).requires.0)
+
+pub returns : goal.returns
+returns c =
+    let a = (start (goal.at.returns c).After-width_of).args in
+    let bs = a.block.now in
+    c.scan_each.ensures
+    ∙ ap (λ l. scan_from a.vertices (a.start + 3 * clean (goal.at.returns c).After-width_of) (faces_in (width_of a.code) (a.n - clean (goal.at.returns c).After-width_of) l)) (rest_drop bs (at (goal.at.returns c).After-width_of))
+    ∙ bad_after (width_of a.code) a.vertices bs (clean (goal.at.returns c).After-width_of) a.n a.start (at (goal.at.returns c).After-width_of) c.clean_faces-clean.ensures.0 (same (goal.at.returns c).After-width_of) c.clean_faces-clean.ensures.1 (start (goal.at.returns c).After-width_of).requires.1

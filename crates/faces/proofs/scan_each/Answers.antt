@@ -1,0 +1,106 @@
+-- `faces::scan_each`: what was counted and what the faces from the place on say is what all say.
+use Prim.Native.Nat.{ℕ, ◌+◌, ◌-◌, ◌*◌, ◌≤◌}
+use native.Mathlib.Nat.{zero-add}
+use native.Mathlib.Omega.{arith}
+use mathlib.Core.Path.{◌≡◌, sym, ap, ◌∙◌}
+use mathlib.Core.List.{List, [], ◌∷◌}
+use mathlib.Core.Logic.{⊎_elim}
+use lib.ListN.{drop}
+use borrow.Author.Rules.{rules}
+use Rattle.faces.specs.declared.Face.{Face}
+use Rattle.faces.specs.declared.Values.{Values}
+use Rattle.faces.specs.declared.Values.TheVariants.{NotBelow}
+use Rattle.faces.specs.Private.{scan_from}
+use Rattle.faces.specs.Faces.{width_of, faces_in, below, degenerate as degenerates, counted_by}
+use Rattle.faces.proofs.Laws.{first, ended, length_faces_in, past_first, past_second, past_third, passed, below_none, counted, not_counted, count_none, scan_past, scan_below}
+use Rattle.faces.proofs.scan_each.Goals as goal
+
+-- at the loop's head: the limit, all faces, those from the place on, and those after the first of them
+-- what the face that was read and those after it say
+pub loop-left-init : goal.loop-left-init
+loop-left-init c =
+    let a = c.args in
+    let same = c.width_of_lem.ensures.0 in (
+      omega arith,
+      omega arith,
+      omega arith,
+      ap (λ w. below a.vertices a.start (faces_in w a.count a.bytes.now)) same,
+      zero-add _ ∙ ap (λ w. degenerates (faces_in w a.count a.bytes.now)) same,
+    )
+
+module _ (l : tie.At-loop invariant-loop decreases-loop) where
+  abbrev limit : ℕ
+  limit = l.before.before.before.args.vertices
+
+  abbrev begun : ℕ
+  begun = l.before.before.before.args.start
+
+  abbrev all : List Face
+  all = let a = l.before.before.before.args in faces_in (width_of a.code) a.count a.bytes.now
+
+  abbrev onward : List Face
+  onward = faces_in l.before.width_of_lem.result l.loop.left (drop l.loop.at l.before.before.before.args.bytes.now)
+
+  abbrev later : List Face
+  later =
+      let w = l.before.width_of_lem.result in
+      faces_in w (l.loop.left - 1) (drop (l.loop.at + 3 * w) l.before.before.before.args.bytes.now)
+
+module _ (m : tie.After-face-at invariant-loop decreases-loop) where
+  here : onward m.before.before ≡ m.face-at.result ∷ later m.before.before
+  here =
+      let l = m.before.before in
+      first l.before.width_of_lem.result l.loop.left l.before.before.before.args.bytes.now l.loop.at (omega arith)
+      ∙ ap {A = Face} (λ f. f ∷ later l) (sym m.face-at.ensures)
+
+  abbrev says : List Face → Values
+  says fs = below (limit m.before.before) m.before.before.loop.done fs
+
+  values : says (m.face-at.result ∷ later m.before.before) ≡ below (limit m.before.before) (begun m.before.before) (all m.before.before)
+  values = ap says (sym here) ∙ m.before.before.loop.inv.3
+
+  stopped : {k : ℕ} → says (m.face-at.result ∷ later m.before.before) ≡ NotBelow k
+      → counted_by (NotBelow k) [] ≡ scan_from (limit m.before.before) (begun m.before.before) (all m.before.before)
+  stopped e = scan_past (limit m.before.before) (begun m.before.before) (all m.before.before) (sym values ∙ e)
+
+  count : m.before.before.loop.degenerate + degenerates (m.face-at.result ∷ later m.before.before) ≡ degenerates (all m.before.before)
+  count = ap (λ fs. m.before.before.loop.degenerate + degenerates fs) (sym here) ∙ m.before.before.loop.inv.4
+
+pub returns-then-vertices-f : goal.returns-then-vertices-f
+returns-then-vertices-f c =
+    c.refused_value.ensures ∙ stopped (goal.at.returns-then-vertices-f c).After-face_at-f (past_first (limit (goal.at.returns-then-vertices-f c).At-loop-left) c.loop-left.done c.face_at-f.result (later (goal.at.returns-then-vertices-f c).At-loop-left) (omega arith))
+
+pub returns-then-vertices-f-2 : goal.returns-then-vertices-f-2
+returns-then-vertices-f-2 c =
+    c.refused_value-then-vertices-f-2.ensures ∙ stopped (goal.at.returns-then-vertices-f-2 c).After-face_at-f (past_second (limit (goal.at.returns-then-vertices-f-2 c).At-loop-left) c.loop-left.done c.face_at-f.result (later (goal.at.returns-then-vertices-f-2 c).At-loop-left) (omega arith) (omega arith))
+
+pub returns-then-vertices-f-3 : goal.returns-then-vertices-f-3
+returns-then-vertices-f-3 c =
+    c.refused_value-then-vertices-f-3.ensures ∙ stopped (goal.at.returns-then-vertices-f-3 c).After-face_at-f (past_third (limit (goal.at.returns-then-vertices-f-3 c).At-loop-left) c.loop-left.done c.face_at-f.result (later (goal.at.returns-then-vertices-f-3 c).At-loop-left) (omega arith) (omega arith) (omega arith))
+
+pub loop-left-preserved : goal.loop-left-preserved
+loop-left-preserved c =
+    let f = c.face_at-f.result in
+    let is = c.is_degenerate.ensures in
+    let more : c.if-is_degenerate.proper + c.if-is_degenerate.degenerate ≡ c.loop-left.proper + c.loop-left.degenerate + 1
+    = ⊎_elim (λ e. omega (arith, e.1, e.2)) (λ e. omega (arith, e.1, e.2)) c.if-is_degenerate.branch in (
+      omega arith,
+      omega (arith, more),
+      omega arith,
+      sym (passed (limit (goal.at.loop-left-preserved c).At-loop-left) c.loop-left.done f (later (goal.at.loop-left-preserved c).At-loop-left) (omega arith) (omega arith) (omega arith)) ∙ values (goal.at.loop-left-preserved c).After-face_at-f,
+      ⊎_elim
+          (λ e. counted c.loop-left.degenerate f (later (goal.at.loop-left-preserved c).At-loop-left) (sym is ∙ e.0.taken) e.2)
+          (λ e. not_counted c.loop-left.degenerate f (later (goal.at.loop-left-preserved c).At-loop-left) (sym is ∙ e.0.left) e.2)
+          c.if-is_degenerate.branch
+          ∙ count (goal.at.loop-left-preserved c).After-face_at-f,
+    )
+
+pub returns : goal.returns
+returns c =
+    let a = c.args in
+    let none = ended c.width_of_lem.result c.loop-left.left (drop c.loop-left.at a.bytes.now) (omega arith) in
+    c.all_below.ensures
+    ∙ scan_below a.vertices a.start (all (goal.at.returns c).At-loop-left)
+    (sym c.loop-left.invariant.3 ∙ below_none a.vertices c.loop-left.done none)
+    (omega (arith, c.loop-left.invariant.1, length_faces_in (width_of a.code) a.count a.bytes.now))
+    (count_none c.loop-left.degenerate none ∙ c.loop-left.invariant.4)

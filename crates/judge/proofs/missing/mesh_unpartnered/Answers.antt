@@ -1,0 +1,18 @@
+-- `judge::missing::mesh_unpartnered`: each by its line, and mi only where it is asked for.
+use Rattle.std.proofs.Common.{not, ◌&&◌, sym, ap, ◌∙◌, rules}
+use Rattle.judge.specs.ByLine.{wb_line, wv_line, mi_line, has_number}
+use Rattle.judge.proofs.Presence.{without_weights, with_weights}
+use Rattle.judge.proofs.missing.mesh_unpartnered.Goals as goal
+
+pub returns-then-wb-wv : goal.returns-then-wb-wv
+returns-then-wb-wv c =
+    let ns = c.args.numbers.now in
+    without_weights (has_number ns wb_line) (has_number ns wv_line) (has_number ns mi_line)
+    (ap (λ x. not x && not (has_number ns wv_line)) (sym c.has_number-wb.ensures) ∙ ap (λ x. not c.has_number-wb.result && not x) (sym c.has_number-wv.ensures) ∙ c.if-wb-wv.true)
+
+pub returns : goal.returns
+returns c =
+    let ns = c.args.numbers.now in
+    rw (c.has_number-wb.ensures, c.has_number-wv.ensures, c.has_number-mi.ensures)
+    (with_weights (has_number ns wb_line) (has_number ns wv_line) (has_number ns mi_line)
+    (ap (λ x. not x && not (has_number ns wv_line)) (sym c.has_number-wb.ensures) ∙ ap (λ x. not c.has_number-wb.result && not x) (sym c.has_number-wv.ensures) ∙ c.if-wb-wv.false))

@@ -1,0 +1,13 @@
+-- `judge::typed::key_of`: what the letters from i on add to the sum is what all but the last give.
+use Rattle.std.proofs.Common.{◌≡◌, ◌+◌, ◌-◌, ◌/◌, ◌≤◌, length, ap, ◌∙◌, arith, rules}
+use Rattle.le.specs.Le.{number_at}
+use Rattle.le.proofs.Laws.{number_at_part}
+use Rattle.judge.specs.Typed.{key_from}
+use Rattle.judge.proofs.Typing.{key_left, key_start, key_step, key_done}
+use Rattle.judge.proofs.typed.key_of.Given as goal
+
+abbrev pub invariant-loop-i : goal.invariant-loop-i
+invariant-loop-i l = (l.i ≤ length l.name) × (key_left l.name l.key l.i ≡ key_from ((length l.name - 1) / 8) 0 l.name)
+
+abbrev pub decreases-loop-i : goal.decreases-loop-i
+decreases-loop-i l = l.n - l.i

@@ -1,0 +1,51 @@
+-- `judge::typed::last_letters`: what stands before the name is shifted out.
+use Rattle.std.proofs.Common.{◌+◌, ◌-◌, ◌≤◌, length, ap, ◌∙◌, arith, rules}
+use Rattle.le.specs.Le.{number_at}
+use Rattle.le.proofs.Laws.{number_at_part}
+use Rattle.judge.proofs.Typing.{name_within, no_letters, some_letters, short_letters}
+use Rattle.judge.proofs.typed.last_letters.Goals as goal
+use Rattle.judge.proofs.typed.last_letters.Goals.{Else-n-gt8}
+
+pub returns-then-n-eq0 : goal.returns-then-n-eq0
+returns-then-n-eq0 c = no_letters c.args.name.now c.if-n-eq0.true
+
+pub returns-then-n-gt8 : goal.returns-then-n-gt8
+returns-then-n-gt8 c = some_letters c.args.name.now c.u64_at.ensures
+
+-- a name that has letters lies in the body
+inside : (c : Else-n-gt8) → let a = c.args in a.at + length a.name.now + 8 ≤ length a.body.now
+inside c =
+    let a = c.args in
+    omega (arith, name_within a.body.now a.at c.requires, c.if-n-eq0.false)
+
+pub overflow_add-from : goal.overflow_add-from
+overflow_add-from c = omega (arith, inside (goal.at.overflow_add-from c).Else-n-gt8)
+
+pub overflow_add-end : goal.overflow_add-end
+overflow_add-end c = omega (arith, inside (goal.at.overflow_add-end c).Else-n-gt8)
+
+pub slice_bounds-u64_at-count : goal.slice_bounds-u64_at-count
+slice_bounds-u64_at-count c = omega (arith, inside (goal.at.slice_bounds-u64_at-count c).Else-n-gt8)
+
+pub slice_bounds-u64_at-start : goal.slice_bounds-u64_at-start
+slice_bounds-u64_at-start c = omega (arith, inside (goal.at.slice_bounds-u64_at-start c).Else-n-gt8)
+
+pub slice_bounds-u64_at-end : goal.slice_bounds-u64_at-end
+slice_bounds-u64_at-end c = omega (arith, inside (goal.at.slice_bounds-u64_at-end c).Else-n-gt8)
+
+pub overflow_mul-result : goal.overflow_mul-result
+overflow_mul-result c = omega (arith, c.if-n-gt8.false)
+
+pub overflow_sub-result : goal.overflow_sub-result
+overflow_sub-result c = omega (arith, c.if-n-gt8.false)
+
+pub overflow_shr-result : goal.overflow_shr-result
+overflow_shr-result c =
+    omega (arith, c.if-n-eq0.false)
+
+pub returns : goal.returns
+returns c =
+    let a = c.args in
+    let from = a.at + length a.name.now in
+    short_letters a.body.now a.at c.requires (λ i. omega (arith, c.shared_slice_known-1.given i)) (omega (arith, c.if-n-gt8.false))
+    (c.u64_at-2.ensures ∙ number_at_part 8 (from + 8 - from) a.body.now from 0 (omega arith) ∙ ap (number_at 8 a.body.now) (omega arith))

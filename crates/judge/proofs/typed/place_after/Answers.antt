@@ -1,0 +1,10 @@
+-- `judge::typed::place_after`: by whether there is one.
+use Rattle.std.proofs.Common.{sym, ◌∙◌, true≢false, rules}
+use borrow.Author.Tests.{not-true}
+use Rattle.judge.proofs.typed.place_after.Goals as goal
+
+pub returns-then-not-more : goal.returns-then-not-more
+returns-then-not-more c = (λ e. absurd (true≢false (sym e ∙ not-true _ c.if-not-more.true)), c.requires)
+
+pub returns : goal.returns
+returns c = (λ e. c.next_by.ensures.0, c.next_by.ensures.1)

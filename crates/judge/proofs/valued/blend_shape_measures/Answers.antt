@@ -1,0 +1,8 @@
+-- `judge::valued::blend_shape_measures`: the length of vi.
+use Rattle.judge.specs.ByLine.{beside_by_line}
+use Rattle.std.proofs.Common.{rules}
+use Rattle.judge.proofs.valued.blend_shape_measures.Goals as goal
+
+pub returns : goal.returns
+unfolding beside_by_line
+returns c = rw c.read_by_lem.ensures.0

@@ -1,0 +1,8 @@
+-- `judge::valued::curve_measures`: the length of kb, and the types that kp wants.
+use Rattle.judge.specs.ByLine.{beside_by_line}
+use Rattle.std.proofs.Common.{rules}
+use Rattle.judge.proofs.valued.curve_measures.Goals as goal
+
+pub returns : goal.returns
+unfolding beside_by_line
+returns c = rw (c.read_by_lem.ensures.0, c.types_of_lem.ensures)

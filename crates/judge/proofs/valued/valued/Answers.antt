@@ -1,0 +1,128 @@
+-- `judge::valued::valued`: what was counted and what the properties from i on say is what all say.
+use Rattle.std.proofs.Common.{◌≡◌, ℕ, ◌+◌, ◌-◌, ◌<◌, length, get_or, sym, ap, ◌∙◌, ⊎_elim, arith, w64, Fits, rules}
+use Rattle.le.specs.Le.{AreBytes}
+use Rattle.rules.specs.Packing.{line_of, lines_from}
+use Rattle.judge.specs.declared.Judged.{Judged}
+use Rattle.judge.specs.Properties.{rule_at}
+use Rattle.judge.specs.ByLine.{beside_by_line}
+use Rattle.judge.specs.Judge.{refused_node, Bounded}
+use Rattle.judge.specs.Private.{beside_from, valued_to}
+use Rattle.judge.proofs.Faults.{held_faces_lem}
+use Rattle.judge.proofs.Values.{as_many, line_found, on_top, on_none, ended, Counting, faces_counted, faces_wrong, link_counted, other_counted, other_wrong, refused_bounded}
+use Rattle.judge.proofs.valued.valued.Goals as goal
+use Rattle.judge.proofs.valued.valued.Goals.{After-faces_at-kept}
+
+pub measures_of-m-requires : goal.measures_of-m-requires
+measures_of-m-requires c =
+    as_many (lines_from c.args.lines.now) c.args.body.now c.args.starts.now c.requires.1.0
+
+pub loop-i-init : goal.loop-i-init
+loop-i-init c =
+    let a = c.args in
+    record {
+      within = omega arith;
+      faces_most = omega arith;
+      degenerate_most = omega arith;
+      links_most = omega arith;
+      says = ap (λ b. on_top 0 0 0 (lines_from a.lines.now) a.body.now b a.starts.now) c.measures_of-m.ensures
+          ∙ on_none (lines_from a.lines.now) a.body.now (beside_by_line a.kind a.body.now a.starts.now a.numbers.now a.bones) a.starts.now;
+    }
+
+pub bounds-numbers-i : goal.bounds-numbers-i
+bounds-numbers-i c =
+    omega (arith, as_many (lines_from c.args.lines.now) c.args.body.now c.args.starts.now c.requires.1.0)
+
+-- the property that was read, and its line
+pub line_in-e-requires : goal.line_in-e-requires
+line_in-e-requires c = search rules
+
+module _ ((goal.at.line_in-e-requires c).After-shared_slice_known-in-loop-i-2-1 : tie.After-line-in invariant-loop decreases-loop) where
+  abbrev head : tie.At-loop invariant-loop decreases-loop
+  head = (goal.at.line_in-e-requires c).After-measures_of-m
+
+  abbrev start : tie.Start invariant-loop decreases-loop
+  start = head.before.before.before.before.before
+
+  abbrev at : ℕ
+  at = get_or start.args.starts.now head.loop.i 0
+
+  abbrev all : Judged
+  all = let a = start.args in valued_to (lines_from a.lines.now) a.body.now (beside_by_line a.kind a.body.now a.starts.now a.numbers.now a.bones) a.starts.now
+
+  within : Fits w64 (24 + at)
+  within = omega (arith, start.good.1.1.0.1, start.pre.1.1 head.loop.i)
+
+  inside : head.loop.i < length start.args.starts.now
+  inside = c.loop-test.true
+
+  bytes : AreBytes start.args.body.now
+  bytes = λ i. omega (arith, head.before.before.before.before.shared-slice-known.given i)
+
+  line : line_of c.line-in.result ≡ rule_at (lines_from start.args.lines.now) start.args.body.now at
+  line =
+      let a = start.args in
+      line_found (lines_from a.lines.now) a.body.now a.starts.now start.pre.1.0 head.loop.i inside c.line-in.ensures.1
+
+  refuses : refused_node 15 (24 + at) ≡ all → {r : Judged} → r ≡ refused_node 15 (24 + at)
+      → (r ≡ all) × Bounded r (length start.args.body.now)
+  refuses w e = (e ∙ w, refused_bounded 15 (24 + at) (length start.args.body.now) (omega (arith, start.pre.1.1 head.loop.i)) e)
+
+pub overflow_add-at : goal.overflow_add-at
+overflow_add-at c = within (goal.at.overflow_add-at c).After-line_in-e
+
+pub returns-then-breaks : goal.returns-then-breaks
+returns-then-breaks c =
+    refuses (goal.at.returns-then-breaks c).After-line_in-e
+    (faces_wrong (head (goal.at.returns-then-breaks c).After-line_in-e).loop.invariant (inside (goal.at.returns-then-breaks c).After-line_in-e) c.line_in-e.result (line (goal.at.returns-then-breaks c).After-line_in-e) c.if-e-eq-FACES.true (bytes (goal.at.returns-then-breaks c).After-line_in-e) c.faces_at-kept.ensures (sym c.breaks.ensures ∙ c.if-breaks.true))
+    c.refused_node.ensures
+
+-- how many faces one property counts
+few : (c : After-faces_at-keptoop decreases-loop) → (c.faces_at-kept.result.faces < 4294967296) × (c.faces_at-kept.result.degenerate < 4294967296)
+few c =
+    let b = beside_from (head BADPLACE:After-line_in-e).before.measures-of.result in
+    let kept = held_faces_lem c.line_in-e.result (start BADPLACE:After-line_in-e).args.body.now (at BADPLACE:After-line_in-e) b c.if-e-eq-FACES.true (bytes BADPLACE:After-line_in-e) c.faces_at-kept.ensures in
+    (kept.1, kept.2)
+
+pub overflow_add-faces : goal.overflow_add-faces
+overflow_add-faces c =
+    let l = head (goal.at.overflow_add-faces c).After-line_in-e in
+    omega (arith, few (goal.at.overflow_add-faces c).After-faces_at-kept, l.loop.inv.faces_most, inside (goal.at.overflow_add-faces c).After-line_in-e, l.before.before.before.before.before.pre.0)
+
+pub overflow_add-degenerate : goal.overflow_add-degenerate
+overflow_add-degenerate c =
+    let l = head (goal.at.overflow_add-degenerate c).After-line_in-e in
+    omega (arith, few (goal.at.overflow_add-degenerate c).After-faces_at-kept, l.loop.inv.degenerate_most, inside (goal.at.overflow_add-degenerate c).After-line_in-e, l.before.before.before.before.before.pre.0)
+
+pub overflow_add-links : goal.overflow_add-links
+overflow_add-links c =
+    omega (arith, (head (goal.at.overflow_add-links c).After-line_in-e).loop.invariant.links_most, inside (goal.at.overflow_add-links c).After-line_in-e, (start (goal.at.overflow_add-links c).After-line_in-e).requires.0)
+
+pub overflow_add-at-then-breaks-2 : goal.overflow_add-at-then-breaks-2
+overflow_add-at-then-breaks-2 c = within (goal.at.overflow_add-at-then-breaks-2 c).After-line_in-e
+
+pub returns-then-breaks-2 : goal.returns-then-breaks-2
+returns-then-breaks-2 c =
+    refuses (goal.at.returns-then-breaks-2 c).After-line_in-e
+    (other_wrong (head (goal.at.returns-then-breaks-2 c).After-line_in-e).loop.invariant (inside (goal.at.returns-then-breaks-2 c).After-line_in-e) c.line_in-e.result (line (goal.at.returns-then-breaks-2 c).After-line_in-e) c.if-e-eq-FACES.false c.fault_of.ensures (sym c.breaks-else-e-eq-LINK.ensures ∙ c.if-breaks-2.true))
+    c.refused_node-then-breaks-2.ensures
+
+pub loop-i-preserved : goal.loop-i-preserved
+loop-i-preserved c =
+    let inv = (head (goal.at.loop-i-preserved c).After-line_in-e).loop.invariant in
+    let e = c.line_in-e.result in
+    ⊎_elim
+    (λ w. rw (w.6, w.7, w.8) (faces_counted inv (inside (goal.at.loop-i-preserved c).After-line_in-e) e (line (goal.at.loop-i-preserved c).After-line_in-e) w.0.taken (bytes (goal.at.loop-i-preserved c).After-line_in-e) w.1.ensures (sym w.2.ensures ∙ w.3.left)))
+    (⊎_elim
+    (λ w. rw (w.3, w.4, w.5) (link_counted inv (inside (goal.at.loop-i-preserved c).After-line_in-e) e (line (goal.at.loop-i-preserved c).After-line_in-e) w.2.taken))
+    (λ w. rw (w.6, w.7, w.8) (other_counted inv (inside (goal.at.loop-i-preserved c).After-line_in-e) e (line (goal.at.loop-i-preserved c).After-line_in-e) w.0.left w.2.left w.3.ensures (sym w.4.ensures ∙ w.5.left))))
+    c.if-e-eq-FACES.branch
+
+pub returns : goal.returns
+returns c =
+    let a = c.args in
+    let p = c.loop-i in
+    let b = beside_from c.measures_of-m.result in (
+      sym (ended (lines_from a.lines.now) a.body.now b p.faces p.degenerate p.links a.starts.now p.i c.loop-i-test.false)
+          ∙ p.invariant.says,
+      record { place = omega arith; faces = omega arith; degenerates = omega arith; links = omega arith },
+    )

@@ -1,0 +1,11 @@
+-- `kinds::may_stand`: by the parents of the kind.
+use mathlib.Core.Path.{ap, ◌∙◌}
+use Rattle.kinds.specs.Private.{stands_by}
+use Rattle.kinds.proofs.Standings.{stands_is}
+use borrow.Author.Rules.{rules}
+use Rattle.kinds.proofs.may_stand.Goals as goal
+
+pub returns : goal.returns
+returns c =
+    let a = c.args in
+    c.stands.ensures ∙ ap (stands_by a.parent) c.parents_of_lem.ensures ∙ stands_is a.parent a.kind

@@ -1,0 +1,15 @@
+-- `listing::put`: a line that has room is put.
+use native.Mathlib.Omega.{arith}
+use Rattle.text.proofs.Laws.{put_short}
+use Rattle.listing.specs.Listing.{text_of}
+use Rattle.listing.proofs.Laws.{puts_written}
+use borrow.Author.Rules.{rules}
+use Rattle.listing.proofs.put.Goals as goal
+
+pub returns-then-out-size : goal.returns-then-out-size
+returns-then-out-size c =
+    put_short c.args.out.now 0 (text_of c.args.line) (omega (arith, c.size.ensures.0))
+
+pub returns : goal.returns
+returns c =
+    puts_written c.args.out.now 0 (text_of c.args.line) (omega (arith, c.size.ensures.0)) c.put_line.ensures

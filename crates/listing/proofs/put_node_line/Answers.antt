@@ -1,0 +1,27 @@
+-- `listing::put_node_line`: the parts of the line, one after the other.
+use mathlib.Core.List.{List, ◌++◌}
+use Prim.Native.Nat.{ℕ, ◌+◌, ◌≤◌}
+use lib.ListN.{length}
+use Rattle.text.specs.Text.{hexadecimal}
+use Rattle.base.specs.Letters.{letters}
+use Rattle.format.specs.Rows.{own_bytes}
+use Rattle.listing.specs.Listing.{parent_text, labelled, text_of, newline, words_of}
+use Rattle.listing.specs.Private.{Puts}
+use Rattle.listing.proofs.Laws.{front, puts_first, puts_then, puts_both, room_after}
+use borrow.Author.Rules.{rules}
+use Rattle.listing.proofs.put_node_line.Goals as goal
+
+-- GONE slice-aggregate-put-decimal: slice-aggregate-put-decimal c = search rules
+-- GONE slice-aggregate-put-hexadecimal: slice-aggregate-put-hexadecimal c = search rules
+pub put_parent-c-requires : goal.put_parent-c-requires
+put_parent-c-requires c = let h = (goal.at.put_parent-c-requires c).After-put_hexadecimal-b in room_after (out h) (at h) (t1 h ++ t2 h) (t3 h) (room3 h) (first_two h)
+
+-- GONE slice-aggregate-put-decimal-2: slice-aggregate-put-decimal-2 c = search rules
+-- GONE slice-aggregate-put: slice-aggregate-put c = search rules
+pub returns : goal.returns
+unfolding words_of text_of letters
+returns c =
+    let own = c.own-bytes.ensures.0 in
+    let three = puts_both (out (goal.at.returns c).After-slice_known-3-1) (at (goal.at.returns c).After-slice_known-3-1) (t1 (goal.at.returns c).After-slice_known-3-1 ++ t2 (goal.at.returns c).After-slice_known-3-1) (t3 (goal.at.returns c).After-slice_known-3-1) (first_two (goal.at.returns c).After-slice_known-3-1) c.put-parent.ensures in
+    let four = puts_then (out (goal.at.returns c).After-slice_known-3-1) (at (goal.at.returns c).After-slice_known-3-1) (t1 (goal.at.returns c).After-slice_known-3-1 ++ t2 (goal.at.returns c).After-slice_known-3-1 ++ t3 (goal.at.returns c).After-slice_known-3-1) (t4 (goal.at.returns c).After-slice_known-3-1) (room4 (goal.at.returns c).After-slice_known-3-1) three (rw own at c.put-decimal2.ensures) in
+    puts_then (out (goal.at.returns c).After-slice_known-3-1) (at (goal.at.returns c).After-slice_known-3-1) (t1 (goal.at.returns c).After-slice_known-3-1 ++ t2 (goal.at.returns c).After-slice_known-3-1 ++ t3 (goal.at.returns c).After-slice_known-3-1 ++ t4 (goal.at.returns c).After-slice_known-3-1) newline (start (goal.at.returns c).After-slice_known-3-1).requires four c.put.ensures

@@ -1,0 +1,57 @@
+-- `listing::put_node_lines`: the lines of the earlier rows were put.
+use Prim.Native.Nat.{ℕ, ◌+◌, ◌-◌, ◌≤◌}
+use native.Mathlib.Omega.{arith}
+use mathlib.Core.Path.{◌≡◌, refl, ap, ◌∙◌}
+use mathlib.Core.List.{List, ◌++◌}
+use lib.ListN.{length}
+use lib.Seq.{length-sets}
+use Rattle.listing.specs.declared.TextLine.TheVariants.{Node}
+use Rattle.listing.specs.Listing.{text_of}
+use Rattle.listing.proofs.Laws.{Passed, passed_none, passed_room, passed_more, passed_all}
+use Rattle.listing.proofs.Whole.{nodes_from, nodes_all, nodes_more, nodes_none}
+use borrow.Author.Rules.{rules}
+use Rattle.listing.proofs.put_node_lines.Goals as goal
+
+pub loop-i-init : goal.loop-i-init
+loop-i-init c = (omega arith, refl, passed_none _ _ _)
+
+-- at a turn of the loop, the line of the row comes next
+pub row_at-row-requires : goal.row_at-row-requires
+row_at-row-requires c = search rules
+
+module _ ((goal.at.row_at-row-requires c).In-loop-i : tie.After-row-at invariant-loop decreases-loop) where
+  abbrev head : tie.At-loop invariant-loop decreases-loop
+  head = (goal.at.row_at-row-requires c).After-shared_slice_known-1
+
+  abbrev start : tie.Start invariant-loop decreases-loop
+  start = head.before.before.before
+
+  abbrev line : List ℕ
+  line = text_of (Node head.loop.i c.row_at.result)
+
+  abbrev later : List ℕ
+  later = nodes_from start.args.table.now start.args.nodes (head.loop.i + 1)
+
+  next_line : nodes_from start.args.table.now start.args.nodes head.loop.i ≡ line ++ later
+  next_line = nodes_more start.args.table.now start.args.nodes head.loop.i c.loop-test.true c.row_at.ensures
+
+pub put_line-next-requires : goal.put_line-next-requires
+put_line-next-requires c =
+    let s = start (goal.at.put_line-next-requires c).After-row_at-row in
+    let all = ap length (nodes_all s.args.table.now s.args.nodes) in
+    passed_room s.args.out.now s.args.at (nodes_from s.args.table.now s.args.nodes 0) (head (goal.at.put_line-next-requires c).After-row_at-row).loop.invariant.2 (omega (arith, all, s.pre)) (line (goal.at.put_line-next-requires c).After-row_at-row) (later (goal.at.put_line-next-requires c).After-row_at-row) (next_line (goal.at.put_line-next-requires c).After-row_at-row)
+
+pub loop-i-preserved : goal.loop-i-preserved
+loop-i-preserved c =
+    let s = start (goal.at.loop-i-preserved c).After-row_at-row in
+    let put = c.put_line-next.ensures in (
+      omega arith,
+      ap length put.stored ∙ length-sets (head (goal.at.loop-i-preserved c).After-row_at-row).loop.out (head (goal.at.loop-i-preserved c).After-row_at-row).loop.next (line (goal.at.loop-i-preserved c).After-row_at-row) ∙ (head (goal.at.loop-i-preserved c).After-row_at-row).loop.invariant.1,
+      passed_more s.args.out.now s.args.at (nodes_from s.args.table.now s.args.nodes 0) (head (goal.at.loop-i-preserved c).After-row_at-row).loop.invariant.2 (line (goal.at.loop-i-preserved c).After-row_at-row) (later (goal.at.loop-i-preserved c).After-row_at-row) (next_line (goal.at.loop-i-preserved c).After-row_at-row) put,
+    )
+
+pub returns : goal.returns
+returns c =
+    let a = c.args in
+    let none = nodes_none a.table.now a.nodes c.loop-i.i c.loop-i-test.false in
+    rw (← nodes_all a.table.now a.nodes) (passed_all a.out.now a.at (nodes_from a.table.now a.nodes 0) c.loop-i.invariant.2 none)

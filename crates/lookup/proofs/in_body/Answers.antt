@@ -1,0 +1,66 @@
+-- `lookup::in_body`: what the search answers is what the body answers.
+use native.Mathlib.Omega.{arith}
+use borrow.Author.Rules.{rules}
+use mathlib.Core.Path.{◌≡◌, sym, ap, subst, ◌∙◌}
+use mathlib.Core.Bool.{cond, not}
+use Prim.Native.Nat.{◌≤◌}
+use lib.ListN.{length}
+use borrow.Author.Tests.{not-true, not-false, eq-eqb, ne_eqb}
+use Rattle.body.proofs.Laws.{many, few}
+use Rattle.body.proofs.Search.{SoughtWithin, sought_within}
+use Rattle.lookup.specs.declared.Found.TheVariants.{At, Refused}
+use Rattle.lookup.specs.Lookup.{in_body}
+use Rattle.lookup.proofs.Laws.{found_in, body_found, found_refused, by_sought, sought_found}
+use Rattle.lookup.proofs.in_body.Goals as goal
+use Rattle.lookup.proofs.in_body.Goals.{After-exact, After-seek, In-Found}
+
+-- what the search answers is the answer
+answers : (c : After-seek) → let a = c.args in
+    by_sought a.body.now c.seek.result ≡ in_body a.body.now a.count a.name.now
+answers c =
+    let a = c.args in
+    let most = c.if-count-gt-MOST_PROPERTIES.false in
+    ap (by_sought a.body.now) c.seek.ensures.0 ∙ sought_found a.body.now a.name.now a.count 0 most
+    ∙ ap (found_in a.body.now a.name.now) (few a.body.now a.count most) ∙ body_found a.body.now a.name.now a.count
+
+-- what is found lies within
+within : (c : In-Found) → c.in-Found.end ≤ length c.args.body.now
+within c =
+    let a = c.args in
+    subst (SoughtWithin (length a.body.now)) (sym c.seek.ensures.0 ∙ c.in-Found.is) (sought_within a.body.now a.name.now a.count 0)
+
+pub returns-then-count-gt-MOST_PROPERTIES : goal.returns-then-count-gt-MOST_PROPERTIES
+returns-then-count-gt-MOST_PROPERTIES c =
+    let a = c.args in
+    found_refused a.body.now a.name.now 9 0 (λ e. omega (arith, e)) ∙ ap (found_in a.body.now a.name.now) (many a.body.now a.count c.if-count-gt-MOST_PROPERTIES.true) ∙ body_found a.body.now a.name.now a.count
+
+pub slice_bounds-exact-count : goal.slice_bounds-exact-count
+slice_bounds-exact-count c = within (goal.at.slice_bounds-exact-count c).In-Found
+
+pub slice_bounds-exact-start : goal.slice_bounds-exact-start
+slice_bounds-exact-start c = within (goal.at.slice_bounds-exact-start c).In-Found
+
+-- the first property of the name, where the rest is judged
+judged : (c : After-exact) → let a = c.args in
+    cond (not c.exact.result) (Refused 42) (At c.in-Found.start c.in-Found.end) ≡ in_body a.body.now a.count a.name.now
+judged c =
+    let a = c.args in
+    ap (λ b. cond (not b) (Refused 42) (At c.in-Found.start c.in-Found.end)) c.exact.ensures
+    ∙ ap (by_sought a.body.now) (sym c.in-Found.is) ∙ answers BADPLACE:After-seek
+
+pub returns-then-not-exact : goal.returns-then-not-exact
+returns-then-not-exact c = rw (not-true c.exact.result c.if-not-exact.true) at (judged (goal.at.returns-then-not-exact c).After-exact)
+
+pub returns-then-at-body : goal.returns-then-at-body
+returns-then-at-body c =
+    rw (ne_eqb _ _ c.if-at-body.true) at (ap (by_sought _) (sym c.in-Nowhere.is) ∙ answers (goal.at.returns-then-at-body c).After-seek)
+
+pub returns-else-not-exact : goal.returns-else-not-exact
+returns-else-not-exact c = rw (not-false c.exact.result c.if-not-exact.false) at (judged (goal.at.returns-else-not-exact c).After-exact)
+
+pub returns-else-at-body : goal.returns-else-at-body
+returns-else-at-body c =
+    rw (eq-eqb _ _ c.if-at-body.false) at (ap (by_sought _) (sym c.in-Nowhere.is) ∙ answers (goal.at.returns-else-at-body c).After-seek)
+
+pub returns-in-Refused : goal.returns-in-Refused
+returns-in-Refused c = ap (by_sought _) (sym c.in-Refused.is) ∙ answers (goal.at.returns-in-Refused c).After-seek

@@ -1,0 +1,24 @@
+-- `names::ends_ok`: the two ends, which have every byte.
+use Prim.Native.Nat.{◌-◌}
+use native.Mathlib.Omega.{arith}
+use mathlib.Core.Path.{sym, ap, ◌∙◌}
+use lib.ListN.{length}
+use lib.Seq.{length-take-le}
+use borrow.Author.Rules.{rules}
+use Rattle.le.proofs.Laws.{rest_drop}
+use Rattle.names.specs.Names.{bytes_ok}
+use Rattle.names.proofs.Laws.{ends_are}
+use Rattle.names.proofs.ends_ok.Goals as goal
+
+pub slice_bounds-block_ok-end : goal.slice_bounds-block_ok-end
+slice_bounds-block_ok-end c =
+    let start = BAD:c.before.before in
+    sym (length-take-le start.args.k start.args.name.now start.requires.0)
+
+pub returns : goal.returns
+returns c =
+    let start = BAD:c.before.before.before.before.before in
+    let k = start.args.k in
+    let name = start.args.name.now in
+    rw (c.block_ok.ensures, c.block_ok-2.ensures ∙ ap bytes_ok (rest_drop name (length name - k)))
+    (ends_are k name start.requires.0 start.requires.1)

@@ -1,0 +1,22 @@
+-- `names::number_after`: a name shorter than the prefix, another prefix, or the number after the prefix.
+use mathlib.Core.Path.{sym, ◌∙◌}
+use lib.Seq.{length-take-le}
+use borrow.Author.Rules.{rules}
+use borrow.Author.Tests.{not-true, not-false}
+use Rattle.base.proofs.Answers.{told}
+use Rattle.names.specs.Names.{numeral_numbers}
+use Rattle.names.proofs.Laws.{numbered_short, numbered_other, numbered_by}
+use Rattle.names.proofs.number_after.Goals as goal
+
+pub returns-then-name-n : goal.returns-then-name-n
+returns-then-name-n c = told numeral_numbers (sym (numbered_short _ _ c.if-name-n.true))
+
+pub slice_bounds-same-end : goal.slice_bounds-same-end
+slice_bounds-same-end c = sym (length-take-le _ BAD:c.before.before.before.before.args.name.now c.if1.false)
+
+pub returns-then-not-same : goal.returns-then-not-same
+returns-then-not-same c = told numeral_numbers (sym (numbered_other _ _ (sym c.same.ensures ∙ not-true _ c.if-not-same.true)))
+
+pub returns : goal.returns
+returns c =
+    told numeral_numbers (c.number.ensures ∙ sym (numbered_by _ _ (sym c.same.ensures ∙ not-false _ c.if-not-same.false)))

@@ -1,0 +1,68 @@
+-- `plan::judge_rows`: what the rest gives is what all rows give, and the path is climbed from where the code says.
+use Prim.Native.Nat.{◌-◌, ◌≤◌, ◌<◌}
+use native.Mathlib.Omega.{arith}
+use mathlib.Core.Path.{◌≡◌, refl, sym, ◌∙◌}
+use mathlib.Core.Logic.{⊎_elim}
+use borrow.Author.Rules.{rules}
+use Rattle.table.specs.Table.{no_parent, rows_at}
+use Rattle.plan.specs.Plan.{naming, plan_refusal}
+use Rattle.plan.specs.Private.{path_at, Climbs}
+use Rattle.plan.proofs.Paths.{climbs_below, path_known, path_unknown}
+use Rattle.plan.proofs.Judging.{right, judged_at, judging_begun, judging_refused, judging_passed, judging_ended}
+use Rattle.plan.proofs.judge_rows.Goals as goal
+
+pub loop-i-init : goal.loop-i-init
+unfolding path_at
+loop-i-init c = (omega arith, refl, judging_begun _ _ _)
+
+-- where a row is judged: the row, the loop's test, the loop and the start
+pub row_refusal-number-requires : goal.row_refusal-number-requires
+row_refusal-number-requires c =
+    let t = c.args.plan.now in
+    let i = c.loop-i.i in
+    (climbs_below t i no_parent c.loop-i.from (path_at t i) (omega arith) c.loop-i.invariant.1, c.known-known.ensures)
+
+module _ ((goal.at.row_refusal-number-requires c).After-count_at-naming : tie.After-row-refusal invariant-loop decreases-loop) where
+  abbrev row : tie.After-row-at invariant-loop decreases-loop
+  row = (goal.at.row_refusal-number-requires c).In-loop-i
+
+  abbrev turn : tie.In-loop invariant-loop decreases-loop
+  turn = row.before
+
+  abbrev at-loop : tie.At-loop invariant-loop decreases-loop
+  at-loop = turn.before
+
+  abbrev start : tie.Start invariant-loop decreases-loop
+  start = at-loop.before.before.before.before
+
+  few : at-loop.loop.i < 1024
+  few = omega (arith, turn.loop-test.taken, start.pre.0)
+
+  named : c.count_at.result ≡ naming (rows_at start.args.plan.now 0 start.args.rows) at-loop.loop.i
+  named = c.count_at.ensures ∙ start.pre.2 _ few
+
+pub returns-then-number-ne0 : goal.returns-then-number-ne0
+returns-then-number-ne0 c =
+    let says = judging_refused _ _ _ _ (turn (goal.at.returns-then-number-ne0 c).After-row_refusal-number).loop-test.true (row (goal.at.returns-then-number-ne0 c).After-row_refusal-number).row_at.ensures (named (goal.at.returns-then-number-ne0 c).After-row_refusal-number) c.row_refusal-number.ensures c.if-number-ne0.true in
+    (sym says ∙ (at-loop (goal.at.returns-then-number-ne0 c).After-row_refusal-number).loop.invariant.2, omega (arith, few (goal.at.returns-then-number-ne0 c).After-row_refusal-number))
+
+pub overflow_cast-from : goal.overflow_cast-from
+overflow_cast-from c = omega (arith, few (goal.at.overflow_cast-from c).After-row_refusal-number)
+
+pub overflow_add-i : goal.overflow_add-i
+overflow_add-i c = omega (arith, few (goal.at.overflow_add-i c).After-row_refusal-number)
+
+pub loop-i-preserved : goal.loop-i-preserved
+loop-i-preserved c =
+    let l = (at-loop (goal.at.loop-i-preserved c).After-row_refusal-number).loop.invariant in
+    let ok = right _ _ _ _ (sym c.row_refusal-number.ensures ∙ c.if-number-ne0.false) in (
+      omega (arith, (turn (goal.at.loop-i-preserved c).After-row_refusal-number).loop-test.true),
+      ⊎_elim
+          (λ w. rw w.1 (path_known _ _ _ (omega (arith, few (goal.at.loop-i-preserved c).After-row_refusal-number)) (row (goal.at.loop-i-preserved c).After-row_refusal-number).row_at.ensures ok l.1 (sym c.known-known.ensures ∙ w.0.taken)))
+          (λ w. rw w.1 (path_unknown _ _ _ (omega (arith, few (goal.at.loop-i-preserved c).After-row_refusal-number)) (row (goal.at.loop-i-preserved c).After-row_refusal-number).row_at.ensures ok l.1 (sym c.known-known.ensures ∙ w.0.left)))
+          c.if-known.branch,
+      sym (judging_passed _ _ _ _ (turn (goal.at.loop-i-preserved c).After-row_refusal-number).loop-test.true (row (goal.at.loop-i-preserved c).After-row_refusal-number).row_at.ensures (named (goal.at.loop-i-preserved c).After-row_refusal-number) c.row_refusal-number.ensures c.if-number-ne0.false) ∙ l.2,
+    )
+
+pub returns : goal.returns
+returns c = (sym (judging_ended _ _ _ _ c.loop-i-test.false) ∙ c.loop-i.invariant.2, omega arith)

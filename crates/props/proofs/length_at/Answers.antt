@@ -1,0 +1,8 @@
+-- `props::length_at`: what the header has for it.
+use mathlib.Core.Path.{ap}
+use borrow.Author.Rules.{rules}
+use Rattle.props.specs.declared.PropertyHeader.{PropertyHeader}
+use Rattle.props.proofs.length_at.Goals as goal
+
+pub returns : goal.returns
+returns c = ap (λ (h : PropertyHeader). h.length) c.header_at_lem.ensures

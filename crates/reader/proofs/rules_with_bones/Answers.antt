@@ -1,0 +1,11 @@
+-- `reader::rules_with_bones`: the Bones under each row are counted before the rules.
+use Prim.Native.Nat.{ℕ}
+use lib.ListN.{length-replicate}
+use borrow.Author.Rules.{rules}
+use Rattle.reader.proofs.Whole.{bones_counted}
+use Rattle.reader.proofs.rules_with_bones.Goals as goal
+
+pub rules_beside-requires : goal.rules_beside-requires
+rules_beside-requires c =
+    let a = c.args in
+    (c.requires.0, c.requires.1, bones_counted a.file.now a.table.now a.nodes c.requires.0 c.requires.1 _ (length-replicate {A = ℕ} 1024 0) c.count_under.ensures)

@@ -1,0 +1,15 @@
+-- `rules::line_in`: the entry from its row, or the free one.
+use borrow.Author.Rules.{rules}
+use Rattle.le.specs.Le.{val, number_at}
+use Rattle.base.specs.Letters.{letters}
+use Rattle.rules.proofs.Laws.{row_inside, row_past}
+use Rattle.rules.proofs.line_in.Goals as goal
+
+pub returns-then-i-lines : goal.returns-then-i-lines
+returns-then-i-lines c =
+    row_inside c.args.lines.now c.args.i c.if-i-lines.true c.entry_from.ensures
+
+pub returns : goal.returns
+unfolding letters number_at val
+returns c =
+    row_past c.args.lines.now c.args.i c.if-i-lines.false c.entry_from-2.ensures

@@ -1,0 +1,46 @@
+-- `rules::one_of`: the rows of each set are the definition's strings, each as its numbers.
+use native.Mathlib.Omega.{arith}
+use mathlib.Core.Path.{sym, ap, ◌∙◌}
+use borrow.Author.Rules.{rules}
+use Rattle.base.specs.Letters.{letters}
+use Rattle.le.specs.Le.{le}
+use Rattle.rules.specs.Packing.{unpacked, strings_of}
+use Rattle.rules.specs.Rules.{is_one_of}
+use Rattle.rules.proofs.Laws.{no_set}
+use Rattle.rules.proofs.one_of.Goals as goal
+
+-- GONE slice-aggregate-some-stands: slice-aggregate-some-stands c = search rules
+-- GONE slice-aggregate-some-stands-2: slice-aggregate-some-stands-2 c = search rules
+-- GONE slice-aggregate-some-stands-3: slice-aggregate-some-stands-3 c = search rules
+-- GONE slice-aggregate-some-stands-4: slice-aggregate-some-stands-4 c = search rules
+-- GONE slice-aggregate-some-stands-5: slice-aggregate-some-stands-5 c = search rules
+pub returns-in-1 : goal.returns-in-1
+unfolding letters unpacked le strings_of
+returns-in-1 c =
+    c.some_stands.ensures ∙ ap (λ set. is_one_of (strings_of set) c.args.bytes.now) (sym c.match.keys1)
+
+pub returns-in-2 : goal.returns-in-2
+unfolding letters unpacked le strings_of
+returns-in-2 c =
+    c.some_stands-in-2.ensures ∙ ap (λ set. is_one_of (strings_of set) c.args.bytes.now) (sym c.match.keys2)
+
+pub returns-in-3 : goal.returns-in-3
+unfolding letters unpacked le strings_of
+returns-in-3 c =
+    c.some_stands-in-3.ensures ∙ ap (λ set. is_one_of (strings_of set) c.args.bytes.now) (sym c.match.keys3)
+
+pub returns-in-4 : goal.returns-in-4
+unfolding letters unpacked le strings_of
+returns-in-4 c =
+    c.some_stands-in-4.ensures ∙ ap (λ set. is_one_of (strings_of set) c.args.bytes.now) (sym c.match.keys4)
+
+pub returns-in-5 : goal.returns-in-5
+unfolding letters unpacked le strings_of
+returns-in-5 c =
+    c.some_stands-in-5.ensures ∙ ap (λ set. is_one_of (strings_of set) c.args.bytes.now) (sym c.match.keys5)
+
+pub returns-in_default : goal.returns-in_default
+returns-in_default c =
+    let a = c.args in
+    let m = c.in_default.rest in
+    no_set a.set a.bytes.now (λ p. omega (arith, p, m.0.0.0.0.1, m.0.0.0.1, m.0.0.1, m.0.1, m.1))

@@ -1,0 +1,18 @@
+-- `table::clear`: both sides of the definition's test.
+use mathlib.Core.Path.{sym, ◌∙◌}
+use Rattle.table.specs.Table.{cleared}
+use Rattle.table.proofs.Clearing.{has_room_fits}
+use borrow.Author.Rules.{rules}
+use Rattle.table.proofs.clear.Goals as goal
+
+pub zero-requires : goal.zero-requires
+zero-requires c = has_room_fits _ (sym c.has_room.ensures ∙ c.if-has_room.true)
+
+pub returns-then-has_room : goal.returns-then-has_room
+unfolding cleared
+returns-then-has_room c =
+    rw (← c.has_room.ensures, c.if-has_room.true) c.zero.ensures
+
+pub returns-else-has_room : goal.returns-else-has_room
+unfolding cleared
+returns-else-has_room c = rw (← c.has_room.ensures, c.if-has_room.false)

@@ -1,0 +1,15 @@
+-- `table::zero_counts`: before each turn the first `i` numbers are 0, and the rest is as it was.
+use Prim.Native.Nat.{◌-◌, ◌≤◌}
+use native.Mathlib.Omega.{arith}
+use mathlib.Core.Path.{◌≡◌, refl}
+use lib.ListN.{length, length-set}
+use Rattle.table.specs.Table.{zeroed}
+use Rattle.table.proofs.Clearing.{zeroed_none, zeroed_more}
+use borrow.Author.Rules.{rules}
+use Rattle.table.proofs.zero_counts.Given as goal
+
+abbrev pub invariant-loop-i : goal.invariant-loop-i
+invariant-loop-i l = (l.i ≤ length l.initial.counts) × (length l.counts ≡ length l.initial.counts) × (l.counts ≡ zeroed l.i l.initial.counts)
+
+abbrev pub decreases-loop-i : goal.decreases-loop-i
+decreases-loop-i l = length l.initial.counts - l.i

@@ -1,0 +1,13 @@
+-- `text::put`: a label with no digits after it.
+use mathlib.Core.Path.{ap, ◌∙◌}
+use mathlib.Core.List.{append-nil}
+use borrow.Author.Rules.{rules}
+use Rattle.text.specs.Text.{digits, place_after, with_text}
+use Rattle.text.proofs.put.Goals as goal
+
+pub returns : goal.returns
+unfolding digits
+returns c =
+    let a = c.args in
+    let p = c.put_number.ensures in
+    (p.0 ∙ ap (place_after a.out.now a.at) (append-nil a.text.now), p.1 ∙ ap (with_text a.out.now a.at) (append-nil a.text.now))

@@ -1,0 +1,6 @@
+-- `trimmer::moved`.
+use borrow.Author.Rules.{rules}
+use Rattle.trimmer.proofs.moved.Goals as goal
+
+pub returns : goal.returns
+returns c = rw c.own_bytes-own.ensures.0
