@@ -15,7 +15,7 @@ loop-i-init c = (search rules, omega arith)
 pub returns-then-same : goal.returns-then-same
 returns-then-same c =
     let a = c.args in
-    (sym (found a.body.now a.name.now a.starts.now c.loop-i.i (omega arith) (ap (λ n. same n a.name.now) (sym c.name_at.ensures) ∙ sym c.same.ensures ∙ c.if-same.true)) ∙ c.loop-i.invariant.1, c.loop-i.invariant.0)
+    record { result = sym (found a.body.now a.name.now a.starts.now c.loop-i.i (omega arith) (ap (λ n. same n a.name.now) (sym c.name_at.ensures) ∙ sym c.same.ensures ∙ c.if-same.true)) ∙ c.loop-i.invariant.1; within = c.loop-i.invariant.0 }
 
 pub loop-i-preserved : goal.loop-i-preserved
 loop-i-preserved c =
@@ -25,4 +25,4 @@ loop-i-preserved c =
 pub returns : goal.returns
 returns c =
     let a = c.args in
-    (sym (nowhere a.body.now a.name.now a.starts.now c.loop-i.i (omega arith)) ∙ c.loop-i.invariant.1, c.loop-i.invariant.0)
+    record { result = sym (nowhere a.body.now a.name.now a.starts.now c.loop-i.i (omega arith)) ∙ c.loop-i.invariant.1; within = c.loop-i.invariant.0 }

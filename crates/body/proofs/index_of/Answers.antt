@@ -10,7 +10,7 @@ use Rattle.body.proofs.index_of.Goals as goal
 pub returns-then-count-gt-MOST_PROPERTIES : goal.returns-then-count-gt-MOST_PROPERTIES
 returns-then-count-gt-MOST_PROPERTIES c =
     let a = c.args in
-    (ap index_of (many a.body.now a.count c.if-count-gt-MOST_PROPERTIES.true), omega arith)
+    record { result = ap index_of (many a.body.now a.count c.if-count-gt-MOST_PROPERTIES.true); bound = omega arith }
 
 pub loop-left-init : goal.loop-left-init
 loop-left-init c =
@@ -20,14 +20,14 @@ loop-left-init c =
 pub loop-left-preserved : goal.loop-left-preserved
 loop-left-preserved c =
     let a = c.args in
-    (omega arith, sym (ap (index_from c.loop-left.starts c.loop-left.i) (passed a.body.now c.loop-left.left c.loop-left.at c.loop-left-test.true (sym c.step.ensures.0 ∙ c.in-Past.is)) ∙ index_after c.loop-left.starts c.loop-left.i c.loop-left.at (pass a.body.now (c.loop-left.left - 1) c.in-Past.next.at)) ∙ c.loop-left.invariant.1)
+    (omega arith, sym (ap (index_from c.loop-left.starts c.loop-left.i) (passed a.body.now c.loop-left.left c.loop-left.at c.loop-left-test.true (sym c.step.ensures.result ∙ c.in-Past.is)) ∙ index_after c.loop-left.starts c.loop-left.i c.loop-left.at (pass a.body.now (c.loop-left.left - 1) c.in-Past.next.at)) ∙ c.loop-left.invariant.1)
 
 pub returns-in-Refused : goal.returns-in-Refused
 returns-in-Refused c =
     let a = c.args in
-    (sym (ap (index_from c.loop-left.starts c.loop-left.i) (refused a.body.now c.loop-left.left c.loop-left.at c.loop-left-test.true (sym c.step.ensures.0 ∙ c.in-Refused.is)) ∙ index_stop c.loop-left.starts c.loop-left.i _ c.loop-left.at) ∙ c.loop-left.invariant.1, omega arith)
+    record { result = sym (ap (index_from c.loop-left.starts c.loop-left.i) (refused a.body.now c.loop-left.left c.loop-left.at c.loop-left-test.true (sym c.step.ensures.result ∙ c.in-Refused.is)) ∙ index_stop c.loop-left.starts c.loop-left.i _ c.loop-left.at) ∙ c.loop-left.invariant.1; bound = omega arith }
 
 pub returns : goal.returns
 returns c =
     let a = c.args in
-    (sym (ap (index_from c.loop-left.starts c.loop-left.i) (done a.body.now c.loop-left.left c.loop-left.at c.loop-left-test.false) ∙ index_stop c.loop-left.starts c.loop-left.i 0 c.loop-left.at) ∙ c.loop-left.invariant.1, omega arith)
+    record { result = sym (ap (index_from c.loop-left.starts c.loop-left.i) (done a.body.now c.loop-left.left c.loop-left.at c.loop-left-test.false) ∙ index_stop c.loop-left.starts c.loop-left.i 0 c.loop-left.at) ∙ c.loop-left.invariant.1; bound = omega arith }

@@ -5,19 +5,19 @@ use borrow.Author.Rules.{rules}
 use Rattle.body.proofs.next_by.Goals as goal
 
 pub returns-then-n-at : goal.returns-then-n-at
-returns-then-n-at c = let a = c.args in next_past a.body.now a.at a.h (omega (arith, c.if-n-at.true))
+returns-then-n-at c = let a = let all = c.args in next_past a.body.now a.at a.h (omega (arith, c.if-n-at.true)) in record { result = all.0; within = all.1 }
 
 pub returns-then-n-at-2 : goal.returns-then-n-at-2
 returns-then-n-at-2 c =
     let a = c.args in
-    next_short a.body.now a.at a.h c.wide-data.ensures.0 (omega (arith, c.if-n-at-2.true, c.if-n-at.false))
+    let all = next_short a.body.now a.at a.h c.wide-data.ensures.0 (omega (arith, c.if-n-at-2.true, c.if-n-at.false)) in record { result = all.0; within = all.1 }
 
 pub returns-then-n-start : goal.returns-then-n-start
 returns-then-n-start c =
     let a = c.args in
-    next_long a.body.now a.at a.h c.wide-data.ensures.0 c.data_size-taken.ensures (omega (arith, c.if-n-start.true))
+    let all = next_long a.body.now a.at a.h c.wide-data.ensures.0 c.data_size-taken.ensures (omega (arith, c.if-n-start.true)) in record { result = all.0; within = all.1 }
 
 pub returns : goal.returns
 returns c =
     let a = c.args in
-    next_whole a.body.now a.at a.h c.wide-data.ensures.0 c.data_size-taken.ensures (omega (arith, c.if-n-start.false, c.if-n-at-2.false))
+    let all = next_whole a.body.now a.at a.h c.wide-data.ensures.0 c.data_size-taken.ensures (omega (arith, c.if-n-start.false, c.if-n-at-2.false)) in record { result = all.0; within = all.1 }

@@ -12,7 +12,7 @@ use Rattle.body.proofs.pass.Goals.{After-seek}
 ended : (c : After-seek) → sought_end c.seek.result ≡ end_of (properties c.args.body.now c.args.count)
 ended c =
     let a = c.args in
-    ap sought_end c.seek.ensures.0 ∙ sought_all a.body.now a.count 0 ∙ ap end_of (few a.body.now a.count c.if-count-gt-MOST_PROPERTIES.false)
+    ap sought_end c.seek.ensures.result ∙ sought_all a.body.now a.count 0 ∙ ap end_of (few a.body.now a.count c.if-count-gt-MOST_PROPERTIES.false)
 
 pub returns-then-count-eq0 : goal.returns-then-count-eq0
 returns-then-count-eq0 c =

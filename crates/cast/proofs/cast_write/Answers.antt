@@ -5,5 +5,4 @@ use borrow.Author.Rules.{rules}
 use Rattle.cast.proofs.cast_write.Goals as goal
 
 pub returns : goal.returns
-returns c =
-    (c.Numbers-of.ensures ∙ ap written_as c.write.ensures.0, c.write.ensures.1)
+returns c = record { result = c.Numbers-of.ensures ∙ ap written_as c.write.ensures.result; output = c.write.ensures.output }

@@ -12,6 +12,7 @@ use Rattle.table.proofs.Rests.{rest, rest_first}
 use Rattle.emit.proofs.Sizes.{owns, length_nodes_bytes}
 use Rattle.emit.proofs.Measuring.{Measuring, Turn, measuring_begun, owns_begun, roots_begun, measuring_ended, rest_over, owns_more, root_more, root_other, size_fits, sum_fits, parent_inside, measuring_top, measuring_under}
 use Rattle.emit.proofs.measure.Goals as goal
+use Rattle.emit.proofs.measure.Goals.{After-own-own, Joined-parent-i, Then-parent-i}
 
 pub loop-i-init : goal.loop-i-init
 loop-i-init c =
@@ -28,48 +29,36 @@ loop-i-init c =
     )
 
 -- at a row
-pub own-own-requires : goal.own-own-requires
-own-own-requires c = search rules
-
-module _ ((goal.at.own-own-requires c).After-row_at-row : tie.After-own invariant-loop decreases-loop) where
-  abbrev turn : tie.In-loop invariant-loop decreases-loop
-  turn = (goal.at.own-own-requires c).At-loop-i
-
-  abbrev at-loop : tie.At-loop invariant-loop decreases-loop
-  at-loop = turn.before
-
-  abbrev start : tie.Start invariant-loop decreases-loop
-  start = at-loop.before.before.before.before
-
+module _ (c : After-own-own) where
   abbrev source : List ℕ
-  source = start.args.source.now
+  source = c.args.source.now
 
   abbrev plan : List ℕ
-  plan = start.args.plan.now
+  plan = c.args.plan.now
 
   abbrev rows : ℕ
-  rows = start.args.rows
+  rows = c.args.rows
 
   abbrev j : ℕ
-  j = at-loop.loop.i - 1
+  j = c.loop-i.i - 1
 
-  known : Turn source plan rows at-loop.loop.sizes at-loop.loop.i j c.row_at.result c.own.result
+  known : Turn source plan rows c.loop-i.sizes c.loop-i.i j c.row_at-row.result c.own-own.result
   known =
-      let l = at-loop.loop.inv in
+      let l = c.loop-i.inv in
       record {
-        next = omega (arith, turn.loop-test.taken);
-        here = omega (arith, turn.loop-test.taken, l.0);
-        inside = omega (arith, turn.loop-test.taken, l.0, start.pre.0, l.1);
+        next = omega (arith, c.loop-i-test.taken);
+        here = omega (arith, c.loop-i-test.taken, l.0);
+        inside = omega (arith, c.loop-i-test.taken, l.0, c.requires.0, l.1);
         passed = l.2;
-        row = c.row_at.ensures;
-        bytes = c.own.ensures.0;
+        row = c.row_at-row.ensures;
+        bytes = c.own-own.ensures.0;
       }
 
   scaled : j * 4 < 18446744073709551616
-  scaled = omega (arith, known.here, start.pre.0)
+  scaled = omega (arith, known.here, c.requires.0)
 
-  owned : at-loop.loop.length + c.own.result ≡ 16 + owns source (rest plan rows j)
-  owned = omega (arith, at-loop.loop.inv.3, owns_more known)
+  owned : c.loop-i.length + c.own-own.result ≡ 16 + owns source (rest plan rows j)
+  owned = omega (arith, c.loop-i.inv.3, owns_more known)
 
 pub overflow_add-length : goal.overflow_add-length
 overflow_add-length c = omega (arith, c.own-own.ensures.1, (at-loop (goal.at.overflow_add-length c).After-own-own).loop.invariant.4)
@@ -100,15 +89,9 @@ pub bounds-sizes-i-in-loop-i : goal.bounds-sizes-i-in-loop-i
 bounds-sizes-i-in-loop-i c = (known (goal.at.bounds-sizes-i-in-loop-i c).After-own-own).inside
 
 -- at a row whose parent is an earlier one
-pub overflow_cast-parent : goal.overflow_cast-parent
-overflow_cast-parent c = search rules
-
-module _ ((goal.at.overflow_cast-parent c).After-struct_known-1 : tie.Then2 invariant-loop decreases-loop) where
-  abbrev at-child : tie.After-own invariant-loop decreases-loop
-  at-child = (goal.at.overflow_cast-parent c).After-row_at-row
-
-  parent_scaled : at-child.before.row_at.result.parent * 4 < 18446744073709551616
-  parent_scaled = omega (arith, c.if2.true, scaled at-child)
+module _ (c : Then-parent-i) where
+  parent_scaled : c.row_at-row.result.parent * 4 < 18446744073709551616
+  parent_scaled = omega (arith, c.if-parent-i.true, scaled BADPLACE:c:After-own-own)
 
 pub offset_bounds-sizes-parent : goal.offset_bounds-sizes-parent
 offset_bounds-sizes-parent c = omega (arith, parent_scaled (goal.at.offset_bounds-sizes-parent c).Then-parent-i)
@@ -124,32 +107,29 @@ overflow_add-sizes c =
 pub offset_bounds-sizes-parent-then-parent-i : goal.offset_bounds-sizes-parent-then-parent-i
 offset_bounds-sizes-parent-then-parent-i c = omega (arith, parent_scaled (goal.at.offset_bounds-sizes-parent-then-parent-i c).Then-parent-i)
 
--- at a row whose size is put
 pub bounds-sizes-parent-then-parent-i : goal.bounds-sizes-parent-then-parent-i
 bounds-sizes-parent-then-parent-i c = parent_inside (known (at-child (goal.at.bounds-sizes-parent-then-parent-i c).Then-parent-i)) c.if-parent-i.true
 
-module _ ((goal.at.bounds-sizes-parent-then-parent-i c).After-slice_known-then-parent-i-1 : tie.Joined2 invariant-loop decreases-loop) where
-  abbrev at_row : tie.After-own invariant-loop decreases-loop
-  at_row = (goal.at.bounds-sizes-parent-then-parent-i c).Else-length-gt-MOST_BYTES
-
-  passed : (length c.if2.sizes ≡ 1024) × Measuring c.if2.sizes (source at_row) (plan at_row) (rows at_row) (j at_row)
+-- at a row whose size is put
+module _ (c : Joined-parent-i) where
+  passed : (length c.if-parent-i.sizes ≡ 1024) × Measuring c.if-parent-i.sizes (source BADPLACE:c:After-own-own) (plan BADPLACE:c:After-own-own) (rows BADPLACE:c:After-own-own) (j BADPLACE:c:After-own-own)
   passed =
-      let k = known at_row in
-      let l = (at-loop at_row).loop.inv.1 in
+      let k = known BADPLACE:c:After-own-own in
+      let l = (at-loop BADPLACE:c:After-own-own).loop.inv.1 in
       ⊎_elim
       (λ w. let d = measuring_under k w.0.taken w.2 in (d.0 ∙ l, d.1))
       (λ w. let d = measuring_top k (λ b. omega (arith, b, w.0.left)) w.1 in (d.0 ∙ l, d.1))
-      c.if2.branch
+      c.if-parent-i.branch
 
-  short : (at-loop at_row).loop.length + at_row.own_val.result ≤ 16777216
-  short = omega (arith, c.if1.false)
+  short : (at-loop BADPLACE:c:After-own-own).loop.length + c.own_val.result ≤ 16777216
+  short = omega (arith, c.if-length-gt-MOST_BYTES.false)
 
   -- the loop goes on, with the root count that the row gives
-  goes_on : (count : ℕ) → count ≡ roots (rest (plan at_row) (rows at_row) (j at_row)) → count ≤ (at-loop at_row).loop.roots + 1
-      → invariant-loop (plan at_row) (rows at_row) (source at_row) c.if2.sizes 0 0 0 c.if2.sizes ((at-loop at_row).loop.length + at_row.own_val.result) count (j at_row)
+  goes_on : (count : ℕ) → count ≡ roots (rest (plan BADPLACE:c:After-own-own) (rows BADPLACE:c:After-own-own) (j BADPLACE:c:After-own-own)) → count ≤ (at-loop BADPLACE:c:After-own-own).loop.roots + 1
+      → invariant-loop (plan BADPLACE:c:After-own-own) (rows BADPLACE:c:After-own-own) (source BADPLACE:c:After-own-own) c.if-parent-i.sizes 0 0 0 c.if-parent-i.sizes ((at-loop BADPLACE:c:After-own-own).loop.length + c.own_val.result) count (j BADPLACE:c:After-own-own)
   goes_on count e most =
-      let k = known at_row in
-      (omega (arith, k.here), passed.0, passed.1, owned at_row, short, e, omega (arith, most, (at-loop at_row).loop.inv.6, k.next, k.here))
+      let k = known BADPLACE:c:After-own-own in
+      (omega (arith, k.here), passed.0, passed.1, owned BADPLACE:c:After-own-own, short, e, omega (arith, most, (at-loop BADPLACE:c:After-own-own).loop.inv.6, k.next, k.here))
 
 pub overflow_add-roots : goal.overflow_add-roots
 overflow_add-roots c =

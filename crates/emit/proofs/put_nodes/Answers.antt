@@ -10,6 +10,7 @@ use Rattle.table.specs.Table.{rows_at}
 use Rattle.emit.specs.Emission.{nodes_bytes}
 use Rattle.emit.proofs.Nodes.{nodes_from, nodes_all, nodes_none, length_more, nodes_more}
 use Rattle.emit.proofs.put_nodes.Goals as goal
+use Rattle.emit.proofs.put_nodes.Goals.{After-shared_slice_known-in-loop-i-1}
 
 pub loop-i-init : goal.loop-i-init
 loop-i-init c =
@@ -18,33 +19,21 @@ loop-i-init c =
     (omega arith, refl, omega (arith, ap length all, c.requires.1.1.1), ap (sets a.out.now 16) all)
 
 -- at a row: the bytes of its node, and those of the rest
-pub row_at-row-requires : goal.row_at-row-requires
-row_at-row-requires c = search rules
-
-module _ ((goal.at.row_at-row-requires c).In-loop-i : tie.After-shared-slice-known4 invariant-loop decreases-loop) where
-  abbrev row : tie.After-row-at invariant-loop decreases-loop
-  row = (goal.at.row_at-row-requires c).After-shared_slice_known-3-1
-
-  abbrev at-loop : tie.At-loop invariant-loop decreases-loop
-  at-loop = row.before.before
-
-  abbrev start : tie.Start invariant-loop decreases-loop
-  start = at-loop.before.before.before.before.before
-
+module _ (c : After-shared_slice_known-in-loop-i-1) where
   abbrev source : List ℕ
-  source = start.args.source.now
+  source = c.args.source.now
 
   abbrev plan : List ℕ
-  plan = start.args.plan.now
+  plan = c.args.plan.now
 
   abbrev rows : ℕ
-  rows = start.args.rows
+  rows = c.args.rows
 
   abbrev i : ℕ
-  i = at-loop.loop.i
+  i = c.loop-i.i
 
   here : i < rows
-  here = row.before.loop-test.taken
+  here = c.loop-i-test.taken
 
 pub bounds-sizes-i : goal.bounds-sizes-i
 bounds-sizes-i c = omega (arith, here (goal.at.bounds-sizes-i c).After-shared_slice_known-in-loop-i-1-unread, (start (goal.at.bounds-sizes-i c).After-shared_slice_known-in-loop-i-1-unread).requires.0, (start (goal.at.bounds-sizes-i c).After-shared_slice_known-in-loop-i-1-unread).requires.1.0)
@@ -58,7 +47,7 @@ pub loop-i-preserved : goal.loop-i-preserved
 loop-i-preserved c =
     let l = (at-loop (goal.at.loop-i-preserved c).After-shared_slice_known-in-loop-i-1).loop in
     let size = (start (goal.at.loop-i-preserved c).After-shared_slice_known-in-loop-i-1).requires.1.1.0 (i (goal.at.loop-i-preserved c).After-shared_slice_known-in-loop-i-1) (here (goal.at.loop-i-preserved c).After-shared_slice_known-in-loop-i-1) in
-    let e = c.put_node-at.ensures in (
+    let e = c.put_node-at.ensures.?place_output in (
       omega (arith, here (goal.at.loop-i-preserved c).After-shared_slice_known-in-loop-i-1),
       ap length e.1 ∙ simp length-sets l.inv.1,
       omega (arith, e.0, length_more (source (goal.at.loop-i-preserved c).After-shared_slice_known-in-loop-i-1) (plan (goal.at.loop-i-preserved c).After-shared_slice_known-in-loop-i-1) (rows (goal.at.loop-i-preserved c).After-shared_slice_known-in-loop-i-1) (i (goal.at.loop-i-preserved c).After-shared_slice_known-in-loop-i-1) (here (goal.at.loop-i-preserved c).After-shared_slice_known-in-loop-i-1) (row (goal.at.loop-i-preserved c).After-shared_slice_known-in-loop-i-1).row_at.ensures size, l.inv.2),

@@ -10,35 +10,30 @@ use Rattle.faces.specs.Faces.{width_of, faces_in}
 use Rattle.faces.specs.Private.{any_outside}
 use Rattle.faces.proofs.Blocks.{clean_none, clean_more}
 use Rattle.faces.proofs.clean_faces.Goals as goal
+use Rattle.faces.proofs.clean_faces.Goals.{In-loop-done}
 
 pub loop-done-init : goal.loop-done-init
 loop-done-init c = let a = c.args in (omega arith, clean_none (width_of a.code) a.vertices a.block.now)
 
--- a small block is there
 pub overflow_sub-n : goal.overflow_sub-n
 overflow_sub-n c = c.loop-done.invariant.0
 
-module _ (t : tie.In-loop invariant-loop decreases-loop) where
-  abbrev l : tie.At-loop invariant-loop decreases-loop
-  l = t.before
-
-  abbrev start : tie.Start invariant-loop decreases-loop
-  start = l.before.before.before
-
+-- a small block is there
+module _ (t : In-loop-done) where
   abbrev step : ℕ
-  step = 3 * l.before.width_of_lem.result
+  step = 3 * t.width_of.result
 
-  same : step ≡ 3 * width_of start.args.code
-  same = ap (λ w. 3 * w) l.before.width_of_lem.ensures.0
+  same : step ≡ 3 * width_of t.args.code
+  same = ap (λ w. 3 * w) t.width_of.ensures.result
 
-  fits : l.loop.done * step + 64 * step ≤ length start.args.block.now
+  fits : t.loop-done.done * step + 64 * step ≤ length t.args.block.now
   fits =
-      let n = start.args.n in
-      let done = l.loop.done in
-      let few : done + 64 ≤ n = omega (arith, t.loop-test.taken, l.loop.inv.0) in
+      let n = t.args.n in
+      let done = t.loop-done.done in
+      let few : done + 64 ≤ n = omega (arith, t.loop-done-test.taken, t.loop-done.inv.0) in
       let own : step ≤ step = omega arith in
       let most : (done + 64) * step ≤ n * step = mul-le-mul few own in
-      omega (arith, most, add-mul done 64 step, ap (λ s. n * s) same, start.pre.1)
+      omega (arith, most, add-mul done 64 step, ap (λ s. n * s) same, t.requires.1)
 
 pub overflow_mul-at : goal.overflow_mul-at
 overflow_mul-at c = omega (arith, fits (goal.at.overflow_mul-at c).In-loop-done)
@@ -61,7 +56,7 @@ tally_of-t-requires c =
     (omega arith, omega (arith, same (goal.at.tally_of-t-requires c).In-loop-done, length-take (at + 64 * step (goal.at.tally_of-t-requires c).In-loop-done - at) (drop at (start (goal.at.tally_of-t-requires c).In-loop-done).args.block.now), length-drop at (start (goal.at.tally_of-t-requires c).In-loop-done).args.block.now, fits (goal.at.tally_of-t-requires c).In-loop-done))
 
 pub returns-then-t : goal.returns-then-t
-returns-then-t c = let o = (l (goal.at.returns-then-t c).In-loop-done).loop.inv in (o.0, o.1)
+returns-then-t c = let o = let all = (l (goal.at.returns-then-t c).In-loop-done).loop.inv in (o.0, o.1) in record { within = all.0; clean = all.1 }
 
 pub overflow_add-done : goal.overflow_add-done
 overflow_add-done c = let t = (goal.at.overflow_add-done c).In-loop-done in omega (arith, t.loop-test.true, (l t).loop.invariant.0)
@@ -80,4 +75,4 @@ loop-done-preserved c =
     )
 
 pub returns : goal.returns
-returns c = (c.loop-done.invariant.0, c.loop-done.invariant.1)
+returns c = record { within = c.loop-done.invariant.0; clean = c.loop-done.invariant.1 }

@@ -11,18 +11,18 @@ use Rattle.faces.proofs.scan.Goals as goal
 
 pub overflow_mul-size : goal.overflow_mul-size
 overflow_mul-size c =
-    let most : 3 * c.width_of_lem.result ≤ 12 = omega arith in
+    let most : 3 * c.width_of.result ≤ 12 = omega arith in
     omega (arith, mul-le-mul_left c.args.count most)
 
 pub returns-then-bytes-size : goal.returns-then-bytes-size
 returns-then-bytes-size c =
     let a = c.args in
-    told scan_numbers (c.scan_each.ensures ∙ scan_whole a.vertices (faces_in (width_of a.code) a.count a.bytes.now))
+    let all = told scan_numbers (c.scan_each.ensures ∙ scan_whole a.vertices (faces_in (width_of a.code) a.count a.bytes.now)) in record { result = all.0; numbers = all.1 }
 
 pub scan_blocks-requires : goal.scan_blocks-requires
 scan_blocks-requires c =
     let a = c.args in
-    omega (arith, ap (λ w. a.count * (3 * w)) c.width_of_lem.ensures.0)
+    omega (arith, ap (λ w. a.count * (3 * w)) c.width_of.ensures.result)
 
 pub returns : goal.returns
-returns c = told scan_numbers c.scan_blocks.ensures
+returns c = let all = told scan_numbers c.scan_blocks.ensures in record { result = all.0; numbers = all.1 }

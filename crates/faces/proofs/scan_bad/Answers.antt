@@ -10,34 +10,29 @@ use Rattle.faces.specs.Faces.{width_of, faces_in}
 use Rattle.faces.specs.Private.{scan_from}
 use Rattle.faces.proofs.Blocks.{bad_after}
 use Rattle.faces.proofs.scan_bad.Goals as goal
+use Rattle.faces.proofs.scan_bad.Goals.{After-width_of}
 
 pub clean_faces-clean-requires : goal.clean_faces-clean-requires
 clean_faces-clean-requires c = let p = c.requires.0 in (p.0, p.1)
 
 -- the clean faces lie in the block
-pub overflow_mul-at : goal.overflow_mul-at
-overflow_mul-at c = omega arith
-
-module _ (w : tie.After-width-of) where
+module _ (w : After-width_of) where
   abbrev clean : ℕ
-  clean = w.before.clean-faces.result
-
-  abbrev start : tie.Start
-  start = w.before.before.before
+  clean = w.clean_faces-clean.result
 
   abbrev at : ℕ
-  at = clean * (3 * w.width_of_lem.result)
+  at = clean * (3 * w.width_of.result)
 
-  same : at ≡ clean * (3 * width_of start.args.code)
-  same = ap (λ k. clean * (3 * k)) w.width_of_lem.ensures.0
+  same : at ≡ clean * (3 * width_of w.args.code)
+  same = ap (λ k. clean * (3 * k)) w.width_of.ensures.result
 
-  within : at ≤ length start.args.block.now
+  within : at ≤ length w.args.block.now
   within =
-      let n = start.args.n in
-      let step = 3 * w.width_of_lem.result in
+      let n = w.args.n in
+      let step = 3 * w.width_of.result in
       let own : step ≤ step = omega arith in
-      let most : clean * step ≤ n * step = mul-le-mul w.before.clean-faces.ensures.0 own in
-      omega (arith, most, ap (λ k. n * (3 * k)) w.width_of_lem.ensures.0, start.pre.0.1)
+      let most : clean * step ≤ n * step = mul-le-mul w.clean_faces-clean.ensures.within own in
+      omega (arith, most, ap (λ k. n * (3 * k)) w.width_of.ensures.result, w.requires.0.1)
 
 pub overflow_mul-at-2 : goal.overflow_mul-at-2
 overflow_mul-at-2 c = omega (arith, within (goal.at.overflow_mul-at-2 c).After-width_of)
@@ -52,7 +47,7 @@ pub slice_bounds-scan_each-end : goal.slice_bounds-scan_each-end
 slice_bounds-scan_each-end c = omega (arith, within (goal.at.slice_bounds-scan_each-end c).After-width_of)
 
 pub overflow_sub-n : goal.overflow_sub-n
-overflow_sub-n c = c.clean_faces-clean.ensures.0
+overflow_sub-n c = c.clean_faces-clean.ensures.within
 
 pub overflow_add-start : goal.overflow_add-start
 overflow_add-start c = let w = (goal.at.overflow_add-start c).After-width_of in omega (arith, w.before.clean-faces.ensures.0, (start w).requires.0)
@@ -66,4 +61,4 @@ returns c =
     let bs = a.block.now in
     c.scan_each.ensures
     ∙ ap (λ l. scan_from a.vertices (a.start + 3 * clean (goal.at.returns c).After-width_of) (faces_in (width_of a.code) (a.n - clean (goal.at.returns c).After-width_of) l)) (rest_drop bs (at (goal.at.returns c).After-width_of))
-    ∙ bad_after (width_of a.code) a.vertices bs (clean (goal.at.returns c).After-width_of) a.n a.start (at (goal.at.returns c).After-width_of) c.clean_faces-clean.ensures.0 (same (goal.at.returns c).After-width_of) c.clean_faces-clean.ensures.1 (start (goal.at.returns c).After-width_of).requires.1
+    ∙ bad_after (width_of a.code) a.vertices bs (clean (goal.at.returns c).After-width_of) a.n a.start (at (goal.at.returns c).After-width_of) c.clean_faces-clean.ensures.within (same (goal.at.returns c).After-width_of) c.clean_faces-clean.ensures.clean (start (goal.at.returns c).After-width_of).requires.1

@@ -13,22 +13,18 @@ use Rattle.faces.specs.Faces.{width_of, faces_in, below, degenerate as degenerat
 use Rattle.faces.proofs.Laws.{ended, length_faces_in, below_none, count_none, scan_below, scan_whole}
 use Rattle.faces.proofs.Blocks.{tally_few, block_fits, block_long, below_block, past_block, counted_block}
 use Rattle.faces.proofs.scan_blocks.Goals as goal
+use Rattle.faces.proofs.scan_blocks.Goals.{After-block_of-n, After-tally_of-t}
 
 pub loop-left-init : goal.loop-left-init
 loop-left-init c = (omega arith, omega arith, omega arith, refl, zero-add _)
 
 -- the block, and the bytes after it, are there
-pub block_of-n-requires : goal.block_of-n-requires
-block_of-n-requires c = omega arith
-
-module _ (b : tie.After-block-of invariant-loop decreases-loop) where
-  fits : let l = b.before.before in
-      let a = l.before.before.before.args in
-      l.loop.at + b.Block-of.result * (3 * l.before.width_of_lem.result) + (l.loop.left - b.Block-of.result) * (3 * width_of a.code) ≤ length a.bytes.now
+module _ (b : After-block_of-n) where
+  fits : let a = b.args in
+      b.loop-left.at + b.Block-of.result * (3 * b.width_of.result) + (b.loop-left.left - b.Block-of.result) * (3 * width_of a.code) ≤ length a.bytes.now
   fits =
-      let l = b.before.before in
-      let a = l.before.before.before.args in
-      block_fits a.vertices a.bytes.now l.loop.at b.Block-of.result l.loop.left (omega arith) l.before.width_of_lem.ensures.0 l.loop.invariant.2
+      let a = b.args in
+      block_fits a.vertices a.bytes.now b.loop-left.at b.Block-of.result b.loop-left.left (omega arith) b.width_of.ensures.result b.loop-left.invariant.2
 
 pub overflow_mul-end : goal.overflow_mul-end
 overflow_mul-end c = omega (arith, fits (goal.at.overflow_mul-end c).After-block_of-n)
@@ -42,41 +38,41 @@ slice_bounds-block-start c = omega (arith, fits (goal.at.slice_bounds-block-star
 pub slice_bounds-block-end : goal.slice_bounds-block-end
 slice_bounds-block-end c = omega (arith, fits (goal.at.slice_bounds-block-end c).After-block_of-n)
 
--- what the tally of the block tells
 pub tally_of-t-requires : goal.tally_of-t-requires
 tally_of-t-requires c =
     let a = c.args in (
       omega arith,
-      block_long a.vertices a.bytes.now c.loop-left.at c.Block-of.result c.loop-left.left (omega arith) c.width_of_lem.ensures.0 c.loop-left.invariant.2,
+      block_long a.vertices a.bytes.now c.loop-left.at c.Block-of.result c.loop-left.left (omega arith) c.width_of.ensures.result c.loop-left.invariant.2,
     )
 
-module _ (m : tie.After-tally-of invariant-loop decreases-loop) where
+-- what the tally of the block tells
+module _ (m : After-tally_of-t) where
   abbrev all : List Face
-  all = let a = m.before.before.before.before.before.before.before.args in faces_in (width_of a.code) a.count a.bytes.now
+  all = let a = m.args in faces_in (width_of a.code) a.count a.bytes.now
 
-  few : m.tally-of.result.degenerate ≤ m.before.before.Block-of.result
+  few : m.tally_of-t.result.degenerate ≤ m.Block-of.result
   few =
-      let (goal.at.tally_of-t-requires c).After-block_of-n = m.before.before in
-      let a = c.args in
-      tally_few (width_of a.code) a.vertices c.Block-of.result
-      (take (c.loop-left.at + c.Block-of.result * (3 * c.width_of_lem.result) - c.loop-left.at) (drop c.loop-left.at a.bytes.now)) m.tally-of.ensures
+      let a = m.args in
+      tally_few (width_of a.code) a.vertices m.Block-of.result
+      (take (m.loop-left.at + m.Block-of.result * (3 * m.width_of.result) - m.loop-left.at) (drop m.loop-left.at a.bytes.now)) m.tally_of-t.ensures
 
 pub scan_bad-requires : goal.scan_bad-requires
 scan_bad-requires c =
-    let a = c.args in (
+    let a = c.args in
+    let all = (
       (
         omega (arith, c.Block-of.ensures),
-        block_long a.vertices a.bytes.now c.loop-left.at c.Block-of.result c.loop-left.left (omega arith) c.width_of_lem.ensures.0 c.loop-left.invariant.2,
+        block_long a.vertices a.bytes.now c.loop-left.at c.Block-of.result c.loop-left.left (omega arith) c.width_of.ensures.result c.loop-left.invariant.2,
         omega (arith, c.loop-left.invariant.0),
       ),
       sym (ap (λ (t : Tally). t.outside) c.tally_of-t.ensures) ∙ c.if-t.true,
-    )
+    ) in record { block = all.0; bad = all.1 }
 
 pub returns-then-t : goal.returns-then-t
 returns-then-t c =
     let a = c.args in
     c.scan_bad.ensures
-    ∙ past_block a.vertices a.bytes.now c.loop-left.at c.Block-of.result c.loop-left.left (omega arith) c.width_of_lem.ensures.0 c.tally_of-t.ensures
+    ∙ past_block a.vertices a.bytes.now c.loop-left.at c.Block-of.result c.loop-left.left (omega arith) c.width_of.ensures.result c.tally_of-t.ensures
     c.loop-left.done c.if-t.true (all (goal.at.returns-then-t c).After-tally_of-t)
     ∙ ap {A = Values} (λ r. counted_by r (all (goal.at.returns-then-t c).After-tally_of-t)) c.loop-left.invariant.3
     ∙ scan_whole a.vertices (all (goal.at.returns-then-t c).After-tally_of-t)
@@ -96,7 +92,7 @@ overflow_add-degenerate c = omega (arith, few (goal.at.overflow_add-degenerate c
 pub loop-left-preserved : goal.loop-left-preserved
 loop-left-preserved c =
     let a = c.args in
-    let same = c.width_of_lem.ensures.0 in (
+    let same = c.width_of.ensures.result in (
       omega arith,
       omega (arith, few (goal.at.loop-left-preserved c).After-tally_of-t),
       fits (goal.at.loop-left-preserved c).After-block_of-n,

@@ -14,13 +14,12 @@ use Rattle.faces.specs.Private.{scan_from}
 use Rattle.faces.specs.Faces.{width_of, faces_in, below, degenerate as degenerates, counted_by}
 use Rattle.faces.proofs.Laws.{first, ended, length_faces_in, past_first, past_second, past_third, passed, below_none, counted, not_counted, count_none, scan_past, scan_below}
 use Rattle.faces.proofs.scan_each.Goals as goal
+use Rattle.faces.proofs.scan_each.Goals.{After-face_at-f, At-loop-left}
 
--- at the loop's head: the limit, all faces, those from the place on, and those after the first of them
--- what the face that was read and those after it say
 pub loop-left-init : goal.loop-left-init
 loop-left-init c =
     let a = c.args in
-    let same = c.width_of_lem.ensures.0 in (
+    let same = c.width_of-width.ensures.result in (
       omega arith,
       omega arith,
       omega arith,
@@ -28,43 +27,44 @@ loop-left-init c =
       zero-add _ ∙ ap (λ w. degenerates (faces_in w a.count a.bytes.now)) same,
     )
 
-module _ (l : tie.At-loop invariant-loop decreases-loop) where
+-- at the loop's head: the limit, all faces, those from the place on, and those after the first of them
+module _ (l : At-loop-left) where
   abbrev limit : ℕ
-  limit = l.before.before.before.args.vertices
+  limit = l.args.vertices
 
   abbrev begun : ℕ
-  begun = l.before.before.before.args.start
+  begun = l.args.start
 
   abbrev all : List Face
-  all = let a = l.before.before.before.args in faces_in (width_of a.code) a.count a.bytes.now
+  all = let a = l.args in faces_in (width_of a.code) a.count a.bytes.now
 
   abbrev onward : List Face
-  onward = faces_in l.before.width_of_lem.result l.loop.left (drop l.loop.at l.before.before.before.args.bytes.now)
+  onward = faces_in l.width_of-width.result l.loop-left.left (drop l.loop-left.at l.args.bytes.now)
 
   abbrev later : List Face
   later =
-      let w = l.before.width_of_lem.result in
-      faces_in w (l.loop.left - 1) (drop (l.loop.at + 3 * w) l.before.before.before.args.bytes.now)
+      let w = l.width_of-width.result in
+      faces_in w (l.loop-left.left - 1) (drop (l.loop-left.at + 3 * w) l.args.bytes.now)
 
-module _ (m : tie.After-face-at invariant-loop decreases-loop) where
-  here : onward m.before.before ≡ m.face-at.result ∷ later m.before.before
+-- what the face that was read and those after it say
+module _ (m : After-face_at-f) where
+  here : onward BADPLACE:m:At-loop-left ≡ m.face_at-f.result ∷ later BADPLACE:m:At-loop-left
   here =
-      let l = m.before.before in
-      first l.before.width_of_lem.result l.loop.left l.before.before.before.args.bytes.now l.loop.at (omega arith)
-      ∙ ap {A = Face} (λ f. f ∷ later l) (sym m.face-at.ensures)
+      first m.width_of-width.result m.loop-left.left m.args.bytes.now m.loop-left.at (omega arith)
+      ∙ ap {A = Face} (λ f. f ∷ later BADPLACE:m:At-loop-left) (sym m.face_at-f.ensures)
 
   abbrev says : List Face → Values
-  says fs = below (limit m.before.before) m.before.before.loop.done fs
+  says fs = below (limit BADPLACE:m:At-loop-left) m.loop-left.done fs
 
-  values : says (m.face-at.result ∷ later m.before.before) ≡ below (limit m.before.before) (begun m.before.before) (all m.before.before)
-  values = ap says (sym here) ∙ m.before.before.loop.inv.3
+  values : says (m.face_at-f.result ∷ later BADPLACE:m:At-loop-left) ≡ below (limit BADPLACE:m:At-loop-left) (begun BADPLACE:m:At-loop-left) (all BADPLACE:m:At-loop-left)
+  values = ap says (sym here) ∙ m.loop-left.inv.3
 
-  stopped : {k : ℕ} → says (m.face-at.result ∷ later m.before.before) ≡ NotBelow k
-      → counted_by (NotBelow k) [] ≡ scan_from (limit m.before.before) (begun m.before.before) (all m.before.before)
-  stopped e = scan_past (limit m.before.before) (begun m.before.before) (all m.before.before) (sym values ∙ e)
+  stopped : {k : ℕ} → says (m.face_at-f.result ∷ later BADPLACE:m:At-loop-left) ≡ NotBelow k
+      → counted_by (NotBelow k) [] ≡ scan_from (limit BADPLACE:m:At-loop-left) (begun BADPLACE:m:At-loop-left) (all BADPLACE:m:At-loop-left)
+  stopped e = scan_past (limit BADPLACE:m:At-loop-left) (begun BADPLACE:m:At-loop-left) (all BADPLACE:m:At-loop-left) (sym values ∙ e)
 
-  count : m.before.before.loop.degenerate + degenerates (m.face-at.result ∷ later m.before.before) ≡ degenerates (all m.before.before)
-  count = ap (λ fs. m.before.before.loop.degenerate + degenerates fs) (sym here) ∙ m.before.before.loop.inv.4
+  count : m.loop-left.degenerate + degenerates (m.face_at-f.result ∷ later BADPLACE:m:At-loop-left) ≡ degenerates (all BADPLACE:m:At-loop-left)
+  count = ap (λ fs. m.loop-left.degenerate + degenerates fs) (sym here) ∙ m.loop-left.inv.4
 
 pub returns-then-vertices-f : goal.returns-then-vertices-f
 returns-then-vertices-f c =
@@ -98,7 +98,7 @@ loop-left-preserved c =
 pub returns : goal.returns
 returns c =
     let a = c.args in
-    let none = ended c.width_of_lem.result c.loop-left.left (drop c.loop-left.at a.bytes.now) (omega arith) in
+    let none = ended c.width_of-width.result c.loop-left.left (drop c.loop-left.at a.bytes.now) (omega arith) in
     c.all_below.ensures
     ∙ scan_below a.vertices a.start (all (goal.at.returns c).At-loop-left)
     (sym c.loop-left.invariant.3 ∙ below_none a.vertices c.loop-left.done none)

@@ -5,10 +5,10 @@ use Rattle.faces.proofs.Laws.{width_byte, width_short, width_other}
 use Rattle.faces.proofs.width_of.Goals as goal
 
 pub returns-in-98 : goal.returns-in-98
-returns-in-98 c = (sym (width_byte c.args.code c.in-98.is), omega arith)
+returns-in-98 c = record { result = sym (width_byte c.args.code c.in-98.is); bound = omega arith }
 
 pub returns-in-104 : goal.returns-in-104
-returns-in-104 c = (sym (width_short c.args.code c.in-104.is), omega arith)
+returns-in-104 c = record { result = sym (width_short c.args.code c.in-104.is); bound = omega arith }
 
 pub returns-in_default : goal.returns-in_default
-returns-in_default c = let r = c.in_default.rest in (sym (width_other c.args.code r.0.1 r.1), omega arith)
+returns-in_default c = let r = let all = c.in_default.in_default-own.rest in (sym (width_other c.args.code r.0.1 r.1), omega arith) in record { result = all.0; bound = all.1 }

@@ -3,4 +3,4 @@ use Rattle.std.proofs.Common.{ltb, length, ap, rules}
 use Rattle.judge.proofs.has.Goals as goal
 
 pub returns : goal.returns
-returns c = ap (λ i. ltb i (length c.args.starts.now)) c.first_named.ensures.0
+returns c = ap (λ i. ltb i (length c.args.starts.now)) c.first_named.ensures.result

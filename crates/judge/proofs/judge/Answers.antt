@@ -1,11 +1,22 @@
 -- `judge::judge`: the properties that are found by their headers, at most 64.
--- at most 64 properties
 use Rattle.std.proofs.Common.{◌≡◌, ◌≤◌, ap, ◌∙◌, ⊎_elim, arith}
 use Rattle.body.specs.Body.{skim, skimmed}
 use Rattle.body.proofs.Skimmed.{skim_none, skim_all}
 use Rattle.judge.specs.ByLine.{judged_by_line}
 use Rattle.judge.proofs.Typing.{noted_for}
 use Rattle.judge.proofs.judge.Goals as goal
+use Rattle.judge.proofs.judge.Goals.{Joined-count-gt-MOST_PROPERTIES, else-count-gt-MOST_PROPERTIES, then-count-gt-MOST_PROPERTIES}
+
+-- at most 64 properties
+module _ (c : Joined-count-gt-MOST_PROPERTIES) where
+  few : c.if-count-gt-MOST_PROPERTIES.n ≤ 64
+  few = elim c.if-count-gt-MOST_PROPERTIES.branch [ then-count-gt-MOST_PROPERTIES w ↦ omega arith | else-count-gt-MOST_PROPERTIES w ↦ omega arith ]
+
+  taken : skim c.args.body.now c.if-count-gt-MOST_PROPERTIES.n 0 ≡ skimmed c.args.body.now c.args.count
+  taken =
+      let s = c.args.body.now in
+      let k = c.args.count in
+      elim c.if-count-gt-MOST_PROPERTIES.branch [ then-count-gt-MOST_PROPERTIES w ↦ skim_none s k c.if-count-gt-MOST_PROPERTIES.n w.if-count-gt-MOST_PROPERTIES.true w.1 | else-count-gt-MOST_PROPERTIES w ↦ skim_all s k c.if-count-gt-MOST_PROPERTIES.n w.if-count-gt-MOST_PROPERTIES.false w.1 ]
 
 pub judge_first-requires : goal.judge_first-requires
 judge_first-requires c = (few (goal.at.judge_first-requires c).Joined-count-gt-MOST_PROPERTIES, omega arith, omega arith, omega arith, omega arith)
@@ -13,8 +24,9 @@ judge_first-requires c = (few (goal.at.judge_first-requires c).Joined-count-gt-M
 pub returns : goal.returns
 returns c =
     let a = (start (goal.at.returns c).Joined-count-gt-MOST_PROPERTIES).args in
-    let x = c.judge_first.ensures in
-    let noted = noted_for (taken (goal.at.returns c).Joined-count-gt-MOST_PROPERTIES) x.1.0 in (
+    let x = c.judge_first.ensures.?result_noted_bounds in
+    let noted = noted_for (taken (goal.at.returns c).Joined-count-gt-MOST_PROPERTIES) x.1.0 in
+    let all = (
       x.0 ∙ ap (λ l. judged_by_line a.kind a.wanted a.lines.now a.body.now l a.bones) (taken (goal.at.returns c).Joined-count-gt-MOST_PROPERTIES),
       (noted.starts, (noted.numbers, (noted.keys, (noted.marks, x.1.1)))),
-    )
+    ) in record { result = all.0; starts = all.1.0; numbers = all.1.1.0; keys = all.1.1.1.0; marks = all.1.1.1.1.0; bounds = all.1.1.1.1.1 }

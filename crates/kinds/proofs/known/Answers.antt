@@ -6,4 +6,4 @@ use Rattle.kinds.proofs.known.Goals as goal
 
 pub returns : goal.returns
 unfolding is_known
-returns c = c.is_listed.ensures ∙ ap is_listed c.parents_of_lem.ensures
+returns c = c.is_listed.ensures ∙ ap is_listed c.parents_of.ensures

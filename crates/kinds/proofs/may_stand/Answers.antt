@@ -8,4 +8,4 @@ use Rattle.kinds.proofs.may_stand.Goals as goal
 pub returns : goal.returns
 returns c =
     let a = c.args in
-    c.stands.ensures ∙ ap (stands_by a.parent) c.parents_of_lem.ensures ∙ stands_is a.parent a.kind
+    c.stands.ensures ∙ ap (stands_by a.parent) c.parents_of.ensures ∙ stands_is a.parent a.kind

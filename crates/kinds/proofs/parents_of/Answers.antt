@@ -32,7 +32,7 @@ returns-in-1701603686 c = ap parents_of (sym c.in-1701603686.is)
 pub returns-in_default : goal.returns-in_default
 unfolding parents_of parents_in parents_table
 returns-in_default c =
-    let r = c.in_default.rest in
+    let r = c.in_default.in_default-own.rest in
     let file = r.1 in
     let animated = r.0.1 in
     let boned = r.0.0.1 in

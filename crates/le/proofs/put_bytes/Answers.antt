@@ -18,4 +18,4 @@ copy_to-requires c = elim c.if-bytes-rest.branch [ then-bytes-rest w ↦ (omega 
 pub returns : goal.returns
 returns c =
     let a = c.args in
-    put_part a.out.now a.at a.bytes.now c.if-bytes-rest.n (elim c.if-bytes-rest.branch [ then-bytes-rest w ↦ inl w.1 | else-bytes-rest w ↦ inr w.1 ]) c.copy_to.ensures
+    put_part a.out.now a.at a.bytes.now c.if-bytes-rest.n (elim c.if-bytes-rest.branch [ then-bytes-rest w ↦ inl w.n-is | else-bytes-rest w ↦ inr w.n-is ]) c.copy_to.ensures

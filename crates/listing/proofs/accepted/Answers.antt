@@ -14,6 +14,36 @@ use Rattle.listing.proofs.Laws.{puts_written, passed_none, passed_more, passed_a
 use Rattle.listing.proofs.Whole.{summary_of, foot_of, file_parts, file_length}
 use borrow.Author.Rules.{rules}
 use Rattle.listing.proofs.accepted.Goals as goal
+use Rattle.listing.proofs.accepted.Goals.{After-nodes_size}
+
+module _ (c : After-nodes_size) where
+  abbrev out : List ℕ
+  out = c.args.out.now
+
+  abbrev bytes : ℕ
+  bytes = c.args.bytes
+
+  abbrev account : Account
+  account = c.args.a
+
+  abbrev listed : List Row
+  listed = rows_at c.args.table.now 0 account.nodes
+
+  abbrev whole : List ℕ
+  whole = printed (file_lines bytes (Accepted account) listed)
+
+  abbrev head : List ℕ
+  head = text_of (summary_of bytes account listed)
+
+  abbrev rows : List ℕ
+  rows = printed (node_lines 0 listed)
+
+  abbrev foot : List ℕ
+  foot = printed (foot_of bytes account listed)
+
+  -- what was added up is the length
+  long : length whole ≡ c.size.result + c.nodes_size.result + c.foot_size-foot.result
+  long = omega (arith, file_length bytes account listed, c.size.ensures.0, c.nodes_size.ensures.0, c.foot_size-foot.ensures.0)
 
 pub returns-then-out-size : goal.returns-then-out-size
 returns-then-out-size c =

@@ -21,10 +21,10 @@ short c =
 pub returns-then-bytes-n : goal.returns-then-bytes-n
 returns-then-bytes-n c =
     let a = c.args in
-    (rw (take_all a.n a.bytes.now (omega arith)) c.list.ensures, short (goal.at.returns-then-bytes-n c).After-shared_slice_known-1)
+    record { whole = rw (take_all a.n a.bytes.now (omega arith)) c.list.ensures.?length_output; size = short (goal.at.returns-then-bytes-n c).After-shared_slice_known-1 }
 
 pub slice_bounds-list-end : goal.slice_bounds-list-end
 slice_bounds-list-end c = let s = BAD:c.before.before.before.before in sym (length-take-le s.args.n s.args.bytes.now c.if1.false)
 
 pub returns : goal.returns
-returns c = (c.list-2.ensures, short (goal.at.returns c).Start)
+returns c = record { whole = c.list-2.ensures.?length_output; size = short (goal.at.returns c).Start }

@@ -12,6 +12,6 @@ pub returns : goal.returns
 returns c =
     let text = listing_of (take c.args.n c.args.read.now) in
     let out = c.args.out.now in
-    let p = c.list_first.ensures.0 in
-    let room : 0 + length text ≤ length out = omega (arith, c.list_first.ensures.1, c.list_first-arg-2-1.given.0.1) in
-    (p.0 ∙ after_put out 0 text room ∙ omega arith, (p.1 ∙ written_put out 0 text room, after_within out 0 text (omega arith) p))
+    let p = c.list_first.ensures.whole in
+    let room : 0 + length text ≤ length out = omega (arith, c.list_first.ensures.size, c.list_first-arg-2-1.given.0.1) in
+    record { length = p.0 ∙ after_put out 0 text room ∙ omega arith; output = p.1 ∙ written_put out 0 text room; within = after_within out 0 text (omega arith) p }

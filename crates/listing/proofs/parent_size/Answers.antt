@@ -17,4 +17,4 @@ pub returns : goal.returns
 returns c =
     let p = c.args.parent in
     let e = ap length (parent_some p c.if-parent-eq-NO_PARENT.false) ∙ length_digits 10 (decimal_size p) p in
-    (c.decimal_size.ensures.0 ∙ sym e, c.decimal_size.ensures.1)
+    (c.decimal_size.ensures.result ∙ sym e, c.decimal_size.ensures.bound)

@@ -7,9 +7,7 @@ use borrow.Author.Rules.{rules}
 use Rattle.listing.proofs.put.Goals as goal
 
 pub returns-then-out-size : goal.returns-then-out-size
-returns-then-out-size c =
-    put_short c.args.out.now 0 (text_of c.args.line) (omega (arith, c.size.ensures.0))
+returns-then-out-size c = let all = put_short c.args.out.now 0 (text_of c.args.line) (omega (arith, c.size.ensures.0)) in record { length = all.0; output = all.1 }
 
 pub returns : goal.returns
-returns c =
-    puts_written c.args.out.now 0 (text_of c.args.line) (omega (arith, c.size.ensures.0)) c.put_line.ensures
+returns c = let all = puts_written c.args.out.now 0 (text_of c.args.line) (omega (arith, c.size.ensures.0)) c.put_line.ensures in record { length = all.0; output = all.1 }

@@ -8,14 +8,36 @@ use Rattle.listing.proofs.Laws.{Passed, passed_none, passed_room, passed_more, p
 use Rattle.listing.proofs.Whole.{foot_parts}
 use borrow.Author.Rules.{rules}
 use Rattle.listing.proofs.put_foot.Goals as goal
-use Rattle.listing.proofs.put_foot.Goals.{After-put_line-last, After-put_line-next}
+use Rattle.listing.proofs.put_foot.Goals.{After-put_line-last, After-put_line-next, Start}
 
-first : (c : After-put_line-next) → Passed (out BADPLACE:Start) (at BADPLACE:Start) (whole BADPLACE:Start) (later BADPLACE:Start) c.put_line-next.result c.put_line-next.new.0
-first c = let s = BADPLACE:Start in passed_more (out s) (at s) (whole s) (passed_none (out s) (at s) (whole s)) (text_of FileHeader) (later s) (parts s) c.put_line-next.ensures
+module _ (s : Start) where
+  abbrev out : List ℕ
+  out = s.args.out.now
 
-second : (c : After-put_line-last) → Passed (out BADPLACE:Start) (at BADPLACE:Start) (whole BADPLACE:Start) (last BADPLACE:Start) c.put_line-last.result c.put_line-last.new.0
+  abbrev at : ℕ
+  at = s.args.at
+
+  abbrev whole : List ℕ
+  whole = printed (foot_lines s.args.triangles s.args.degenerate s.args.total)
+
+  abbrev counts : List ℕ
+  counts = text_of (Faces s.args.triangles s.args.degenerate)
+
+  abbrev last : List ℕ
+  last = text_of (Total s.args.total) ++ []
+
+  abbrev later : List ℕ
+  later = counts ++ last
+
+  parts : whole ≡ text_of FileHeader ++ later
+  parts = foot_parts s.args.triangles s.args.degenerate s.args.total
+
+first : (c : After-put_line-next) → Passed (out BADPLACE:c:Start) (at BADPLACE:c:Start) (whole BADPLACE:c:Start) (later BADPLACE:c:Start) c.put_line-next.result c.put_line-next.new.0
+first c = let s = BADPLACE:c:Start in passed_more (out s) (at s) (whole s) (passed_none (out s) (at s) (whole s)) (text_of FileHeader) (later s) (parts s) c.put_line-next.ensures
+
+second : (c : After-put_line-last) → Passed (out BADPLACE:c:Start) (at BADPLACE:c:Start) (whole BADPLACE:c:Start) (last BADPLACE:c:Start) c.put_line-last.result c.put_line-last.new.0
 second c =
-    passed_more (out BADPLACE:Start) (at BADPLACE:Start) (whole BADPLACE:Start) (first BADPLACE:After-put_line-next) (counts BADPLACE:Start) (last BADPLACE:Start) refl c.put_line-last.ensures
+    passed_more (out BADPLACE:c:Start) (at BADPLACE:c:Start) (whole BADPLACE:c:Start) (first BADPLACE:c:After-put_line-next) (counts BADPLACE:c:Start) (last BADPLACE:c:Start) refl c.put_line-last.ensures
 
 pub put_line-next-requires : goal.put_line-next-requires
 put_line-next-requires c =

@@ -46,7 +46,7 @@ pub returns-in-FileHeader : goal.returns-in-FileHeader
 unfolding words_of text_of letters
 returns-in-FileHeader c =
     let e = c.enum_told.given.1 in
-    as_line e (puts_first c.args.out.now c.args.at (letters "header 16" ++ newline) (rw e at c.requires) c.put.ensures)
+    as_line e (puts_first c.args.out.now c.args.at (letters "header 16" ++ newline) (rw e at c.requires) c.put.ensures.?place_output)
 
 pub returns-in-Faces : goal.returns-in-Faces
 unfolding words_of text_of letters
@@ -63,4 +63,4 @@ pub returns-in-TooLong : goal.returns-in-TooLong
 unfolding words_of text_of letters
 returns-in-TooLong c =
     let e = c.enum-told2.given.1 in
-    as_line e (puts_first c.args.out.now c.args.at (letters "too long" ++ newline) (rw e at c.requires) c.put-in-TooLong.ensures)
+    as_line e (puts_first c.args.out.now c.args.at (letters "too long" ++ newline) (rw e at c.requires) c.put-in-TooLong.ensures.?place_output)

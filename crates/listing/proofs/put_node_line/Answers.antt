@@ -10,6 +10,39 @@ use Rattle.listing.specs.Private.{Puts}
 use Rattle.listing.proofs.Laws.{front, puts_first, puts_then, puts_both, room_after}
 use borrow.Author.Rules.{rules}
 use Rattle.listing.proofs.put_node_line.Goals as goal
+use Rattle.listing.proofs.put_node_line.Goals.{After-put_hexadecimal-b}
+
+module _ (c : After-put_hexadecimal-b) where
+  abbrev out : List ℕ
+  out = c.args.out.now
+
+  abbrev at : ℕ
+  at = c.args.at
+
+  abbrev t1 : List ℕ
+  t1 = labelled "row " c.args.index
+
+  abbrev t2 : List ℕ
+  t2 = letters " kind " ++ hexadecimal c.args.row.kind
+
+  abbrev t3 : List ℕ
+  t3 = letters " parent " ++ parent_text c.args.row.parent
+
+  abbrev t4 : List ℕ
+  t4 = labelled " own " (own_bytes c.args.row)
+
+  room4 : at + length (t1 ++ t2 ++ t3 ++ t4) ≤ length out
+  unfolding words_of text_of
+  room4 = front out at (t1 ++ t2 ++ t3 ++ t4) newline c.requires
+
+  room3 : at + length (t1 ++ t2 ++ t3) ≤ length out
+  room3 = front out at (t1 ++ t2 ++ t3) t4 room4
+
+  first_two : Puts out at (t1 ++ t2) c.put_hexadecimal-b.result c.put_hexadecimal-b.new.0
+  unfolding letters
+  first_two =
+      let room2 = front out at (t1 ++ t2) t3 room3 in
+      puts_then out at t1 t2 room2 (puts_first out at t1 (front out at t1 t2 room2) c.put-decimal.ensures) c.put_hexadecimal-b.ensures.?place_output
 
 -- GONE slice-aggregate-put-decimal: slice-aggregate-put-decimal c = search rules
 -- GONE slice-aggregate-put-hexadecimal: slice-aggregate-put-hexadecimal c = search rules
@@ -21,7 +54,7 @@ put_parent-c-requires c = let h = (goal.at.put_parent-c-requires c).After-put_he
 pub returns : goal.returns
 unfolding words_of text_of letters
 returns c =
-    let own = c.own-bytes.ensures.0 in
+    let own = c.own-bytes.ensures.place in
     let three = puts_both (out (goal.at.returns c).After-slice_known-3-1) (at (goal.at.returns c).After-slice_known-3-1) (t1 (goal.at.returns c).After-slice_known-3-1 ++ t2 (goal.at.returns c).After-slice_known-3-1) (t3 (goal.at.returns c).After-slice_known-3-1) (first_two (goal.at.returns c).After-slice_known-3-1) c.put-parent.ensures in
     let four = puts_then (out (goal.at.returns c).After-slice_known-3-1) (at (goal.at.returns c).After-slice_known-3-1) (t1 (goal.at.returns c).After-slice_known-3-1 ++ t2 (goal.at.returns c).After-slice_known-3-1 ++ t3 (goal.at.returns c).After-slice_known-3-1) (t4 (goal.at.returns c).After-slice_known-3-1) (room4 (goal.at.returns c).After-slice_known-3-1) three (rw own at c.put-decimal2.ensures) in
-    puts_then (out (goal.at.returns c).After-slice_known-3-1) (at (goal.at.returns c).After-slice_known-3-1) (t1 (goal.at.returns c).After-slice_known-3-1 ++ t2 (goal.at.returns c).After-slice_known-3-1 ++ t3 (goal.at.returns c).After-slice_known-3-1 ++ t4 (goal.at.returns c).After-slice_known-3-1) newline (start (goal.at.returns c).After-slice_known-3-1).requires four c.put.ensures
+    puts_then (out (goal.at.returns c).After-slice_known-3-1) (at (goal.at.returns c).After-slice_known-3-1) (t1 (goal.at.returns c).After-slice_known-3-1 ++ t2 (goal.at.returns c).After-slice_known-3-1 ++ t3 (goal.at.returns c).After-slice_known-3-1 ++ t4 (goal.at.returns c).After-slice_known-3-1) newline (start (goal.at.returns c).After-slice_known-3-1).requires four c.put.ensures.?place_output

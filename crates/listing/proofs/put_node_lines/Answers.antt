@@ -11,29 +11,21 @@ use Rattle.listing.proofs.Laws.{Passed, passed_none, passed_room, passed_more, p
 use Rattle.listing.proofs.Whole.{nodes_from, nodes_all, nodes_more, nodes_none}
 use borrow.Author.Rules.{rules}
 use Rattle.listing.proofs.put_node_lines.Goals as goal
+use Rattle.listing.proofs.put_node_lines.Goals.{After-row_at-row}
 
 pub loop-i-init : goal.loop-i-init
 loop-i-init c = (omega arith, refl, passed_none _ _ _)
 
 -- at a turn of the loop, the line of the row comes next
-pub row_at-row-requires : goal.row_at-row-requires
-row_at-row-requires c = search rules
-
-module _ ((goal.at.row_at-row-requires c).In-loop-i : tie.After-row-at invariant-loop decreases-loop) where
-  abbrev head : tie.At-loop invariant-loop decreases-loop
-  head = (goal.at.row_at-row-requires c).After-shared_slice_known-1
-
-  abbrev start : tie.Start invariant-loop decreases-loop
-  start = head.before.before.before
-
+module _ (c : After-row_at-row) where
   abbrev line : List ℕ
-  line = text_of (Node head.loop.i c.row_at.result)
+  line = text_of (Node c.loop-i.i c.row_at-row.result)
 
   abbrev later : List ℕ
-  later = nodes_from start.args.table.now start.args.nodes (head.loop.i + 1)
+  later = nodes_from c.args.table.now c.args.nodes (c.loop-i.i + 1)
 
-  next_line : nodes_from start.args.table.now start.args.nodes head.loop.i ≡ line ++ later
-  next_line = nodes_more start.args.table.now start.args.nodes head.loop.i c.loop-test.true c.row_at.ensures
+  next_line : nodes_from c.args.table.now c.args.nodes c.loop-i.i ≡ line ++ later
+  next_line = nodes_more c.args.table.now c.args.nodes c.loop-i.i c.loop-i-test.true c.row_at-row.ensures
 
 pub put_line-next-requires : goal.put_line-next-requires
 put_line-next-requires c =

@@ -18,4 +18,4 @@ returns c =
     let room2 = front out at (t1 ++ t2) newline c.requires in
     let p1 = puts_first out at t1 (front out at t1 t2 room2) c.put-decimal.ensures in
     let p2 = puts_then out at t1 t2 room2 p1 c.put-decimal2.ensures in
-    puts_then out at (t1 ++ t2) newline c.requires p2 c.put.ensures
+    puts_then out at (t1 ++ t2) newline c.requires p2 c.put.ensures.?place_output

@@ -12,11 +12,11 @@ pub returns-then-parent-eq-NO_PARENT : goal.returns-then-parent-eq-NO_PARENT
 unfolding letters
 returns-then-parent-eq-NO_PARENT c =
     let e = parent_none c.args.parent c.if1.true in
-    rw e (puts_first c.args.out.now c.args.at (letters " parent -") (rw e at c.requires) c.put.ensures)
+    rw e (puts_first c.args.out.now c.args.at (letters " parent -") (rw e at c.requires) c.put.ensures.?place_output)
 
 -- GONE slice-aggregate-put-decimal: slice-aggregate-put-decimal c = search rules
 pub returns : goal.returns
 unfolding letters
 returns c =
     let e = parent_some c.args.parent c.if1.false in
-    rw e (puts_first c.args.out.now c.args.at (letters " parent " ++ decimal c.args.parent) (rw e at c.requires) c.put_decimal.ensures)
+    rw e (puts_first c.args.out.now c.args.at (letters " parent " ++ decimal c.args.parent) (rw e at c.requires) c.put_decimal.ensures.?place_output)

@@ -23,4 +23,4 @@ returns c =
     let p1 = puts_first out at t1 (front out at t1 t2 room2) c.put-decimal.ensures in
     let p2 = puts_then out at t1 t2 room2 p1 c.put-decimal2.ensures in
     let p3 = puts_then out at (t1 ++ t2) t3 room3 p2 c.put-decimal3.ensures in
-    puts_then out at (t1 ++ t2 ++ t3) newline c.requires p3 c.put.ensures
+    puts_then out at (t1 ++ t2 ++ t3) newline c.requires p3 c.put.ensures.?place_output

@@ -14,4 +14,4 @@ returns c =
     let at = c.args.at in
     let t = labelled "total " c.args.bytes in
     let p = puts_first out at t (front out at t newline c.requires) c.put-decimal.ensures in
-    puts_then out at t newline c.requires p c.put.ensures
+    puts_then out at t newline c.requires p c.put.ensures.?place_output

@@ -14,7 +14,7 @@ returns-in-Summary c =
 pub returns-in-Node : goal.returns-in-Node
 returns-in-Node c =
     let g = c.line-in-Node-1.given in
-    told g.1 (omega (arith, node_length g.0.0 g.0.1.0, c.decimal_size-in-Node-2.ensures.0 ∙ ap decimal_size c.own_bytes-own.ensures.0)) (omega arith)
+    told g.1 (omega (arith, node_length g.0.0 g.0.1.0, c.decimal_size-in-Node-2.ensures.result ∙ ap decimal_size c.own_bytes-own.ensures.result)) (omega arith)
 
 pub returns-in-FileHeader : goal.returns-in-FileHeader
 returns-in-FileHeader c = told c.in-FileHeader.is header_length (omega arith)

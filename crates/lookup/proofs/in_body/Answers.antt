@@ -20,14 +20,14 @@ answers : (c : After-seek) → let a = c.args in
 answers c =
     let a = c.args in
     let most = c.if-count-gt-MOST_PROPERTIES.false in
-    ap (by_sought a.body.now) c.seek.ensures.0 ∙ sought_found a.body.now a.name.now a.count 0 most
+    ap (by_sought a.body.now) c.seek.ensures.result ∙ sought_found a.body.now a.name.now a.count 0 most
     ∙ ap (found_in a.body.now a.name.now) (few a.body.now a.count most) ∙ body_found a.body.now a.name.now a.count
 
 -- what is found lies within
 within : (c : In-Found) → c.in-Found.end ≤ length c.args.body.now
 within c =
     let a = c.args in
-    subst (SoughtWithin (length a.body.now)) (sym c.seek.ensures.0 ∙ c.in-Found.is) (sought_within a.body.now a.name.now a.count 0)
+    subst (SoughtWithin (length a.body.now)) (sym c.seek.ensures.result ∙ c.in-Found.is) (sought_within a.body.now a.name.now a.count 0)
 
 pub returns-then-count-gt-MOST_PROPERTIES : goal.returns-then-count-gt-MOST_PROPERTIES
 returns-then-count-gt-MOST_PROPERTIES c =
@@ -46,7 +46,7 @@ judged : (c : After-exact) → let a = c.args in
 judged c =
     let a = c.args in
     ap (λ b. cond (not b) (Refused 42) (At c.in-Found.start c.in-Found.end)) c.exact.ensures
-    ∙ ap (by_sought a.body.now) (sym c.in-Found.is) ∙ answers BADPLACE:After-seek
+    ∙ ap (by_sought a.body.now) (sym c.in-Found.is) ∙ answers BADPLACE:c:After-seek
 
 pub returns-then-not-exact : goal.returns-then-not-exact
 returns-then-not-exact c = rw (not-true c.exact.result c.if-not-exact.true) at (judged (goal.at.returns-then-not-exact c).After-exact)

@@ -9,14 +9,13 @@ use Rattle.names.proofs.Laws.{numbered_short, numbered_other, numbered_by}
 use Rattle.names.proofs.number_after.Goals as goal
 
 pub returns-then-name-n : goal.returns-then-name-n
-returns-then-name-n c = told numeral_numbers (sym (numbered_short _ _ c.if-name-n.true))
+returns-then-name-n c = let all = told numeral_numbers (sym (numbered_short _ _ c.if-name-n.true)) in record { result = all.0; numbers = all.1 }
 
 pub slice_bounds-same-end : goal.slice_bounds-same-end
 slice_bounds-same-end c = sym (length-take-le _ BAD:c.before.before.before.before.args.name.now c.if1.false)
 
 pub returns-then-not-same : goal.returns-then-not-same
-returns-then-not-same c = told numeral_numbers (sym (numbered_other _ _ (sym c.same.ensures ∙ not-true _ c.if-not-same.true)))
+returns-then-not-same c = let all = told numeral_numbers (sym (numbered_other _ _ (sym c.same.ensures ∙ not-true _ c.if-not-same.true))) in record { result = all.0; numbers = all.1 }
 
 pub returns : goal.returns
-returns c =
-    told numeral_numbers (c.number.ensures ∙ sym (numbered_by _ _ (sym c.same.ensures ∙ not-false _ c.if-not-same.false)))
+returns c = let all = told numeral_numbers (c.number.ensures ∙ sym (numbered_by _ _ (sym c.same.ensures ∙ not-false _ c.if-not-same.false))) in record { result = all.0; numbers = all.1 }

@@ -10,36 +10,25 @@ use Rattle.plan.specs.Private.{path_at, Climbs}
 use Rattle.plan.proofs.Paths.{climbs_below, path_known, path_unknown}
 use Rattle.plan.proofs.Judging.{right, judged_at, judging_begun, judging_refused, judging_passed, judging_ended}
 use Rattle.plan.proofs.judge_rows.Goals as goal
+use Rattle.plan.proofs.judge_rows.Goals.{After-row_refusal-number}
 
 pub loop-i-init : goal.loop-i-init
 unfolding path_at
 loop-i-init c = (omega arith, refl, judging_begun _ _ _)
 
--- where a row is judged: the row, the loop's test, the loop and the start
 pub row_refusal-number-requires : goal.row_refusal-number-requires
 row_refusal-number-requires c =
     let t = c.args.plan.now in
     let i = c.loop-i.i in
     (climbs_below t i no_parent c.loop-i.from (path_at t i) (omega arith) c.loop-i.invariant.1, c.known-known.ensures)
 
-module _ ((goal.at.row_refusal-number-requires c).After-count_at-naming : tie.After-row-refusal invariant-loop decreases-loop) where
-  abbrev row : tie.After-row-at invariant-loop decreases-loop
-  row = (goal.at.row_refusal-number-requires c).In-loop-i
+-- where a row is judged: the row, the loop's test, the loop and the start
+module _ (c : After-row_refusal-number) where
+  few : c.loop-i.i < 1024
+  few = omega (arith, c.loop-i-test.taken, c.requires.0)
 
-  abbrev turn : tie.In-loop invariant-loop decreases-loop
-  turn = row.before
-
-  abbrev at-loop : tie.At-loop invariant-loop decreases-loop
-  at-loop = turn.before
-
-  abbrev start : tie.Start invariant-loop decreases-loop
-  start = at-loop.before.before.before.before
-
-  few : at-loop.loop.i < 1024
-  few = omega (arith, turn.loop-test.taken, start.pre.0)
-
-  named : c.count_at.result ≡ naming (rows_at start.args.plan.now 0 start.args.rows) at-loop.loop.i
-  named = c.count_at.ensures ∙ start.pre.2 _ few
+  named : c.count_at-naming.result ≡ naming (rows_at c.args.plan.now 0 c.args.rows) c.loop-i.i
+  named = c.count_at-naming.ensures ∙ c.requires.2 _ few
 
 pub returns-then-number-ne0 : goal.returns-then-number-ne0
 returns-then-number-ne0 c =

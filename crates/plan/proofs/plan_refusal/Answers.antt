@@ -31,4 +31,4 @@ judge_rows-requires c =
 pub returns : goal.returns
 returns c =
     let a = c.args in
-    (c.judge_rows.ensures.0 ∙ ap (λ n. plan_refusal a.source.now (rows_at a.plan.now 0 n)) (many (goal.at.returns c).Joined-rows-lt-MOST_ROWS), c.judge_rows.ensures.1)
+    record { result = c.judge_rows.ensures.0 ∙ ap (λ n. plan_refusal a.source.now (rows_at a.plan.now 0 n)) (many (goal.at.returns c).Joined-rows-lt-MOST_ROWS); bound = c.judge_rows.ensures.1 }

@@ -14,11 +14,11 @@ use Rattle.plan.proofs.row_refusal.Goals as goal
 use Rattle.plan.proofs.row_refusal.Goals.{After-exact, Else-is_outside, Else-not-known, Else-not-right_parent}
 
 pub returns-then-not-right_parent : goal.returns-then-not-right_parent
-returns-then-not-right_parent c = refusal_parent _ _ _ _ (sym c.right_parent_lem.ensures ∙ not-true _ c.if-not-right_parent.true)
+returns-then-not-right_parent c = refusal_parent _ _ _ _ (sym c.right_parent.ensures ∙ not-true _ c.if-not-right_parent.true)
 
 -- what is known of the row after each test
 right_parent_lem : (c : Else-not-right_parent) → let a = c.args in right_parent a.row (path_at a.plan.now a.index) ≡ true
-right_parent_lem c = sym c.right_parent_lem.ensures ∙ not-false _ c.if-not-right_parent.false
+right_parent_lem c = sym c.right_parent.ensures ∙ not-false _ c.if-not-right_parent.false
 
 inside : (c : Else-is_outside) → let a = c.args in outside (length a.source.now) a.row ≡ false
 inside c = sym c.is_outside.ensures ∙ c.if-is_outside.false

@@ -5,4 +5,4 @@ use Rattle.props.specs.declared.PropertyHeader.{PropertyHeader}
 use Rattle.props.proofs.code_at.Goals as goal
 
 pub returns : goal.returns
-returns c = ap (λ (h : PropertyHeader). h.code) c.header_at_lem.ensures
+returns c = ap (λ (h : PropertyHeader). h.code) c.header_at.ensures

@@ -10,17 +10,17 @@ use Rattle.props.proofs.data_at.Goals.{After-wide-data}
 
 -- the name size that was read
 size : (c : After-wide-data) → c.wide-data.result ≡ size_at c.args.body.now c.args.at
-size c = c.wide-data.ensures.0 ∙ ap (λ (h : PropertyHeader). h.size) c.header_at_lem.ensures
+size c = c.wide-data.ensures.0 ∙ ap (λ (h : PropertyHeader). h.size) c.header_at.ensures
 
 pub returns-then-n-at : goal.returns-then-n-at
-returns-then-n-at c = let a = c.args in (sym (data_past a.body.now a.at (omega arith)), omega arith)
+returns-then-n-at c = let a = let all = c.args in (sym (data_past a.body.now a.at (omega arith)), omega arith) in record { result = all.0; within = all.1 }
 
 pub returns-then-n-at-2 : goal.returns-then-n-at-2
 returns-then-n-at-2 c =
     let a = c.args in
-    (sym (data_past a.body.now a.at (omega (arith, size (goal.at.returns-then-n-at-2 c).After-wide-data))), omega arith)
+    record { result = sym (data_past a.body.now a.at (omega (arith, size (goal.at.returns-then-n-at-2 c).After-wide-data))); within = omega arith }
 
 pub returns : goal.returns
 returns c =
     let a = c.args in
-    (omega (arith, size (goal.at.returns c).After-wide-data, data_here a.body.now a.at (omega (arith, size (goal.at.returns c).After-wide-data))), omega arith)
+    record { result = omega (arith, size (goal.at.returns c).After-wide-data, data_here a.body.now a.at (omega (arith, size (goal.at.returns c).After-wide-data))); within = omega arith }

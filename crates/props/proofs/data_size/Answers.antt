@@ -14,7 +14,7 @@ found : (c : After-element_size) {size : Size} → c.element_size.result ≡ siz
     data_size (element_size c.args.code) c.args.length c.args.rest.now
 found c e =
     let a = c.args in
-    ap (λ (z : Size). data_size z a.length a.rest.now) (sym e ∙ c.element_size.ensures.0)
+    ap (λ (z : Size). data_size z a.length a.rest.now) (sym e ∙ c.element_size.ensures.result)
 
 pub overflow_mul-result : goal.overflow_mul-result
 overflow_mul-result c = product_fits (search rules) (search rules)

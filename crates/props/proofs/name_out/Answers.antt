@@ -12,7 +12,7 @@ abbrev number : Bool → ℕ
 number none = cond none 11 10
 
 type : (c : After-no_such) {b : Bool} → c.no_such.result ≡ b → number b ≡ name_out c.args.code
-type c e = ap number (sym e ∙ c.no_such.ensures ∙ ap no_such c.element_size.ensures.0)
+type c e = ap number (sym e ∙ c.no_such.ensures ∙ ap no_such c.element_size.ensures.result)
 
 pub returns-then-no_such : goal.returns-then-no_such
 returns-then-no_such c = type (goal.at.returns-then-no_such c).After-no_such c.if-no_such.true

@@ -9,4 +9,4 @@ use Rattle.props.proofs.rest_at.Goals as goal
 pub returns : goal.returns
 returns c =
     let a = c.args in
-    rest_drop a.body.now c.data_at-start.result ∙ ap (λ k. drop k a.body.now) c.data_at-start.ensures.0 ∙ drop_data_at a.body.now a.at
+    rest_drop a.body.now c.data_at-start.result ∙ ap (λ k. drop k a.body.now) c.data_at-start.ensures.result ∙ drop_data_at a.body.now a.at

@@ -15,47 +15,36 @@ use Rattle.reader.proofs.Charges.{own_split}
 use Rattle.reader.proofs.Linking.{links_refused, links_accepted}
 use Rattle.reader.proofs.Whole.{table_ok, links_place, refused_rules, refused_links_lem, account_checked}
 use Rattle.reader.proofs.checked.Goals as goal
+use Rattle.reader.proofs.checked.Goals.{After-all_rules-judged, Else-links-ne0, Else-rules-ne0, Then-links-ne0}
 
 -- at the answer of the rules and the links: the file, its rows, and that the rules are those of the rows
-pub all_rules-judged-requires : goal.all_rules-judged-requires
-all_rules-judged-requires c = search rules
-
-module _ ((goal.at.all_rules-judged-requires c).After-shared_slice_known-2-1 : tie.After-all-rules) where
-  abbrev start : tie.Start
-  start = BAD:c.before.before.before
-
+module _ (c : After-all_rules-judged) where
   abbrev file : List ℕ
-  file = start.args.file.now
+  file = c.args.file.now
 
   abbrev rows : List Row
-  rows = rows_at start.args.table.now 0 start.args.nodes
+  rows = rows_at c.args.table.now 0 c.args.nodes
 
-  rules : c.all-rules.result.rules ≡ ruled file rows rows
-  rules = c.all-rules.ensures.rules_are
+  rules : c.all_rules-judged.result.rules ≡ ruled file rows rows
+  rules = c.all_rules-judged.ensures.rules_are
 
 pub overflow_cast-place : goal.overflow_cast-place
 overflow_cast-place c =
     omega (arith, c.all_rules-judged.ensures.place, (start (goal.at.overflow_cast-place c).After-all_rules-judged).requires.0.2)
 
--- where the rules refuse nothing
--- and a link fails
 pub returns-then-rules-ne0 : goal.returns-then-rules-ne0
 returns-then-rules-ne0 c =
     ap (λ u. Refused u.number u.place) (rules (goal.at.returns-then-rules-ne0 c).After-all_rules-judged) ∙ refused_rules (file (goal.at.returns-then-rules-ne0 c).After-all_rules-judged) (rows (goal.at.returns-then-rules-ne0 c).After-all_rules-judged) (λ e. c.if-rules-ne0.true (ap (λ u. u.number) (rules (goal.at.returns-then-rules-ne0 c).After-all_rules-judged) ∙ e))
 
-module _ ((goal.at.returns-then-rules-ne0 c).After-struct_known-then-rules-ne0-1 : tie.Else1) where
-  abbrev ruled-at : tie.After-all-rules
-  ruled-at = (goal.at.returns-then-rules-ne0 c).After-rules-1
+-- where the rules refuse nothing
+module _ (c : Else-rules-ne0) where
+  no_rule : (ruled (file BADPLACE:c:After-all_rules-judged) (rows BADPLACE:c:After-all_rules-judged) (rows BADPLACE:c:After-all_rules-judged)).number ≡ 0
+  no_rule = ap (λ r. r.number) (sym (rules BADPLACE:c:After-all_rules-judged)) ∙ c.if-rules-ne0.false
 
-  no_rule : (ruled (file ruled-at) (rows ruled-at) (rows ruled-at)).number ≡ 0
-  no_rule = ap (λ (goal.at.returns-then-rules-ne0 c).After-all_rules-judged. c.number) (sym (rules ruled-at)) ∙ c.if1.false
-
-module _ ((goal.at.returns-then-rules-ne0 c).After-struct_known-then-rules-ne0-1 : tie.Then2) where
-  abbrev passed : tie.Else1
-  passed = (goal.at.returns-then-rules-ne0 c).After-rules-1
-
-  links : (ruled-at passed).all-rules.result.links ≡ linked (file (ruled-at passed)) (rows (ruled-at passed))
-  links = links_refused (ruled-at passed).all-rules.ensures passed.if1.left c.if2.true
+-- and a link fails
+module _ (c : Then-links-ne0) where
+  links : (ruled-at BADPLACE:c:Else-rules-ne0).all-rules.result.links ≡ linked (file (ruled-at BADPLACE:c:Else-rules-ne0)) (rows (ruled-at BADPLACE:c:Else-rules-ne0))
+  links = links_refused (ruled-at BADPLACE:c:Else-rules-ne0).all-rules.ensures c.if-rules-ne0.left c.if-links-ne0.true
 
 pub overflow_cast-place-then-links-ne0 : goal.overflow_cast-place-then-links-ne0
 overflow_cast-place-then-links-ne0 c =
@@ -65,22 +54,19 @@ overflow_cast-place-then-links-ne0 c =
     let ok = table_ok a.file.now a.table.now a.nodes s.pre.0.1 in
     omega (arith, ap (λ u. u.place) (links (goal.at.overflow_cast-place-then-links-ne0 c).Then-links-ne0), links_place a.file.now (rows r) a.nodes ok, s.pre.0.2)
 
--- and none does: the own bytes
 pub returns-then-links-ne0 : goal.returns-then-links-ne0
 returns-then-links-ne0 c =
     let r = ruled-at (passed (goal.at.returns-then-links-ne0 c).Then-links-ne0) in
     ap (λ u. Refused u.number u.place) (links (goal.at.returns-then-links-ne0 c).Then-links-ne0)
     ∙ refused_links_lem (file r) (rows r) (no_rule (passed (goal.at.returns-then-links-ne0 c).Then-links-ne0)) (λ e. c.if-links-ne0.true (ap (λ u. u.number) (links (goal.at.returns-then-links-ne0 c).Then-links-ne0) ∙ e))
 
-module _ ((goal.at.returns-then-links-ne0 c).After-struct_known-then-links-ne0-1 : tie.Else2) where
-  abbrev good : tie.Else1
-  good = (goal.at.returns-then-links-ne0 c).After-links-1
+-- and none does: the own bytes
+module _ (c : Else-links-ne0) where
+  unknown : (ruled-at BADPLACE:c:Else-rules-ne0).all-rules.result.unknown ≡ own_unknown (rows (ruled-at BADPLACE:c:Else-rules-ne0))
+  unknown = (ruled-at BADPLACE:c:Else-rules-ne0).all-rules.ensures.unknown_is c.if-rules-ne0.left
 
-  unknown : (ruled-at good).all-rules.result.unknown ≡ own_unknown (rows (ruled-at good))
-  unknown = (ruled-at good).all-rules.ensures.unknown_is good.if1.left
-
-  all : 16 + own_known (rows (ruled-at good)) + own_unknown (rows (ruled-at good)) ≡ length (file (ruled-at good))
-  all = omega (arith, own_split (rows (ruled-at good)), (start (ruled-at good)).pre.1)
+  all : 16 + own_known (rows (ruled-at BADPLACE:c:Else-rules-ne0)) + own_unknown (rows (ruled-at BADPLACE:c:Else-rules-ne0)) ≡ length (file (ruled-at BADPLACE:c:Else-rules-ne0))
+  all = omega (arith, own_split (rows (ruled-at BADPLACE:c:Else-rules-ne0)), (start (ruled-at BADPLACE:c:Else-rules-ne0)).pre.1)
 
 pub overflow_sub-known : goal.overflow_sub-known
 overflow_sub-known c = omega (arith, all (goal.at.overflow_sub-known c).Else-links-ne0)

@@ -25,87 +25,71 @@ use Rattle.reader.proofs.Judging.{judged_known}
 use Rattle.reader.proofs.Passing.{judged_skimmed}
 use Rattle.reader.proofs.Linking.{passed_count, noted_row, sizes_kept, row_noted, looked_at, passed_over}
 use Rattle.reader.proofs.judge_row.Goals as goal
+use Rattle.reader.proofs.judge_row.Goals.{After-judge-judged, Else-judged-linked}
 
 -- the node, its lines, and what its judgement is
-pub judge-judged-requires : goal.judge-judged-requires
-judge-judged-requires c = search rules
-
-module _ (j : tie.After-judge) where
-  abbrev counted : tie.After-count-at
-  counted = j.before.before.before.before.before
-
-  abbrev wanted : tie.After-required-of
-  wanted = counted.before.before
-
-  abbrev lent : tie.After-lines-of
-  lent = wanted.before
-
-  abbrev bodied : tie.After-body-of
-  bodied = lent.before
-
-  abbrev start : tie.Start
-  start = bodied.before.before.before.before.before.before.before
-
+module _ (j : After-judge-judged) where
   abbrev kind : ℕ
-  kind = start.args.row.kind
+  kind = j.args.row.kind
 
   abbrev count : ℕ
-  count = start.args.row.properties
+  count = j.args.row.properties
 
   abbrev body : List ℕ
-  body = body_of start.args.file.now start.args.row
+  body = body_of j.args.file.now j.args.row
 
   passed : (properties body count).number ≡ 0
-  passed = start.pre.0.1 start.pre.0.2
+  passed = j.requires.0.1 j.requires.0.2
 
-  rows : lent.lines_of.result.now ≡ map columns_of (lines_of kind)
-  rows = lent.lines_of.ensures ∙ ap (rows_of kind) start.pre.0.0 ∙ rows_lent kind
+  rows : j.lines_of-own.result.now ≡ map columns_of (lines_of kind)
+  rows = j.lines_of-own.ensures ∙ ap (rows_of kind) j.requires.0.0 ∙ rows_lent kind
 
-  lines : lines_from lent.lines_of.result.now ≡ lines_of kind
+  lines : lines_from j.lines_of-own.result.now ≡ lines_of kind
   lines = ap lines_from rows ∙ lines_packed kind
 
-  skims : j.judge.result ≡ judged_at kind (lines_of kind) body (skimmed body count) counted.count_at.result
+  skims : j.judge-judged.result ≡ judged_at kind (lines_of kind) body (skimmed body count) j.count_at.result
   skims =
-      let bones = counted.count_at.result in
-      let t = bodied.body_of.result.now in
-      j.judge.ensures.0
-      ∙ ap (λ k. judged_by_line kind k lent.lines_of.result.now t (skimmed t count) bones) wanted.required-of.ensures
+      let bones = j.count_at.result in
+      let t = j.body_of-body.result.now in
+      j.judge-judged.ensures.result
+      ∙ ap (λ k. judged_by_line kind k j.lines_of-own.result.now t (skimmed t count) bones) j.required_of.ensures
       ∙ ap (λ ls. judged_by_line kind (required_in (lines_of kind)) ls t (skimmed t count) bones) rows
       ∙ by_line t (skimmed t count) kind bones
-      ∙ ap (λ l. judged_at kind (lines_of kind) l (skimmed l count) bones) bodied.body_of.ensures
+      ∙ ap (λ l. judged_at kind (lines_of kind) l (skimmed l count) bones) j.body_of-body.ensures
 
-  judges : j.judge.result ≡ judged_with start.args.file.now start.args.row (get_or start.args.counts.now start.args.row.parent 0)
+  judges : j.judge-judged.result ≡ judged_with j.args.file.now j.args.row (get_or j.args.counts.now j.args.row.parent 0)
   judges =
       skims
-      ∙ judged_skimmed kind count body counted.count_at.result passed
-      ∙ sym (judged_known start.args.file.now start.args.row counted.count_at.result start.pre.0.2)
-      ∙ ap (judged_with start.args.file.now start.args.row) counted.count_at.ensures
+      ∙ judged_skimmed kind count body j.count_at.result passed
+      ∙ sym (judged_known j.args.file.now j.args.row j.count_at.result j.requires.0.2)
+      ∙ ap (judged_with j.args.file.now j.args.row) j.count_at.ensures
 
-  bounded : Bounded j.judge.result (length body)
-  bounded = subst (λ l. Bounded j.judge.result (length l)) bodied.body_of.ensures j.judge.ensures.1.1.1.1.1
+  bounded : Bounded j.judge-judged.result (length body)
+  bounded = subst (λ l. Bounded j.judge-judged.result (length l)) j.body_of-body.ensures j.judge-judged.ensures.bounds
 
   abbrev starts : List ℕ
-  starts = j.judge.last.1.1.1.1.1.1.0
+  starts = j.judge-judged.last.1.1.1.1.1.1.0
 
   abbrev numbers : List ℕ
-  numbers = j.judge.last.1.1.1.1.1.1.1.0
+  numbers = j.judge-judged.last.1.1.1.1.1.1.1.0
 
   sizes : (length starts ≡ 64) × (length numbers ≡ 64)
   sizes =
-      let a = start.args in
-      let x = j.judge.ensures.1 in
-      sizes_kept a.file.now a.row lines bodied.body_of.ensures passed a.starts.now a.numbers.now x.0 x.1.0 start.pre.1.0.0 start.pre.1.0.1
+      let a = j.args in
+      let x = j.judge-judged.ensures.?result_starts_numbers_keys_marks_bounds.1 in
+      sizes_kept a.file.now a.row lines j.body_of-body.ensures passed a.starts.now a.numbers.now x.0 x.1.0 j.requires.1.0.0 j.requires.1.0.1
 
-  noted : j.judge.result.number ≡ 0 → Noted start.args.file.now start.args.row starts numbers
+  noted : j.judge-judged.result.number ≡ 0 → Noted j.args.file.now j.args.row starts numbers
   noted z =
-      let a = start.args in
-      let x = j.judge.ensures.1 in
-      noted_row a.file.now a.row lines bodied.body_of.ensures passed counted.count_at.result (ap (λ (r : Judged). r.number) (sym skims) ∙ z)
-      a.starts.now a.numbers.now x.0 x.1.0 start.pre.1.0.0 start.pre.1.0.1
+      let a = j.args in
+      let x = j.judge-judged.ensures.?result_starts_numbers_keys_marks_bounds.1 in
+      noted_row a.file.now a.row lines j.body_of-body.ensures passed j.count_at.result (ap (λ (r : Judged). r.number) (sym skims) ∙ z)
+      a.starts.now a.numbers.now x.0 x.1.0 j.requires.1.0.0 j.requires.1.0.1
 
 pub returns-then-judged-linked : goal.returns-then-judged-linked
 returns-then-judged-linked c =
-    let a = (start (goal.at.returns-then-judged-linked c).After-judge-judged).args in (
+    let a = (start (goal.at.returns-then-judged-linked c).After-judge-judged).args in
+    let all = (
       judges (goal.at.returns-then-judged-linked c).After-judge-judged,
       (
         bounded (goal.at.returns-then-judged-linked c).After-judge-judged,
@@ -114,21 +98,15 @@ returns-then-judged-linked c =
           (omega arith, sizes (goal.at.returns-then-judged-linked c).After-judge-judged),
         ),
       ),
-    )
+    ) in record { judged = all.0; bounds = all.1.0; linked = all.1.1.0; links = all.1.1.1.0; sizes = all.1.1.1.1 }
 
 -- a row whose links are looked at
-pub overflow_cast-row-3 : goal.overflow_cast-row-3
-overflow_cast-row-3 c = search rules
+module _ (e : Else-judged-linked) where
+  on : (e.judge-judged.result.number ≡ 0) × ((start BADPLACE:e:After-judge-judged).args.linked.number ≡ 0)
+  on = looked_at e.judge-judged.result.number e.judge-judged.result.links (start BADPLACE:e:After-judge-judged).args.linked.number e.if-judged-linked.left
 
-module _ (e : tie.Else1) where
-  abbrev judged : tie.After-judge
-  judged = e.before.before.before.before
-
-  on : (judged.judge.result.number ≡ 0) × ((start judged).args.linked.number ≡ 0)
-  on = looked_at judged.judge.result.number judged.judge.result.links (start judged).args.linked.number e.if1.left
-
-  few : count judged ≤ 64
-  few = (passed_count (body judged) (count judged) (passed judged)).0
+  few : count BADPLACE:e:After-judge-judged ≤ 64
+  few = (passed_count (body BADPLACE:e:After-judge-judged) (count BADPLACE:e:After-judge-judged) (passed BADPLACE:e:After-judge-judged)).0
 
 pub link_noted-linked-requires : goal.link_noted-linked-requires
 link_noted-linked-requires c =
@@ -143,19 +121,21 @@ link_noted-linked-requires c =
     let first = take (count j) (starts j) in
     let lines_noted = is.lines
     ∙ ap (λ ls. map (line_number ls (body j)) first) (sym (lines j))
-    ∙ ap (λ t. map (line_number (lines_from (lent j).lines_of.result.now) t) first) (sym t.ensures) in (
+    ∙ ap (λ t. map (line_number (lines_from (lent j).lines_of.result.now) t) first) (sym t.ensures) in
+    let all = (
       s.pre.1.1.0,
       (
         (omega (arith, few (goal.at.link_noted-linked-requires c).Else-judged-linked, (sizes j).0), omega (arith, few (goal.at.link_noted-linked-requires c).Else-judged-linked, (sizes j).1), places),
         (omega (arith, s.good.0.1, c.struct_known-6-1.given, size), (omega (arith, few (goal.at.link_noted-linked-requires c).Else-judged-linked, s.pre.1.1.1), lines_noted)),
       ),
-    )
+    ) in record { sorted = all.0; places = all.1.0; start = all.1.1.0; before = all.1.1.1.0; numbers = all.1.1.1.1 }
 
 pub returns : goal.returns
 returns c =
     let j = judged (goal.at.returns c).Else-judged-linked in
     let a = (start j).args in
-    let x = c.link_noted-linked.ensures in (
+    let x = c.link_noted-linked.ensures.?result_links in
+    let all = (
       judges j,
       (
         bounded j,
@@ -164,4 +144,4 @@ returns c =
           (omega (arith, x.1, few (goal.at.returns c).Else-judged-linked), sizes j),
         ),
       ),
-    )
+    ) in record { judged = all.0; bounds = all.1.0; linked = all.1.1.0; links = all.1.1.1.0; sizes = all.1.1.1.1 }

@@ -7,9 +7,9 @@ use Rattle.reader.proofs.leave.Goals as goal
 pub returns-then-is_accepted : goal.returns-then-is_accepted
 returns-then-is_accepted c =
     let a = c.args in
-    (refl, c.clear_from.ensures ∙ left_accepted a.r a.nodes a.table.now (sym c.is_accepted.ensures ∙ c.if-is_accepted.true))
+    record { result = refl; table = c.clear_from.ensures ∙ left_accepted a.r a.nodes a.table.now (sym c.is_accepted.ensures ∙ c.if-is_accepted.true) }
 
 pub returns : goal.returns
 returns c =
     let a = c.args in
-    (refl, c.clear.ensures ∙ left_refused a.r a.nodes a.table.now (sym c.is_accepted.ensures ∙ c.if-is_accepted.false))
+    record { result = refl; table = c.clear.ensures ∙ left_refused a.r a.nodes a.table.now (sym c.is_accepted.ensures ∙ c.if-is_accepted.false) }

@@ -18,9 +18,9 @@ pub node_links-requires : goal.node_links-requires
 node_links-requires c =
     let s = BAD:c.before.before.before.before.before.before.before.before.before in
     let p = s.requires.1 in
-    (s.requires.0, (p.0.2, (p.1.0, (omega (arith, p.1.1.0, length-take-le s.args.n s.args.starts.now p.0.0), p.1.1.1))))
+    record { sorted = s.requires.0; places = p.0.2; start = p.1.0; before = omega (arith, p.1.1.0, length-take-le s.args.n s.args.starts.now p.0.0); numbers = p.1.1.1 }
 
 pub returns : goal.returns
 returns c =
     let s = BAD:c.before.before.before.before.before.before.before.before.before.before in
-    (c.node_links_lem.ensures.0, omega (arith, c.node_links_lem.ensures.1, length-take-le s.args.n s.args.starts.now s.requires.1.0.0))
+    record { result = c.node_links.ensures.result; links = omega (arith, c.node_links.ensures.links, length-take-le s.args.n s.args.starts.now s.requires.1.0.0) }

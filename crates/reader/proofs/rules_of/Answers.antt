@@ -18,52 +18,48 @@ use Rattle.reader.proofs.Linking.{links_begun, links_ended, links_linked, links_
 use Rattle.reader.proofs.Bare.{judged_is_known, unknown_begun, unknown_none, unknown_ended, rules_skipped, links_skipped}
 use borrow.Author.Rules.{rules}
 use Rattle.reader.proofs.rules_of.Goals as goal
+use Rattle.reader.proofs.rules_of.Goals.{After-judge_row-r, After-marks-1, After-skip-next, Else-j-ne0}
 
 pub loop-from-init : goal.loop-from-init
 loop-from-init c =
     (omega arith, omega arith, omega arith, omega arith, rules_begun _ _ _, omega arith, links_begun _ _ _ _, omega arith, omega arith, omega arith, unknown_begun _ _)
 
--- after the rows that are passed over: the loop and the start, and what is known of the rest
 pub skip-next-requires : goal.skip-next-requires
 skip-next-requires c =
     (c.loop-from.invariant.0, c.requires.0, c.loop-from.invariant.9)
 
-module _ (k : tie.After-skip invariant-loop decreases-loop) where
-  abbrev at-loop : tie.At-loop invariant-loop decreases-loop
-  at-loop = k.before.before
-
-  abbrev start : tie.Start invariant-loop decreases-loop
-  start = at-loop.before.before.before.before.before.before.before.before.before.before
-
+-- after the rows that are passed over: the loop and the start, and what is known of the rest
+module _ (k : After-skip-next) where
   abbrev i : ℕ
-  i = k.skip.result.row
+  i = k.skip-next.result.row
 
   abbrev counted : Count
-  counted = count_in start.args.materials.now start.args.meshes.now start.args.bones.now start.args.files.now
+  counted = count_in k.args.materials.now k.args.meshes.now k.args.bones.now k.args.files.now
 
-  rules_here : let a = start.args in let rows = rows_at a.table.now 0 a.nodes in
-      on_top at-loop.loop.faces at-loop.loop.degenerate at-loop.loop.links (ruled a.file.now rows (rest a.table.now a.nodes i)) ≡ ruled a.file.now rows rows
+  rules_here : let a = k.args in let rows = rows_at a.table.now 0 a.nodes in
+      on_top k.loop-from.faces k.loop-from.degenerate k.loop-from.links (ruled a.file.now rows (rest a.table.now a.nodes i)) ≡ ruled a.file.now rows rows
   rules_here =
-      let a = start.args in
-      rules_skipped a.file.now a.table.now a.nodes k.skip.ensures at-loop.loop.faces at-loop.loop.degenerate at-loop.loop.links ∙ at-loop.loop.inv.4
+      let a = k.args in
+      rules_skipped a.file.now a.table.now a.nodes k.skip-next.ensures k.loop-from.faces k.loop-from.degenerate k.loop-from.links ∙ k.loop-from.inv.4
 
-  links_here : let a = start.args in
-      continued counted a.file.now at-loop.loop.linked (rest a.table.now a.nodes i) ≡ rows_linked counted a.file.now 0 (rows_at a.table.now 0 a.nodes)
+  links_here : let a = k.args in
+      continued counted a.file.now k.loop-from.linked (rest a.table.now a.nodes i) ≡ rows_linked counted a.file.now 0 (rows_at a.table.now 0 a.nodes)
   links_here =
-      let a = start.args in
-      links_skipped a.file.now a.table.now a.nodes k.skip.ensures counted at-loop.loop.linked ∙ at-loop.loop.inv.6
+      let a = k.args in
+      links_skipped a.file.now a.table.now a.nodes k.skip-next.ensures counted k.loop-from.linked ∙ k.loop-from.inv.6
 
-  bytes_here : let a = start.args in
-      k.skip.result.unknown + own_unknown (rest a.table.now a.nodes i) ≡ own_unknown (rows_at a.table.now 0 a.nodes)
-  bytes_here = k.skip.ensures.bytes ∙ at-loop.loop.inv.10
+  bytes_here : let a = k.args in
+      k.skip-next.result.unknown + own_unknown (rest a.table.now a.nodes i) ≡ own_unknown (rows_at a.table.now 0 a.nodes)
+  bytes_here = k.skip-next.ensures.bytes ∙ k.loop-from.inv.10
 
 pub returns-then-nodes-i : goal.returns-then-nodes-i
 returns-then-nodes-i c =
     let a = (start (goal.at.returns-then-nodes-i c).After-skip-next).args in
     let l = (at-loop (goal.at.returns-then-nodes-i c).After-skip-next).loop in
     let end = c.if-nodes-i.true in
-    let x = c.rows_give.ensures in
-    let ended = links_ended (counted (goal.at.returns-then-nodes-i c).After-skip-next) a.file.now a.table.now a.nodes (i (goal.at.returns-then-nodes-i c).After-skip-next) l.linked end in (
+    let x = c.rows_give.ensures.?rules_links in
+    let ended = links_ended (counted (goal.at.returns-then-nodes-i c).After-skip-next) a.file.now a.table.now a.nodes (i (goal.at.returns-then-nodes-i c).After-skip-next) l.linked end in
+    let all = (
       x.0 ∙ sym (rules_ended a.file.now a.table.now a.nodes l.faces l.degenerate l.links (i (goal.at.returns-then-nodes-i c).After-skip-next) end) ∙ rules_here (goal.at.returns-then-nodes-i c).After-skip-next,
       (
         omega (arith, ap (λ u. u.place) x.0),
@@ -72,30 +68,21 @@ returns-then-nodes-i c =
           λ z. x.1.1 ∙ unknown_ended a.table.now a.nodes (i (goal.at.returns-then-nodes-i c).After-skip-next) end ∙ bytes_here (goal.at.returns-then-nodes-i c).After-skip-next,
         ),
       ),
-    )
+    ) in record { result = all.0; place = all.1.0; links = all.1.1.0; unknown = all.1.1.1 }
 
 -- where a row is judged
-pub row_at-row-requires : goal.row_at-row-requires
-row_at-row-requires c = search rules
+module _ (m : After-marks-1) where
+  here : i BADPLACE:m:After-skip-next < (start BADPLACE:m:After-skip-next).args.nodes
+  here = omega (arith, m.if-nodes-i.left)
 
-module _ (m : tie.After-marks invariant-loop decreases-loop) where
-  abbrev row : tie.After-row-at invariant-loop decreases-loop
-  row = m.before.before.before.before
+  few : i BADPLACE:m:After-skip-next < 1024
+  few = omega (arith, here, (start BADPLACE:m:After-skip-next).pre.0)
 
-  abbrev skipped : tie.After-skip invariant-loop decreases-loop
-  skipped = row.before.before
+  known : is_known m.row_at-row.result.kind ≡ true
+  known = ap (λ r. is_known r.kind) m.row_at-row.ensures ∙ judged_is_known (row_at (start BADPLACE:m:After-skip-next).args.table.now (i BADPLACE:m:After-skip-next)) (m.skip-next.ensures.judged here)
 
-  here : i skipped < (start skipped).args.nodes
-  here = omega (arith, row.before.if1.left)
-
-  few : i skipped < 1024
-  few = omega (arith, here, (start skipped).pre.0)
-
-  known : is_known row.row_at.result.kind ≡ true
-  known = ap (λ r. is_known r.kind) row.row_at.ensures ∙ judged_is_known (row_at (start skipped).args.table.now (i skipped)) (skipped.skip.ensures.judged here)
-
-  beside_counted : get_or (start skipped).args.counts.now row.row_at.result.parent 0 ≡ bones_under (rows_at (start skipped).args.table.now 0 (start skipped).args.nodes) row.row_at.result.parent
-  beside_counted = (start skipped).pre.2 _
+  beside_counted : get_or (start BADPLACE:m:After-skip-next).args.counts.now m.row_at-row.result.parent 0 ≡ bones_under (rows_at (start BADPLACE:m:After-skip-next).args.table.now 0 (start BADPLACE:m:After-skip-next).args.nodes) m.row_at-row.result.parent
+  beside_counted = (start BADPLACE:m:After-skip-next).pre.2 _
 
 -- a row's mark is its number and one
 pub overflow_add-i : goal.overflow_add-i
@@ -109,19 +96,17 @@ judge_row-r-requires c =
     let k = skipped (goal.at.judge_row-r-requires c).After-marks-1 in
     let l = at-loop k in
     let s = start k in
-    let is : (row (goal.at.judge_row-r-requires c).After-marks-1).row_at.result ≡ row_at s.args.table.now (i k) = (row (goal.at.judge_row-r-requires c).After-marks-1).row_at.ensures in (
+    let is : (row (goal.at.judge_row-r-requires c).After-marks-1).row_at.result ≡ row_at s.args.table.now (i k) = (row (goal.at.judge_row-r-requires c).After-marks-1).row_at.ensures in
+    let all = (
       (l.before.before.table.ensures, subst (Passed s.args.file.now) (sym is) (s.pre.1 (i k) (here (goal.at.judge_row-r-requires c).After-marks-1)).passed, known (goal.at.judge_row-r-requires c).After-marks-1),
       ((l.loop.inv.7, l.loop.inv.8), (s.pre.3, omega (arith, few (goal.at.judge_row-r-requires c).After-marks-1, l.loop.inv.5, k.skip.ensures.onward))),
-    )
+    ) in record { row = all.0; sizes = all.1.0; sorted = all.1.1.0; before = all.1.1.1 }
 
 -- a judgement's place lies in the file
-pub overflow_cast-place : goal.overflow_cast-place
-overflow_cast-place c = search rules
-
-module _ (j : tie.After-judge-row invariant-loop decreases-loop) where
-  place : (24 ≤ (row j.before).row_at.result.start + j.judge-row.result.judged.place)
-      × ((row j.before).row_at.result.start + j.judge-row.result.judged.place ≤ 24 + length (start (skipped j.before)).args.file.now)
-  place = row_place _ _ _ _ (start (skipped j.before)).pre.1 (here j.before) (row j.before).row_at.ensures j.judge-row.ensures.1.0
+module _ (j : After-judge_row-r) where
+  place : (24 ≤ (row BADPLACE:j:After-marks-1).row_at.result.start + j.judge_row-r.result.judged.place)
+      × ((row BADPLACE:j:After-marks-1).row_at.result.start + j.judge_row-r.result.judged.place ≤ 24 + length (start (skipped BADPLACE:j:After-marks-1)).args.file.now)
+  place = row_place _ _ _ _ (start (skipped BADPLACE:j:After-marks-1)).pre.1 (here BADPLACE:j:After-marks-1) (row BADPLACE:j:After-marks-1).row_at.ensures j.judge_row-r.ensures.bounds
 
 pub overflow_add-place : goal.overflow_add-place
 overflow_add-place c = let j = (goal.at.overflow_add-place c).After-judge_row-r in omega (arith, (place j).1, (start (skipped j.before)).good.0.1)
@@ -129,18 +114,18 @@ overflow_add-place c = let j = (goal.at.overflow_add-place c).After-judge_row-r 
 pub overflow_sub-place : goal.overflow_sub-place
 overflow_sub-place c = (place (goal.at.overflow_sub-place c).After-judge_row-r).0
 
--- a row that passed
 pub returns-then-j-ne0 : goal.returns-then-j-ne0
 returns-then-j-ne0 c =
     let refuses = c.if-j-ne0.true in
-    let x = c.rows_give-then-j-ne0.ensures.0 in
-    let says = rules_refused _ _ _ _ _ _ _ (here (goal.at.returns-then-j-ne0 c).After-marks-1) (row (goal.at.returns-then-j-ne0 c).After-marks-1).row_at.ensures (beside_counted (goal.at.returns-then-j-ne0 c).After-marks-1) c.judge_row-r.ensures.0 refuses in
+    let x = c.rows_give-then-j-ne0.ensures.rules in
+    let says = rules_refused _ _ _ _ _ _ _ (here (goal.at.returns-then-j-ne0 c).After-marks-1) (row (goal.at.returns-then-j-ne0 c).After-marks-1).row_at.ensures (beside_counted (goal.at.returns-then-j-ne0 c).After-marks-1) c.judge_row-r.ensures.judged refuses in
     let out : c.rows_give-then-j-ne0.result.rules.number ≡ 0 → ⊥ = λ z. refuses (sym (ap (λ (u : Ruled). u.number) x) ∙ z) in
-    (x ∙ sym says ∙ rules_here (skipped (goal.at.returns-then-j-ne0 c).After-marks-1), (omega (arith, (place (goal.at.returns-then-j-ne0 c).After-judge_row-r).1, ap (λ (u : Ruled). u.place) x), (λ z. absurd (out z), λ z. absurd (out z))))
+    record { result = x ∙ sym says ∙ rules_here (skipped (goal.at.returns-then-j-ne0 c).After-marks-1); place = omega (arith, (place (goal.at.returns-then-j-ne0 c).After-judge_row-r).1, ap (λ (u : Ruled). u.place) x); links = λ z. absurd (out z); unknown = λ z. absurd (out z) }
 
-module _ (e : tie.Else2 invariant-loop decreases-loop) where
-  abbrev judged : tie.After-judge-row invariant-loop decreases-loop
-  judged = e.before.before.before
+-- a row that passed
+module _ (e : Else-j-ne0) where
+  abbrev judged : After-judge_row-r invariant-loop decreases-loop
+  judged = BADPLACE:e:After-judge_row-r
 
 -- what was counted stays below what so many rows can have
 pub overflow_add-faces : goal.overflow_add-faces
@@ -205,8 +190,9 @@ returns c =
     let end = c.loop-from-test.false in
     let v = c.loop-from in
     let count = count_in a.materials.now a.meshes.now a.bones.now a.files.now in
-    let x = c.rows_give-2.ensures in
-    let ended = links_ended count a.file.now a.table.now a.nodes v.from v.linked end in (
+    let x = c.rows_give-2.ensures.?rules_links in
+    let ended = links_ended count a.file.now a.table.now a.nodes v.from v.linked end in
+    let all = (
       x.0 ∙ sym (rules_ended a.file.now a.table.now a.nodes v.faces v.degenerate v.links v.from end) ∙ v.invariant.4,
       (
         omega (arith, ap (λ u. u.place) x.0),
@@ -215,4 +201,4 @@ returns c =
           λ z. x.1.1 ∙ unknown_ended a.table.now a.nodes v.from end ∙ v.invariant.10,
         ),
       ),
-    )
+    ) in record { result = all.0; place = all.1.0; links = all.1.1.0; unknown = all.1.1.1 }

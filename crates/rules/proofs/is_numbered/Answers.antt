@@ -17,9 +17,9 @@ slice_bounds-number_after-end c = sym (length-take-le _ _ (within _ _ _ _ c.name
 
 answers : (c : After-number_after) →
     let a = c.args in
-    c.number_after_lem.result ≡ number_after a.name.now (line_of a.e).name
+    c.number_after.result ≡ number_after a.name.now (line_of a.e).name
 answers c =
-    c.number_after_lem.ensures.0 ∙ ap (number_after c.args.name.now) (taken _ _ _ _ c.name_of-letters.ensures)
+    c.number_after.ensures.result ∙ ap (number_after c.args.name.now) (taken _ _ _ _ c.name_of-letters.ensures)
 
 pub returns-in-Is : goal.returns-in-Is
 returns-in-Is c = ap is_number (sym c.in-Is.is ∙ answers (goal.at.returns-in-Is c).After-number_after)

@@ -10,28 +10,20 @@ use Rattle.rules.specs.Packing.{line_of, line_from, lines_from}
 use Rattle.rules.specs.Rules.{find_in}
 use Rattle.rules.proofs.Laws.{find_passed, find_hit, find_ended}
 use Rattle.rules.proofs.line_named.Goals as goal
+use Rattle.rules.proofs.line_named.Goals.{After-has_name}
 
 pub loop-i-init : goal.loop-i-init
 loop-i-init c =
     let a = c.args in
-    (c.next_with-i.ensures.0.1, c.next_with-i.ensures.1 a.name.now c.number_at-letter.ensures ∙ zero-add _)
+    (c.next_with-i.ensures.within.1, c.next_with-i.ensures.passes a.name.now c.number_at-letter.ensures ∙ zero-add _)
 
 -- the line of a turn is one of those lent
-pub has_name-requires : goal.has_name-requires
-has_name-requires c = search rules
+module _ (c : After-has_name) where
+  is_line : line_of c.entry_from.result ≡ get_or (lines_from c.args.lines.now) c.loop-i.i (line_from [])
+  is_line = ap line_of c.entry_from.ensures ∙ sym (get_or-map line_from c.args.lines.now c.loop-i.i [])
 
-module _ ((goal.at.has_name-requires c).After-entry_from : tie.After-has-name invariant-loop decreases-loop) where
-  abbrev head : tie.At-loop invariant-loop decreases-loop
-  head = (goal.at.has_name-requires c).After-next_with-i
-
-  abbrev start : tie.Start invariant-loop decreases-loop
-  start = head.before.before.before.before
-
-  is_line : line_of c.entry-from.result ≡ get_or (lines_from start.args.lines.now) head.loop.i (line_from [])
-  is_line = ap line_of c.entry-from.ensures ∙ sym (get_or-map line_from start.args.lines.now head.loop.i [])
-
-  inside : head.loop.i < length (lines_from start.args.lines.now)
-  inside = omega (arith, length-map start.args.lines.now line_from, c.loop-test.true)
+  inside : c.loop-i.i < length (lines_from c.args.lines.now)
+  inside = omega (arith, length-map c.args.lines.now line_from, c.loop-i-test.true)
 
 pub returns-then-has_name : goal.returns-then-has_name
 returns-then-has_name c =
@@ -43,15 +35,15 @@ pub next_with-i-requires-in-loop-i : goal.next_with-i-requires-in-loop-i
 next_with-i-requires-in-loop-i c = omega (arith, c.loop-i-test.true)
 
 pub loop-i-smaller : goal.loop-i-smaller
-loop-i-smaller c = omega (arith, c.next_with-i-in-loop-i.ensures.0.0, c.loop-i-test.true)
+loop-i-smaller c = omega (arith, c.next_with-i-in-loop-i.ensures.within.0, c.loop-i-test.true)
 
 pub loop-i-preserved : goal.loop-i-preserved
 loop-i-preserved c =
     let l = (head (goal.at.loop-i-preserved c).After-has_name).loop in
     let n = (head (goal.at.loop-i-preserved c).After-has_name).before.before in
     let a = (start (goal.at.loop-i-preserved c).After-has_name).args in (
-      c.next_with-i-in-loop-i.ensures.0.1,
-      c.next_with-i-in-loop-i.ensures.1 a.name.now n.number_at.ensures
+      c.next_with-i-in-loop-i.ensures.within.1,
+      c.next_with-i-in-loop-i.ensures.passes a.name.now n.number_at.ensures
           ∙ sym (find_passed (lines_from a.lines.now) a.name.now l.i (inside (goal.at.loop-i-preserved c).After-has_name) (is_line (goal.at.loop-i-preserved c).After-has_name) (sym c.has_name.ensures ∙ c.if-has_name.false))
           ∙ l.inv.1,
     )

@@ -16,8 +16,7 @@ pub loop-i-init : goal.loop-i-init
 loop-i-init c = (omega arith, c.requires, λ name e. refl)
 
 pub returns-then-e-letter : goal.returns-then-e-letter
-returns-then-e-letter c =
-    ((c.loop-i.invariant.0, c.loop-i.invariant.1), c.loop-i.invariant.2)
+returns-then-e-letter c = record { within = (c.loop-i.invariant.0, c.loop-i.invariant.1); passes = c.loop-i.invariant.2 }
 
 pub loop-i-preserved : goal.loop-i-preserved
 loop-i-preserved c =
@@ -34,4 +33,4 @@ loop-i-preserved c =
     )
 
 pub returns : goal.returns
-returns c = let l = (goal.at.returns c).At-loop-i in ((l.loop.invariant.0, l.loop.invariant.1), l.loop.invariant.2)
+returns c = let l = let all = (goal.at.returns c).At-loop-i in ((l.loop.invariant.0, l.loop.invariant.1), l.loop.invariant.2) in record { within = all.0; passes = all.1 }

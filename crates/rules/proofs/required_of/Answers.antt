@@ -56,7 +56,7 @@ returns-in-1953721961 c = ap (λ k. required_in (lines_of k)) (sym c.in-19537219
 
 pub returns-in_default : goal.returns-in_default
 returns-in_default c =
-    let r = c.in_default.rest in
+    let r = c.in_default.in_default-own.rest in
     sym (none_required c.args.kind
     (simp (
       ne_eqb _ _ (λ e. r.0.0.0.0.0.0.0.0.0.0.0.1 (sym e)),

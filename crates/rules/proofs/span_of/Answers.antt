@@ -65,7 +65,7 @@ returns-in-1635018093 c = (ap span_of (sym c.in-1635018093.is), omega arith, ome
 
 pub returns-in_default : goal.returns-in_default
 returns-in_default c =
-    let r = c.in_default.rest in
+    let r = c.in_default.in_default-own.rest in
     nowhere c.args.kind
     (simp (
       ne_eqb _ _ (λ e. r.0.0.0.0.0.0.0.0.0.0.0.0.0.1 (sym e)),

@@ -12,36 +12,24 @@ use Rattle.table.specs.Table.{rows_at}
 use Rattle.table.specs.Counts.{is_counted, counts_under}
 use Rattle.table.proofs.Counts.{Counting, counted_few, counting_begun, both, counting_one, counting_other, counting_ended}
 use Rattle.table.proofs.count_under.Goals as goal
-use Rattle.table.proofs.count_under.Goals.{Joined-rows-lt-MOST_ROWS, Then-is_counted-parent}
+use Rattle.table.proofs.count_under.Goals.{After-is_counted, Joined-rows-lt-MOST_ROWS, Then-is_counted-parent}
 
 pub loop-i-init : goal.loop-i-init
 loop-i-init c = let z = (goal.at.loop-i-init c).After-zero_counts in (omega arith, counting_begun _ _ _ _ z.before.before.before.before.before.args.counts.now refl z.zero-counts.ensures)
 
 -- the test, of the row in turn
-pub offset_bounds-counts-parent : goal.offset_bounds-counts-parent
-offset_bounds-counts-parent c = search rules
-
-module _ ((goal.at.offset_bounds-counts-parent c).Then-is_counted-parent : tie.After-is-counted invariant-loop decreases-loop) where
+module _ (c : After-is_counted) where
   abbrev row : Row
-  row = c.row_at.result
-
-  abbrev at-loop : tie.At-loop invariant-loop decreases-loop
-  at-loop = (goal.at.offset_bounds-counts-parent c).In-loop-i
-
-  abbrev joined : tie.Joined1 invariant-loop decreases-loop
-  joined = at-loop.before.before.before.before.before
-
-  abbrev start : tie.Start invariant-loop decreases-loop
-  start = joined.before.before.before
+  row = c.row_at-row.result
 
   abbrev places : ℕ
-  places = length start.args.counts.now
+  places = length c.args.counts.now
 
-  tested : (c.is-counted.result && ltb row.parent places) ≡ (is_counted start.args.which row && ltb row.parent places)
-  tested = ap (λ b. b && ltb row.parent places) c.is-counted.ensures
+  tested : (c.is_counted.result && ltb row.parent places) ≡ (is_counted c.args.which row && ltb row.parent places)
+  tested = ap (λ b. b && ltb row.parent places) c.is_counted.ensures
 
-inside : (c : Then-is_counted-parentoop decreases-loop) → (is_counted (start BADPLACE:After-is_counted).args.which (row BADPLACE:After-is_counted) ≡ true) × ((row BADPLACE:After-is_counted).parent < places BADPLACE:After-is_counted)
-inside c = let k = BADPLACE:After-is_counted in both (start k).args.which (places k) (row k) (sym (tested k) ∙ c.if-is_counted-parent.true)
+inside : (c : Then-is_counted-parentoop decreases-loop) → (is_counted (start BADPLACE:c:After-is_counted).args.which (row BADPLACE:c:After-is_counted) ≡ true) × ((row BADPLACE:c:After-is_counted).parent < places BADPLACE:c:After-is_counted)
+inside c = let k = BADPLACE:c:After-is_counted in both (start k).args.which (places k) (row k) (sym (tested k) ∙ c.if-is_counted-parent.true)
 
 pub bounds-counts-parent : goal.bounds-counts-parent
 bounds-counts-parent c = let k = (goal.at.bounds-counts-parent c).After-is_counted in omega (arith, (inside (goal.at.bounds-counts-parent c).Then-is_counted-parent).1, (at-loop k).loop.invariant.1.0)

@@ -20,4 +20,4 @@ pub returns : goal.returns
 returns c =
     let l = c.loop-rest in
     let last = one_digit (21 - l.k) l.rest (omega arith) c.loop-rest-test.false in
-    (omega (arith, l.invariant.3, last), l.invariant.1)
+    record { result = omega (arith, l.invariant.3, last); bound = l.invariant.1 }

@@ -11,23 +11,23 @@ use Rattle.text.proofs.put_number.Goals as goal
 pub returns-then-out-at : goal.returns-then-out-at
 returns-then-out-at c =
     let a = c.args in
-    put_outside a.out.now a.at (a.label.now ++ digits a.base a.k a.n) c.if-out-at.true
+    let all = put_outside a.out.now a.at (a.label.now ++ digits a.base a.k a.n) c.if-out-at.true in record { place = all.0; output = all.1 }
 
 pub returns-then-room-k : goal.returns-then-room-k
 returns-then-room-k c =
     let a = c.args in
     let all = a.label.now ++ digits a.base a.k a.n in
-    put_short a.out.now a.at all (omega (arith, length-append a.label.now (digits a.base a.k a.n), length_digits a.base a.k a.n))
+    let all = put_short a.out.now a.at all (omega (arith, length-append a.label.now (digits a.base a.k a.n), length_digits a.base a.k a.n)) in record { place = all.0; output = all.1 }
 
 pub returns-then-room-k-2 : goal.returns-then-room-k-2
 returns-then-room-k-2 c =
     let a = c.args in
     let all = a.label.now ++ digits a.base a.k a.n in
-    put_short a.out.now a.at all (omega (arith, length-append a.label.now (digits a.base a.k a.n), length_digits a.base a.k a.n))
+    let all = put_short a.out.now a.at all (omega (arith, length-append a.label.now (digits a.base a.k a.n), length_digits a.base a.k a.n)) in record { place = all.0; output = all.1 }
 
 pub returns : goal.returns
 returns c =
     let a = c.args in
     let d = digits a.base a.k a.n in
-    label_digits a.out.now a.at a.label.now d a.k (length_digits a.base a.k a.n) (omega arith)
-    c.put_bytes.ensures c.write_digits.ensures
+    let all = label_digits a.out.now a.at a.label.now d a.k (length_digits a.base a.k a.n) (omega arith)
+    c.put_bytes.ensures c.write_digits.ensures in record { place = all.0; output = all.1 }

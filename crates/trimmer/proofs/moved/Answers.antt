@@ -3,4 +3,4 @@ use borrow.Author.Rules.{rules}
 use Rattle.trimmer.proofs.moved.Goals as goal
 
 pub returns : goal.returns
-returns c = rw c.own_bytes-own.ensures.0
+returns c = rw c.own_bytes-own.ensures.result

@@ -29,5 +29,5 @@ pub returns : goal.returns
 returns c =
     let b = bytes_of (goal.at.returns c).After-slice_known-2-1 in
     let q = c.take_out.ensures in
-    let w = c.emit_and_place.ensures in
-    (emitted b c.requires _ q _ w.0, (put b c.requires _ q _ _ refl w.1.0, w.1.1 ∙ laid b c.requires _ q))
+    let w = c.emit_and_place.ensures.?result_output_table in
+    record { result = emitted b c.requires _ q _ w.0; output = put b c.requires _ q _ _ refl w.1.0; table = w.1.1 ∙ laid b c.requires _ q }

@@ -16,18 +16,18 @@ pub remove-requires : goal.remove-requires
 remove-requires c =
     let g = c.reading-1.given in
     let a = c.args in
-    subst (λ u. Read a.file.now u g.0.0.nodes g.0.0.flags) (sym c.read-reading.ensures.1.1.0)
-    (is_read a.file.now a.table.now (bytes_of (goal.at.remove-requires c).After-slice_known-2-1) g.0.0 (sym c.read-reading.ensures.0 ∙ g.1))
+    subst (λ u. Read a.file.now u g.0.0.nodes g.0.0.flags) (sym c.read-reading.ensures.table)
+    (is_read a.file.now a.table.now (bytes_of (goal.at.remove-requires c).After-slice_known-2-1) g.0.0 (sym c.read-reading.ensures.result ∙ g.1))
 
 pub returns-in-Accepted : goal.returns-in-Accepted
 returns-in-Accepted c =
     let g = c.reading-1.given in
     let a = c.args in
-    trimmed a.file.now a.table.now (bytes_of (goal.at.returns-in-Accepted c).After-slice_known-2-1) g.0.0 (sym c.read-reading.ensures.0 ∙ g.1) a.row a.out.now _ c.read-reading.ensures.1.1.0 _ _ _ c.remove.ensures
+    let all = trimmed a.file.now a.table.now (bytes_of (goal.at.returns-in-Accepted c).After-slice_known-2-1) g.0.0 (sym c.read-reading.ensures.result ∙ g.1) a.row a.out.now _ c.read-reading.ensures.table _ _ _ c.remove.ensures.?result_output_table in record { result = all.0; output = all.1.0; table = all.1.1 }
 
 pub returns-in-Refused : goal.returns-in-Refused
 returns-in-Refused c =
     let g = c.reading-in-Refused-1.given in
     let a = c.args in
-    let is = trimmed_refused a.file.now a.table.now g.0.0 g.0.1.0 a.row a.out.now _ (sym c.read-reading.ensures.0 ∙ g.1) c.read-reading.ensures.1.1.0 in
-    (c.refused_writing.ensures ∙ is.0, is.1)
+    let is = trimmed_refused a.file.now a.table.now g.0.0 g.0.1.0 a.row a.out.now _ (sym c.read-reading.ensures.result ∙ g.1) c.read-reading.ensures.table in
+    let all = (c.refused_writing.ensures ∙ is.0, is.1) in record { result = all.0; output = all.1.0; table = all.1.1 }

@@ -8,4 +8,4 @@ returns-then-not-seen c = sym (c.requires.0 (not-true _ c.if-not-seen.true))
 
 pub returns-then-not-has_key : goal.returns-then-not-has_key
 returns-then-not-has_key c =
-    sym (c.requires.1 (sym c.has_key_lem.ensures ∙ not-true _ c.if-not-has_key.true))
+    sym (c.requires.1 (sym c.has_key.ensures ∙ not-true _ c.if-not-has_key.true))

@@ -24,11 +24,11 @@ loop-i-preserved c =
       omega (arith, c.loop-i-test.true),
       key_step name c.loop-i.key c.loop-i.i (omega (arith, c.loop-i-test.true))
           (c.u64_at-eight.ensures ∙ number_at_part 8 (c.loop-i.i + 8 - c.loop-i.i) name c.loop-i.i 0 (omega arith) ∙ ap (number_at 8 name) (omega arith))
-          c.thrice.ensures c.wrapping_add_u64-key.ensures
+          c.thrice.ensures c.wrapping_add_u64-key.ensures.value
           ∙ c.loop-i.invariant.1,
     )
 
 pub returns : goal.returns
 returns c =
     key_done c.args.name.now c.loop-i.key c.loop-i.i (omega (arith, c.loop-i-test.false)) c.loop-i.invariant.1 c.requires
-    c.thrice-2.ensures c.wrapping_add_u64.ensures
+    c.thrice-2.ensures c.wrapping_add_u64.ensures.value

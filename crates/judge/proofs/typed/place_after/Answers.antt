@@ -4,7 +4,7 @@ use borrow.Author.Tests.{not-true}
 use Rattle.judge.proofs.typed.place_after.Goals as goal
 
 pub returns-then-not-more : goal.returns-then-not-more
-returns-then-not-more c = (λ e. absurd (true≢false (sym e ∙ not-true _ c.if-not-more.true)), c.requires)
+returns-then-not-more c = record { next = λ e. absurd (true≢false (sym e ∙ not-true _ c.if-not-more.true)); within = c.requires }
 
 pub returns : goal.returns
-returns c = (λ e. c.next_by.ensures.0, c.next_by.ensures.1)
+returns c = record { next = λ e. c.next_by.ensures.result; within = c.next_by.ensures.within }

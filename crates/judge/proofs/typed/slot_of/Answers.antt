@@ -5,4 +5,4 @@ use Rattle.judge.proofs.typed.slot_of.Goals as goal
 
 pub returns : goal.returns
 unfolding slot_of
-returns c = (ap (λ n. n / 134217728 % 1024) c.wrapping_add_u64-mixed.ensures, omega arith)
+returns c = record { result = ap (λ n. n / 134217728 % 1024) c.wrapping_add_u64-mixed.ensures.value; bound = omega arith }

@@ -13,6 +13,7 @@ use Rattle.judge.specs.ByLine.{required_among}
 use Rattle.judge.proofs.Typing.{Noting, noting, starts_long, numbers_long, keys_long, marks_long, before_are, unseen_before, unkeyed_before, all_noted, longer, refused, passed}
 use Rattle.judge.proofs.Required.{Counted, none_counted, counted}
 use Rattle.judge.proofs.typed.typed.Goals as goal
+use Rattle.judge.proofs.typed.typed.Goals.{After-misfits-misfits, After-slot_of-slot, At-loop-i}
 
 pub loop-i-init : goal.loop-i-init
 loop-i-init c = (noting _ _ _ _ _ _ _ _, none_counted _ _ _)
@@ -30,59 +31,35 @@ pub key_of-key-requires : goal.key_of-key-requires
 key_of-key-requires c = c.last_letters.ensures
 
 -- the head of the loop, from the tests of a turn
--- what is known of a property before its name is looked for among the others
-pub slot_of-slot-requires : goal.slot_of-slot-requires
-slot_of-slot-requires c = search rules
-
-module _ (l : tie.At-loop invariant-loop decreases-loop) where
-  abbrev start : tie.Start invariant-loop decreases-loop
-  start = l.before.before.before.before.before.before
-
-  room : l.loop.i ≤ start.args.count → (l.loop.i ≤ length l.loop.starts) × (l.loop.i ≤ length l.loop.numbers) × (l.loop.i ≤ length l.loop.keys)
-      × (length l.loop.marks ≡ length start.args.marks.now)
+module _ (l : At-loop-i) where
+  room : l.loop-i.i ≤ l.args.count → (l.loop-i.i ≤ length l.loop-i.starts) × (l.loop-i.i ≤ length l.loop-i.numbers) × (l.loop-i.i ≤ length l.loop-i.keys)
+      × (length l.loop-i.marks ≡ length l.args.marks.now)
   room h =
-      let p = start.pre in
-      let o = l.loop.inv.0 in
+      let p = l.requires in
+      let o = l.loop-i.inv.0 in
       (omega (arith, h, p, starts_long o), omega (arith, h, p, numbers_long o), omega (arith, h, p, keys_long o), marks_long o)
 
   -- a place of a buffer is a place in memory
-  bounded : l.loop.i < start.args.count → Fits w64 (l.loop.i * 8)
-  bounded h = omega (arith, h, start.pre.0)
+  bounded : l.loop-i.i < l.args.count → Fits w64 (l.loop-i.i * 8)
+  bounded h = omega (arith, h, l.requires.0)
 
-module _ (so : tie.After-slot-of invariant-loop decreases-loop) where
-  abbrev keyed : tie.After-key-of invariant-loop decreases-loop
-  keyed = so.before
-
-  abbrev lined : tie.After-line-named invariant-loop decreases-loop
-  lined = keyed.before.before
-
-  abbrev named : tie.After-name-at invariant-loop decreases-loop
-  named = lined.before
-
-  abbrev headed : tie.After-header-at invariant-loop decreases-loop
-  headed = named.before
-
-  abbrev turn : tie.In-loop invariant-loop decreases-loop
-  turn = headed.before.before
-
-  abbrev head : tie.At-loop invariant-loop decreases-loop
-  head = turn.before
-
+-- what is known of a property before its name is looked for among the others
+module _ (so : After-slot_of-slot) where
   abbrev body : List ℕ
-  body = (start head).args.body.now
+  body = (start BADPLACE:so:At-loop-i).args.body.now
 
   -- its slot lies in the marks
-  slotted : so.slot_of.result < length head.loop.marks
-  slotted = omega (arith, so.slot_of.ensures.1, marks_long head.loop.inv.0, (start head).pre.4)
+  slotted : so.slot_of-slot.result < length so.loop-i.marks
+  slotted = omega (arith, so.slot_of-slot.ensures.bound, marks_long so.loop-i.inv.0, (start BADPLACE:so:At-loop-i).pre.4)
 
-  name : named.name-at.result.now ≡ name_at body head.loop.at
-  name = named.name-at.ensures ∙ name_rest body head.loop.at
+  name : so.name_at-name.result.now ≡ name_at body so.loop-i.at
+  name = so.name_at-name.ensures ∙ name_rest body so.loop-i.at
 
-  key : keyed.key_of.result ≡ key_of named.name-at.result.now
-  key = keyed.key_of.ensures
+  key : so.key_of-key.result ≡ key_of so.name_at-name.result.now
+  key = so.key_of-key.ensures
 
-  slot : so.slot_of.result ≡ slot_of keyed.key_of.result
-  slot = so.slot_of.ensures.0
+  slot : so.slot_of-slot.result ≡ slot_of so.key_of-key.result
+  slot = so.slot_of-slot.ensures.result
 
 pub slice_bounds-is_before-end : goal.slice_bounds-is_before-end
 slice_bounds-is_before-end c = let l = head (goal.at.slice_bounds-is_before-end c).After-slot_of-slot in (room l l.loop.inv.0.within).0
@@ -106,38 +83,27 @@ pub is_before-repeats-requires : goal.is_before-repeats-requires
 is_before-repeats-requires c =
     let p = (start (head (goal.at.is_before-repeats-requires c).After-last_letters)).pre in
     let o = (head (goal.at.is_before-repeats-requires c).After-last_letters).loop.invariant.0 in
-    let first : (head (goal.at.is_before-repeats-requires c).After-last_letters).loop.i ≤ length (start (head (goal.at.is_before-repeats-requires c).After-last_letters)).args.starts.now = omega (arith, o.within, p) in (
+    let first : (head (goal.at.is_before-repeats-requires c).After-last_letters).loop.i ≤ length (start (head (goal.at.is_before-repeats-requires c).After-last_letters)).args.starts.now = omega (arith, o.within, p) in
+    let all = (
       λ e. unseen_before o first (named (goal.at.is_before-repeats-requires c).After-last_letters).name-at.result.now c.slot_of.result (slot (goal.at.is_before-repeats-requires c).After-last_letters ∙ ap slot_of (key (goal.at.is_before-repeats-requires c).After-last_letters)) (omega (arith, c.slot_of.ensures.1, p.4)) e,
       λ e. unkeyed_before o first (omega (arith, o.within, p)) (named (goal.at.is_before-repeats-requires c).After-last_letters).name-at.result.now (key (goal.at.is_before-repeats-requires c).After-last_letters) e,
-    )
+    ) in record { slot = all.0; keys = all.1 }
 
 -- a property that is judged
-pub misfits-misfits-requires : goal.misfits-misfits-requires
-misfits-misfits-requires c = search rules
+module _ (m : After-misfits-misfits) where
+  abbrev loop : At-loop-i invariant-loop decreases-loop
+  loop = head BADPLACE:m:After-last_letters
 
-module _ (m : tie.After-misfits invariant-loop decreases-loop) where
-  abbrev line : tie.After-line-in invariant-loop decreases-loop
-  line = m.before
-
-  abbrev sought : tie.After-is-before invariant-loop decreases-loop
-  sought = line.before
-
-  abbrev slots : tie.After-slot-of invariant-loop decreases-loop
-  slots = sought.before.before.before.before
-
-  abbrev loop : tie.At-loop invariant-loop decreases-loop
-  loop = head slots
-
-  is_before : sought.is_before.result ≡ has (body slots) (take loop.loop.i (skim (body slots) (start loop).args.count 0)) (named slots).name-at.result.now
+  is_before : m.is_before-repeats.result ≡ has (body BADPLACE:m:After-last_letters) (take loop.loop.i (skim (body BADPLACE:m:After-last_letters) (start loop).args.count 0)) (named BADPLACE:m:After-last_letters).name-at.result.now
   is_before =
-      sought.is_before.ensures
-      ∙ ap (λ d. has (body slots) d (named slots).name-at.result.now) (before_are loop.loop.inv.0 (omega (arith, loop.loop.inv.0.within, (start loop).pre)))
+      m.is_before-repeats.ensures
+      ∙ ap (λ d. has (body BADPLACE:m:After-last_letters) d (named BADPLACE:m:After-last_letters).name-at.result.now) (before_are loop.loop.inv.0 (omega (arith, loop.loop.inv.0.within, (start loop).pre)))
 
   here : loop.loop.i < (start loop).args.count
-  here = omega (arith, (turn slots).loop-test.taken)
+  here = omega (arith, (turn BADPLACE:m:After-last_letters).loop-test.taken)
 
-  header : (headed slots).header_at_lem.result ≡ header_at (body slots) loop.loop.at
-  header = (headed slots).header_at_lem.ensures ∙ header_rest (body slots) loop.loop.at
+  header : (headed BADPLACE:m:After-last_letters).header_at_lem.result ≡ header_at (body BADPLACE:m:After-last_letters) loop.loop.at
+  header = (headed BADPLACE:m:After-last_letters).header_at_lem.ensures ∙ header_rest (body BADPLACE:m:After-last_letters) loop.loop.at
 
 pub overflow_add-place : goal.overflow_add-place
 overflow_add-place c = let l = (goal.at.overflow_add-place c).After-slice_known-3-1 in omega (arith, l.loop.invariant.0.inside)
@@ -158,7 +124,7 @@ pub returns-then-repeats-misfits : goal.returns-then-repeats-misfits
 returns-then-repeats-misfits c =
     let o = (loop (goal.at.returns-then-repeats-misfits c).After-misfits-misfits).loop.invariant.0 in
     let r = refused o (here (goal.at.returns-then-repeats-misfits c).After-misfits-misfits) (name (slots (goal.at.returns-then-repeats-misfits c).After-misfits-misfits)) (header (goal.at.returns-then-repeats-misfits c).After-misfits-misfits) (lined (slots (goal.at.returns-then-repeats-misfits c).After-misfits-misfits)).line-named.ensures (line (goal.at.returns-then-repeats-misfits c).After-misfits-misfits).line-in.ensures.1 (is_before (goal.at.returns-then-repeats-misfits c).After-misfits-misfits) c.misfits-misfits.ensures c.if-repeats-misfits.true in
-    (r.0, (r.1, (λ z. absurd (omega (arith, z)), omega (arith, o.inside))))
+    record { result = r.0; noted = r.1; required = λ z. absurd (omega (arith, z)); place = omega (arith, o.inside) }
 
 pub offset_bounds-starts-i : goal.offset_bounds-starts-i
 offset_bounds-starts-i c = bounded (loop (goal.at.offset_bounds-starts-i c).After-misfits-misfits) (here (goal.at.offset_bounds-starts-i c).After-misfits-misfits)
@@ -194,7 +160,7 @@ overflow_add-i c = let m = (goal.at.overflow_add-i c).After-misfits-misfits in o
 
 pub overflow_add-at : goal.overflow_add-at
 overflow_add-at c =
-    omega (arith, c.place_after-at.ensures.1, length_rest (start (goal.at.overflow_add-at c).After-slice_known-3-1).args.body.now c.loop.at, c.loop.invariant.0.inside)
+    omega (arith, c.place_after-at.ensures.within, length_rest (start (goal.at.overflow_add-at c).After-slice_known-3-1).args.body.now c.loop.at, c.loop.invariant.0.inside)
 
 pub loop-i-smaller : goal.loop-i-smaller
 loop-i-smaller c = omega (arith, here (goal.at.loop-i-smaller c).After-misfits-misfits)
@@ -207,8 +173,8 @@ loop-i-preserved c =
     let s = body so in (
       passed o (here (goal.at.loop-i-preserved c).After-misfits-misfits) (name so) (header (goal.at.loop-i-preserved c).After-misfits-misfits) (lined so).line-named.ensures (line (goal.at.loop-i-preserved c).After-misfits-misfits).line-in.ensures.1 (is_before (goal.at.loop-i-preserved c).After-misfits-misfits) c.misfits-misfits.ensures c.if-repeats-misfits.false
           (key so) (slot so)
-          (λ t. ap (λ k. l.loop.at + k) (c.place_after-at.ensures.0 t) ∙ next_rest s l.loop.at (headed so).header_at_lem.result o.inside)
-          (omega (arith, c.place_after-at.ensures.1, length_rest s l.loop.at, o.inside)),
+          (λ t. ap (λ k. l.loop.at + k) (c.place_after-at.ensures.next t) ∙ next_rest s l.loop.at (headed so).header_at_lem.result o.inside)
+          (omega (arith, c.place_after-at.ensures.within, length_rest s l.loop.at, o.inside)),
       counted (start l).args.lines.now s (skim s (start l).args.count 0) l.loop.i l.loop.at l.loop.inv.1 (longer o (here (goal.at.loop-i-preserved c).After-misfits-misfits))
           ((lined so).line-named.ensures ∙ ap (find_in (lines_from (start l).args.lines.now)) (name so)) (line (goal.at.loop-i-preserved c).After-misfits-misfits).line-in.ensures.0 c.wide-required.ensures.0
           (omega (arith, c.wide-required.ensures.1)),
@@ -232,7 +198,8 @@ returns c =
     let every = skim a.body.now a.count 0 in
     let whole : take c.loop-i.i every ≡ every =
     take_all c.loop-i.i every (omega (arith, c.loop-i-test.false, length_skim a.body.now a.count 0)) in
-    let all = all_noted c.loop-i.invariant.0 (omega (arith, c.loop-i-test.false)) in (
+    let all = all_noted c.loop-i.invariant.0 (omega (arith, c.loop-i-test.false)) in
+    let all = (
       all.0,
       (
         all.1,
@@ -241,4 +208,4 @@ returns c =
           omega arith,
         ),
       ),
-    )
+    ) in record { result = all.0; noted = all.1.0; required = all.1.1.0; place = all.1.1.1 }

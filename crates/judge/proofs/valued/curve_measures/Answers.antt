@@ -5,4 +5,4 @@ use Rattle.judge.proofs.valued.curve_measures.Goals as goal
 
 pub returns : goal.returns
 unfolding beside_by_line
-returns c = rw (c.read_by_lem.ensures.0, c.types_of_lem.ensures)
+returns c = rw (c.read_by-keys.ensures.length, c.types_of-types.ensures)

@@ -11,11 +11,11 @@ unfolding length_by_line value_by_line
 returns-then-i-numbers c =
     let a = c.args in
     let at = get_or a.starts.now c.first_number-i.result 0 in
-    rw (← c.first_number-i.ensures, lt-ltb _ _ c.if-i-numbers.true) (
-      ap (λ (goal.at.returns-then-i-numbers c).After-header_at-header. c.length) c.header_at_lem.ensures,
-      c.value_at.ensures ∙ ap (λ (goal.at.returns-then-i-numbers c).After-header_at-header. number_at (width_of c.code) (rest_at a.body.now at) 0) c.header_at_lem.ensures,
-    )
+    let all = rw (← c.first_number-i.ensures, lt-ltb _ _ c.if-i-numbers.true) (
+      ap (λ (goal.at.returns-then-i-numbers c).After-header_at-header. c.length) c.header_at-header.ensures,
+      c.value_at.ensures ∙ ap (λ (goal.at.returns-then-i-numbers c).After-header_at-header. number_at (width_of c.code) (rest_at a.body.now at) 0) c.header_at-header.ensures,
+    ) in record { length = all.0; value = all.1 }
 
 pub returns : goal.returns
 unfolding length_by_line value_by_line
-returns c = rw (← c.first_number-i.ensures, le-ltb _ _ c.if-i-numbers.false) (refl, refl)
+returns c = let all = rw (← c.first_number-i.ensures, le-ltb _ _ c.if-i-numbers.false) (refl, refl) in record { length = all.0; value = all.1 }

@@ -9,5 +9,5 @@ pub returns : goal.returns
 returns c =
     let a = c.args in
     c.number_at.ensures
-    ∙ ap (λ n. number_at n c.rest_at.result.now 0) (min-eq_left c.width_of_lem.ensures.1 ∙ c.width_of_lem.ensures.0)
+    ∙ ap (λ n. number_at n c.rest_at.result.now 0) (min-eq_left c.width_of-width.ensures.bound ∙ c.width_of-width.ensures.result)
     ∙ ap (λ d. number_at (width_of a.code) d 0) c.rest_at.ensures

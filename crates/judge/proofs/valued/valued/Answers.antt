@@ -10,7 +10,7 @@ use Rattle.judge.specs.Private.{beside_from, valued_to}
 use Rattle.judge.proofs.Faults.{held_faces_lem}
 use Rattle.judge.proofs.Values.{as_many, line_found, on_top, on_none, ended, Counting, faces_counted, faces_wrong, link_counted, other_counted, other_wrong, refused_bounded}
 use Rattle.judge.proofs.valued.valued.Goals as goal
-use Rattle.judge.proofs.valued.valued.Goals.{After-faces_at-kept}
+use Rattle.judge.proofs.valued.valued.Goals.{After-faces_at-kept, After-line_in-e}
 
 pub measures_of-m-requires : goal.measures_of-m-requires
 measures_of-m-requires c =
@@ -33,54 +33,44 @@ bounds-numbers-i c =
     omega (arith, as_many (lines_from c.args.lines.now) c.args.body.now c.args.starts.now c.requires.1.0)
 
 -- the property that was read, and its line
-pub line_in-e-requires : goal.line_in-e-requires
-line_in-e-requires c = search rules
-
-module _ ((goal.at.line_in-e-requires c).After-shared_slice_known-in-loop-i-2-1 : tie.After-line-in invariant-loop decreases-loop) where
-  abbrev head : tie.At-loop invariant-loop decreases-loop
-  head = (goal.at.line_in-e-requires c).After-measures_of-m
-
-  abbrev start : tie.Start invariant-loop decreases-loop
-  start = head.before.before.before.before.before
-
+module _ (c : After-line_in-e) where
   abbrev at : ℕ
-  at = get_or start.args.starts.now head.loop.i 0
+  at = get_or c.args.starts.now c.loop-i.i 0
 
   abbrev all : Judged
-  all = let a = start.args in valued_to (lines_from a.lines.now) a.body.now (beside_by_line a.kind a.body.now a.starts.now a.numbers.now a.bones) a.starts.now
+  all = let a = c.args in valued_to (lines_from a.lines.now) a.body.now (beside_by_line a.kind a.body.now a.starts.now a.numbers.now a.bones) a.starts.now
 
   within : Fits w64 (24 + at)
-  within = omega (arith, start.good.1.1.0.1, start.pre.1.1 head.loop.i)
+  within = omega (arith, c.good.1.1.0.1, c.requires.1.1 c.loop-i.i)
 
-  inside : head.loop.i < length start.args.starts.now
-  inside = c.loop-test.true
+  inside : c.loop-i.i < length c.args.starts.now
+  inside = c.loop-i-test.true
 
-  bytes : AreBytes start.args.body.now
-  bytes = λ i. omega (arith, head.before.before.before.before.shared-slice-known.given i)
+  bytes : AreBytes c.args.body.now
+  bytes = λ i. omega (arith, c.shared_slice_known-1.given i)
 
-  line : line_of c.line-in.result ≡ rule_at (lines_from start.args.lines.now) start.args.body.now at
+  line : line_of c.line_in-e.result ≡ rule_at (lines_from c.args.lines.now) c.args.body.now at
   line =
-      let a = start.args in
-      line_found (lines_from a.lines.now) a.body.now a.starts.now start.pre.1.0 head.loop.i inside c.line-in.ensures.1
+      let a = c.args in
+      line_found (lines_from a.lines.now) a.body.now a.starts.now c.requires.1.0 c.loop-i.i inside c.line_in-e.ensures.line
 
   refuses : refused_node 15 (24 + at) ≡ all → {r : Judged} → r ≡ refused_node 15 (24 + at)
-      → (r ≡ all) × Bounded r (length start.args.body.now)
-  refuses w e = (e ∙ w, refused_bounded 15 (24 + at) (length start.args.body.now) (omega (arith, start.pre.1.1 head.loop.i)) e)
+      → (r ≡ all) × Bounded r (length c.args.body.now)
+  refuses w e = (e ∙ w, refused_bounded 15 (24 + at) (length c.args.body.now) (omega (arith, c.requires.1.1 c.loop-i.i)) e)
 
 pub overflow_add-at : goal.overflow_add-at
 overflow_add-at c = within (goal.at.overflow_add-at c).After-line_in-e
 
 pub returns-then-breaks : goal.returns-then-breaks
-returns-then-breaks c =
-    refuses (goal.at.returns-then-breaks c).After-line_in-e
+returns-then-breaks c = let all = refuses (goal.at.returns-then-breaks c).After-line_in-e
     (faces_wrong (head (goal.at.returns-then-breaks c).After-line_in-e).loop.invariant (inside (goal.at.returns-then-breaks c).After-line_in-e) c.line_in-e.result (line (goal.at.returns-then-breaks c).After-line_in-e) c.if-e-eq-FACES.true (bytes (goal.at.returns-then-breaks c).After-line_in-e) c.faces_at-kept.ensures (sym c.breaks.ensures ∙ c.if-breaks.true))
-    c.refused_node.ensures
+    c.refused_node.ensures in record { result = all.0; bounds = all.1 }
 
 -- how many faces one property counts
 few : (c : After-faces_at-keptoop decreases-loop) → (c.faces_at-kept.result.faces < 4294967296) × (c.faces_at-kept.result.degenerate < 4294967296)
 few c =
-    let b = beside_from (head BADPLACE:After-line_in-e).before.measures-of.result in
-    let kept = held_faces_lem c.line_in-e.result (start BADPLACE:After-line_in-e).args.body.now (at BADPLACE:After-line_in-e) b c.if-e-eq-FACES.true (bytes BADPLACE:After-line_in-e) c.faces_at-kept.ensures in
+    let b = beside_from (head BADPLACE:c:After-line_in-e).before.measures-of.result in
+    let kept = held_faces_lem c.line_in-e.result (start BADPLACE:c:After-line_in-e).args.body.now (at BADPLACE:c:After-line_in-e) b c.if-e-eq-FACES.true (bytes BADPLACE:c:After-line_in-e) c.faces_at-kept.ensures in
     (kept.1, kept.2)
 
 pub overflow_add-faces : goal.overflow_add-faces
@@ -101,10 +91,9 @@ pub overflow_add-at-then-breaks-2 : goal.overflow_add-at-then-breaks-2
 overflow_add-at-then-breaks-2 c = within (goal.at.overflow_add-at-then-breaks-2 c).After-line_in-e
 
 pub returns-then-breaks-2 : goal.returns-then-breaks-2
-returns-then-breaks-2 c =
-    refuses (goal.at.returns-then-breaks-2 c).After-line_in-e
+returns-then-breaks-2 c = let all = refuses (goal.at.returns-then-breaks-2 c).After-line_in-e
     (other_wrong (head (goal.at.returns-then-breaks-2 c).After-line_in-e).loop.invariant (inside (goal.at.returns-then-breaks-2 c).After-line_in-e) c.line_in-e.result (line (goal.at.returns-then-breaks-2 c).After-line_in-e) c.if-e-eq-FACES.false c.fault_of.ensures (sym c.breaks-else-e-eq-LINK.ensures ∙ c.if-breaks-2.true))
-    c.refused_node-then-breaks-2.ensures
+    c.refused_node-then-breaks-2.ensures in record { result = all.0; bounds = all.1 }
 
 pub loop-i-preserved : goal.loop-i-preserved
 loop-i-preserved c =
@@ -121,8 +110,9 @@ pub returns : goal.returns
 returns c =
     let a = c.args in
     let p = c.loop-i in
-    let b = beside_from c.measures_of-m.result in (
+    let b = beside_from c.measures_of-m.result in
+    let all = (
       sym (ended (lines_from a.lines.now) a.body.now b p.faces p.degenerate p.links a.starts.now p.i c.loop-i-test.false)
           ∙ p.invariant.says,
       record { place = omega arith; faces = omega arith; degenerates = omega arith; links = omega arith },
-    )
+    ) in record { result = all.0; bounds = all.1 }

@@ -10,30 +10,19 @@ use Rattle.reader.specs.Reading.{own_unknown}
 use Rattle.reader.specs.Private.{is_judged}
 use Rattle.reader.proofs.Bare.{one_more, unknown_passed}
 use Rattle.reader.proofs.unjudged.skip.Goals as goal
+use Rattle.reader.proofs.unjudged.skip.Goals.{After-is_judged}
 
 pub loop-i-init : goal.loop-i-init
 loop-i-init c =
     (omega arith, c.requires.0, λ j a b. absurd (omega (arith, a, b)), refl, c.requires.2)
 
--- the row in turn, and whether it is judged
 pub is_judged-requires : goal.is_judged-requires
 is_judged-requires c = c.known-known.ensures
 
-module _ ((goal.at.is_judged-requires c).After-known-known : tie.After-is-judged invariant-loop decreases-loop) where
-  abbrev row : tie.After-row-at invariant-loop decreases-loop
-  row = (goal.at.is_judged-requires c).In-loop-i
-
-  abbrev turn : tie.In-loop invariant-loop decreases-loop
-  turn = row.before
-
-  abbrev at-loop : tie.At-loop invariant-loop decreases-loop
-  at-loop = turn.before
-
-  abbrev start : tie.Start invariant-loop decreases-loop
-  start = at-loop.before.before
-
-  is : c.is_judged_lem.result ≡ is_judged (row_at start.args.table.now at-loop.loop.i)
-  is = c.is_judged_lem.ensures ∙ ap is_judged row.row_at.ensures
+-- the row in turn, and whether it is judged
+module _ (c : After-is_judged) where
+  is : c.is_judged.result ≡ is_judged (row_at c.args.table.now c.loop-i.i)
+  is = c.is_judged.ensures ∙ ap is_judged c.row_at-row.ensures
 
 pub returns-then-is_judged : goal.returns-then-is_judged
 returns-then-is_judged c =
@@ -52,7 +41,7 @@ unknown_bytes-unknown-requires c = c.known-known.ensures
 
 pub overflow_add-unknown : goal.overflow_add-unknown
 overflow_add-unknown c =
-    omega (arith, (at-loop (goal.at.overflow_add-unknown c).After-is_judged).loop.invariant.4, (turn (goal.at.overflow_add-unknown c).After-is_judged).loop-test.true, (start (goal.at.overflow_add-unknown c).After-is_judged).requires.1, c.unknown_bytes_lem.ensures.1)
+    omega (arith, (at-loop (goal.at.overflow_add-unknown c).After-is_judged).loop.invariant.4, (turn (goal.at.overflow_add-unknown c).After-is_judged).loop-test.true, (start (goal.at.overflow_add-unknown c).After-is_judged).requires.1, c.unknown_bytes-unknown.ensures.1)
 
 pub overflow_add-i : goal.overflow_add-i
 overflow_add-i c = let j = (goal.at.overflow_add-i c).After-is_judged in omega (arith, (turn j).loop-test.true, (start j).requires.1)
@@ -66,7 +55,7 @@ loop-i-preserved c =
     let i = (at-loop (goal.at.loop-i-preserved c).After-is_judged).loop.i in
     let l = (at-loop (goal.at.loop-i-preserved c).After-is_judged).loop.invariant in
     let here = (turn (goal.at.loop-i-preserved c).After-is_judged).loop-test.true in
-    let x = c.unknown_bytes_lem.ensures in (
+    let x = c.unknown_bytes-unknown.ensures in (
       omega (arith, l.0),
       omega (arith, here),
       one_more (λ k. is_judged (row_at a.table.now k) ≡ false) a.from i l.2 (sym (is (goal.at.loop-i-preserved c).After-is_judged) ∙ c.if-is_judged.false),

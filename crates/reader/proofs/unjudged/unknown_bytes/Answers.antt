@@ -11,4 +11,4 @@ returns-then-known c = let s = (goal.at.returns-then-known c).Start in (bytes_kn
 
 pub returns : goal.returns
 returns c =
-    (c.own_bytes-own.ensures.0 ∙ bytes_unknown c.args.row (sym c.requires ∙ c.if-known.false), omega (arith, c.own_bytes-own.ensures.1))
+    (c.own_bytes-own.ensures.result ∙ bytes_unknown c.args.row (sym c.requires ∙ c.if-known.false), omega (arith, c.own_bytes-own.ensures.bound))
