@@ -5,7 +5,10 @@ use borrow.Author.Rules.{rules}
 use Rattle.body.proofs.next_by.Goals as goal
 
 pub returns-then-n-at : goal.returns-then-n-at
-returns-then-n-at c = let a = let all = c.args in next_past a.body.now a.at a.h (omega (arith, c.if-n-at.true)) in record { result = all.0; within = all.1 }
+returns-then-n-at c =
+    let a = c.args in
+    let all = next_past a.body.now a.at a.h (omega (arith, c.if-n-at.true)) in
+    record { result = all.0; within = all.1 }
 
 pub returns-then-n-at-2 : goal.returns-then-n-at-2
 returns-then-n-at-2 c =

@@ -18,4 +18,4 @@ loop-i-preserved c =
     (omega arith, ap (λ b. (c.loop-i.ok && b) && bytes_ok (drop (c.loop-i.i + 1) s)) c.byte_ok-ok.ensures ∙ block_next c.loop-i.ok s c.loop-i.i (omega arith) ∙ c.loop-i.invariant.1)
 
 pub returns : goal.returns
-returns c = let l = (goal.at.returns c).At-loop-i in block_ended l.loop.ok l.before.before.args.block.now l.loop.i (omega arith) ∙ l.loop.invariant.1
+returns c = block_ended c.loop-i.ok c.args.block.now c.loop-i.i (omega arith) ∙ c.loop-i.invariant.1

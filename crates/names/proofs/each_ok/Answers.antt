@@ -4,7 +4,6 @@ use native.Mathlib.Omega.{arith}
 use mathlib.Core.Path.{◌≡◌, refl, sym, ◌∙◌}
 use lib.ListN.{length, drop}
 use borrow.Author.Rules.{rules}
-use borrow.Author.Tests.{not-true, not-false}
 use Rattle.names.specs.Names.{bytes_ok}
 use Rattle.names.proofs.Laws.{bytes_passed, bytes_refused, bytes_ended}
 use Rattle.names.proofs.each_ok.Goals as goal
@@ -14,11 +13,11 @@ loop-i-init c = (omega arith, refl)
 
 pub returns-then-not-byte_ok : goal.returns-then-not-byte_ok
 returns-then-not-byte_ok c =
-    sym (bytes_refused c.args.name.now c.loop-i.i (omega arith) (sym c.byte_ok.ensures ∙ not-true _ c.if-not-byte_ok.true)) ∙ c.loop-i.invariant.1
+    sym (bytes_refused c.args.name.now c.loop-i.i (omega arith) (sym c.byte_ok.ensures ∙ c.if-not-byte_ok.true)) ∙ c.loop-i.invariant.1
 
 pub loop-i-preserved : goal.loop-i-preserved
 loop-i-preserved c =
-    (omega arith, sym (bytes_passed c.args.name.now c.loop-i.i (omega arith) (sym c.byte_ok.ensures ∙ not-false _ c.if-not-byte_ok.false)) ∙ c.loop-i.invariant.1)
+    (omega arith, sym (bytes_passed c.args.name.now c.loop-i.i (omega arith) (sym c.byte_ok.ensures ∙ c.if-not-byte_ok.false)) ∙ c.loop-i.invariant.1)
 
 pub returns : goal.returns
 returns c =

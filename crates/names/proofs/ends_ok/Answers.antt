@@ -12,13 +12,11 @@ use Rattle.names.proofs.ends_ok.Goals as goal
 
 pub slice_bounds-block_ok-end : goal.slice_bounds-block_ok-end
 slice_bounds-block_ok-end c =
-    let start = BAD:c.before.before in
-    sym (length-take-le start.args.k start.args.name.now start.requires.0)
+    sym (length-take-le c.args.k c.args.name.now c.requires.0)
 
 pub returns : goal.returns
 returns c =
-    let start = BAD:c.before.before.before.before.before in
-    let k = start.args.k in
-    let name = start.args.name.now in
+    let k = c.args.k in
+    let name = c.args.name.now in
     rw (c.block_ok.ensures, c.block_ok-2.ensures ∙ ap bytes_ok (rest_drop name (length name - k)))
-    (ends_are k name start.requires.0 start.requires.1)
+    (ends_are k name c.requires.0 c.requires.1)

@@ -2,7 +2,6 @@
 use mathlib.Core.Path.{sym, ◌∙◌}
 use lib.Seq.{length-take-le}
 use borrow.Author.Rules.{rules}
-use borrow.Author.Tests.{not-true, not-false}
 use Rattle.base.proofs.Answers.{told}
 use Rattle.names.specs.Names.{numeral_numbers}
 use Rattle.names.proofs.Laws.{numbered_short, numbered_other, numbered_by}
@@ -12,10 +11,10 @@ pub returns-then-name-n : goal.returns-then-name-n
 returns-then-name-n c = let all = told numeral_numbers (sym (numbered_short _ _ c.if-name-n.true)) in record { result = all.0; numbers = all.1 }
 
 pub slice_bounds-same-end : goal.slice_bounds-same-end
-slice_bounds-same-end c = sym (length-take-le _ BAD:c.before.before.before.before.args.name.now c.if1.false)
+slice_bounds-same-end c = sym (length-take-le _ c.args.name.now c.if-name-n.false)
 
 pub returns-then-not-same : goal.returns-then-not-same
-returns-then-not-same c = let all = told numeral_numbers (sym (numbered_other _ _ (sym c.same.ensures ∙ not-true _ c.if-not-same.true))) in record { result = all.0; numbers = all.1 }
+returns-then-not-same c = let all = told numeral_numbers (sym (numbered_other _ _ (sym c.same.ensures ∙ c.if-not-same.true))) in record { result = all.0; numbers = all.1 }
 
 pub returns : goal.returns
-returns c = let all = told numeral_numbers (c.number.ensures ∙ sym (numbered_by _ _ (sym c.same.ensures ∙ not-false _ c.if-not-same.false))) in record { result = all.0; numbers = all.1 }
+returns c = let all = told numeral_numbers (c.number.ensures ∙ sym (numbered_by _ _ (sym c.same.ensures ∙ c.if-not-same.false))) in record { result = all.0; numbers = all.1 }

@@ -2,7 +2,6 @@
 use Prim.Native.Nat.{◌-◌, ◌≤◌, ◌<◌}
 use native.Mathlib.Omega.{arith}
 use mathlib.Core.Path.{◌≡◌, refl, sym, ◌∙◌}
-use mathlib.Core.Logic.{⊎_elim}
 use borrow.Author.Rules.{rules}
 use Rattle.table.specs.Table.{no_parent, rows_at}
 use Rattle.plan.specs.Plan.{naming, plan_refusal}
@@ -10,7 +9,7 @@ use Rattle.plan.specs.Private.{path_at, Climbs}
 use Rattle.plan.proofs.Paths.{climbs_below, path_known, path_unknown}
 use Rattle.plan.proofs.Judging.{right, judged_at, judging_begun, judging_refused, judging_passed, judging_ended}
 use Rattle.plan.proofs.judge_rows.Goals as goal
-use Rattle.plan.proofs.judge_rows.Goals.{After-row_refusal-number}
+use Rattle.plan.proofs.judge_rows.Goals.{After-row_refusal-number, then-known, else-known}
 
 pub loop-i-init : goal.loop-i-init
 unfolding path_at
@@ -25,15 +24,16 @@ row_refusal-number-requires c =
 -- where a row is judged: the row, the loop's test, the loop and the start
 module _ (c : After-row_refusal-number) where
   few : c.loop-i.i < 1024
-  few = omega (arith, c.loop-i-test.taken, c.requires.0)
+  few = omega (arith, c.loop-i-test.true, c.requires.0)
 
   named : c.count_at-naming.result ≡ naming (rows_at c.args.plan.now 0 c.args.rows) c.loop-i.i
   named = c.count_at-naming.ensures ∙ c.requires.2 _ few
 
 pub returns-then-number-ne0 : goal.returns-then-number-ne0
 returns-then-number-ne0 c =
-    let says = judging_refused _ _ _ _ (turn (goal.at.returns-then-number-ne0 c).After-row_refusal-number).loop-test.true (row (goal.at.returns-then-number-ne0 c).After-row_refusal-number).row_at.ensures (named (goal.at.returns-then-number-ne0 c).After-row_refusal-number) c.row_refusal-number.ensures c.if-number-ne0.true in
-    (sym says ∙ (at-loop (goal.at.returns-then-number-ne0 c).After-row_refusal-number).loop.invariant.2, omega (arith, few (goal.at.returns-then-number-ne0 c).After-row_refusal-number))
+    let turn = (goal.at.returns-then-number-ne0 c).After-row_refusal-number in
+    let says = judging_refused _ _ _ _ c.loop-i-test.true c.row_at-row.ensures (named turn) c.row_refusal-number.ensures c.if-number-ne0.true in
+    (sym says ∙ c.loop-i.invariant.2, omega (arith, few turn))
 
 pub overflow_cast-from : goal.overflow_cast-from
 overflow_cast-from c = omega (arith, few (goal.at.overflow_cast-from c).After-row_refusal-number)
@@ -43,14 +43,15 @@ overflow_add-i c = omega (arith, few (goal.at.overflow_add-i c).After-row_refusa
 
 pub loop-i-preserved : goal.loop-i-preserved
 loop-i-preserved c =
-    let l = (at-loop (goal.at.loop-i-preserved c).After-row_refusal-number).loop.invariant in
+    let turn = (goal.at.loop-i-preserved c).After-row_refusal-number in
+    let l = c.loop-i.invariant in
     let ok = right _ _ _ _ (sym c.row_refusal-number.ensures ∙ c.if-number-ne0.false) in (
-      omega (arith, (turn (goal.at.loop-i-preserved c).After-row_refusal-number).loop-test.true),
-      ⊎_elim
-          (λ w. rw w.1 (path_known _ _ _ (omega (arith, few (goal.at.loop-i-preserved c).After-row_refusal-number)) (row (goal.at.loop-i-preserved c).After-row_refusal-number).row_at.ensures ok l.1 (sym c.known-known.ensures ∙ w.0.taken)))
-          (λ w. rw w.1 (path_unknown _ _ _ (omega (arith, few (goal.at.loop-i-preserved c).After-row_refusal-number)) (row (goal.at.loop-i-preserved c).After-row_refusal-number).row_at.ensures ok l.1 (sym c.known-known.ensures ∙ w.0.left)))
-          c.if-known.branch,
-      sym (judging_passed _ _ _ _ (turn (goal.at.loop-i-preserved c).After-row_refusal-number).loop-test.true (row (goal.at.loop-i-preserved c).After-row_refusal-number).row_at.ensures (named (goal.at.loop-i-preserved c).After-row_refusal-number) c.row_refusal-number.ensures c.if-number-ne0.false) ∙ l.2,
+      omega (arith, c.loop-i-test.true),
+      elim c.if-known.branch [
+        then-known w ↦ rw w.from-is (path_known _ _ _ (omega (arith, few turn)) c.row_at-row.ensures ok l.1 (sym c.known-known.ensures ∙ w.if-known.true))
+        | else-known w ↦ rw w.from-is (path_unknown _ _ _ (omega (arith, few turn)) c.row_at-row.ensures ok l.1 (sym c.known-known.ensures ∙ w.if-known.false))
+      ],
+      sym (judging_passed _ _ _ _ c.loop-i-test.true c.row_at-row.ensures (named turn) c.row_refusal-number.ensures c.if-number-ne0.false) ∙ l.2,
     )
 
 pub returns : goal.returns

@@ -3,7 +3,6 @@ use Prim.Native.Nat.{ℕ, ◌≤◌, min}
 use native.Mathlib.Nat.{min-eq_left}
 use native.Mathlib.Omega.{arith}
 use mathlib.Core.Path.{◌≡◌, ap, ◌∙◌}
-use mathlib.Core.Logic.{⊎_elim}
 use lib.ListN.{length-replicate}
 use borrow.Author.Rules.{rules}
 use Rattle.table.specs.declared.Which.TheVariants.{All}
@@ -11,11 +10,14 @@ use Rattle.table.specs.Table.{rows_at}
 use Rattle.table.proofs.Counts.{counts_tell}
 use Rattle.plan.specs.Plan.{naming, plan_refusal}
 use Rattle.plan.proofs.plan_refusal.Goals as goal
-use Rattle.plan.proofs.plan_refusal.Goals.{Joined-rows-lt-MOST_ROWS}
+use Rattle.plan.proofs.plan_refusal.Goals.{Joined-rows-lt-MOST_ROWS, then-rows-lt-MOST_ROWS, else-rows-lt-MOST_ROWS}
 
 -- this many rows are judged
 many : (c : Joined-rows-lt-MOST_ROWS) → c.if-rows-lt-MOST_ROWS.n ≡ min c.args.rows 1024
-many c = ⊎_elim (λ w. omega (arith, w.0.taken, w.1)) (λ w. omega (arith, w.0.left, w.1)) c.if-rows-lt-MOST_ROWS.branch
+many c = elim c.if-rows-lt-MOST_ROWS.branch [
+  then-rows-lt-MOST_ROWS w ↦ omega (arith, w.if-rows-lt-MOST_ROWS.true, w.n-is)
+  | else-rows-lt-MOST_ROWS w ↦ omega (arith, w.if-rows-lt-MOST_ROWS.false, w.n-is)
+]
 
 pub judge_rows-requires : goal.judge_rows-requires
 judge_rows-requires c =
@@ -31,4 +33,7 @@ judge_rows-requires c =
 pub returns : goal.returns
 returns c =
     let a = c.args in
-    record { result = c.judge_rows.ensures.0 ∙ ap (λ n. plan_refusal a.source.now (rows_at a.plan.now 0 n)) (many (goal.at.returns c).Joined-rows-lt-MOST_ROWS); bound = c.judge_rows.ensures.1 }
+    record {
+      result = c.judge_rows.ensures.0 ∙ ap (λ n. plan_refusal a.source.now (rows_at a.plan.now 0 n)) (many (goal.at.returns c).Joined-rows-lt-MOST_ROWS);
+      bound = c.judge_rows.ensures.1;
+    }

@@ -13,7 +13,7 @@ size : (c : After-wide-data) → c.wide-data.result ≡ size_at c.args.body.now 
 size c = c.wide-data.ensures.0 ∙ ap (λ (h : PropertyHeader). h.size) c.header_at.ensures
 
 pub returns-then-n-at : goal.returns-then-n-at
-returns-then-n-at c = let a = let all = c.args in (sym (data_past a.body.now a.at (omega arith)), omega arith) in record { result = all.0; within = all.1 }
+returns-then-n-at c = record { result = sym (data_past c.args.body.now c.args.at (omega arith)); within = omega arith }
 
 pub returns-then-n-at-2 : goal.returns-then-n-at-2
 returns-then-n-at-2 c =

@@ -17,6 +17,6 @@ slice_bounds-same-end c = sym (length-take-le _ _ (omega arith))
 
 pub returns : goal.returns
 returns c =
-    let a = BAD:c.before.before.before.before.before.before.args in
+    let a = c.args in
     let n = length a.string.now in
     ap (λ t. t && eqb (get_or a.bytes.now n 0) 0) c.same.ensures ∙ sym (text_long a.bytes.now a.string.now (omega arith))

@@ -27,9 +27,9 @@ module _ (c : After-has_name) where
 
 pub returns-then-has_name : goal.returns-then-has_name
 returns-then-has_name c =
-    let l = (head (goal.at.returns-then-has_name c).After-has_name).loop in
-    sym (find_hit (lines_from (start (goal.at.returns-then-has_name c).After-has_name).args.lines.now) (start (goal.at.returns-then-has_name c).After-has_name).args.name.now l.i (inside (goal.at.returns-then-has_name c).After-has_name) (is_line (goal.at.returns-then-has_name c).After-has_name) (sym c.has_name.ensures ∙ c.if-has_name.true))
-    ∙ l.inv.1
+    let e = (goal.at.returns-then-has_name c).After-has_name in
+    sym (find_hit (lines_from c.args.lines.now) c.args.name.now c.loop-i.i (inside e) (is_line e) (sym c.has_name.ensures ∙ c.if-has_name.true))
+    ∙ c.loop-i.invariant.1
 
 pub next_with-i-requires-in-loop-i : goal.next_with-i-requires-in-loop-i
 next_with-i-requires-in-loop-i c = omega (arith, c.loop-i-test.true)
@@ -39,13 +39,12 @@ loop-i-smaller c = omega (arith, c.next_with-i-in-loop-i.ensures.within.0, c.loo
 
 pub loop-i-preserved : goal.loop-i-preserved
 loop-i-preserved c =
-    let l = (head (goal.at.loop-i-preserved c).After-has_name).loop in
-    let n = (head (goal.at.loop-i-preserved c).After-has_name).before.before in
-    let a = (start (goal.at.loop-i-preserved c).After-has_name).args in (
+    let e = (goal.at.loop-i-preserved c).After-has_name in
+    let a = c.args in (
       c.next_with-i-in-loop-i.ensures.within.1,
-      c.next_with-i-in-loop-i.ensures.passes a.name.now n.number_at.ensures
-          ∙ sym (find_passed (lines_from a.lines.now) a.name.now l.i (inside (goal.at.loop-i-preserved c).After-has_name) (is_line (goal.at.loop-i-preserved c).After-has_name) (sym c.has_name.ensures ∙ c.if-has_name.false))
-          ∙ l.inv.1,
+      c.next_with-i-in-loop-i.ensures.passes a.name.now c.number_at-letter.ensures
+          ∙ sym (find_passed (lines_from a.lines.now) a.name.now c.loop-i.i (inside e) (is_line e) (sym c.has_name.ensures ∙ c.if-has_name.false))
+          ∙ c.loop-i.invariant.1,
     )
 
 pub returns : goal.returns

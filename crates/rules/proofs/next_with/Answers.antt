@@ -33,4 +33,4 @@ loop-i-preserved c =
     )
 
 pub returns : goal.returns
-returns c = let l = let all = (goal.at.returns c).At-loop-i in ((l.loop.invariant.0, l.loop.invariant.1), l.loop.invariant.2) in record { within = all.0; passes = all.1 }
+returns c = record { within = (c.loop-i.invariant.0, c.loop-i.invariant.1); passes = c.loop-i.invariant.2 }

@@ -9,35 +9,30 @@ use Rattle.rules.specs.Rules.{is_one_of}
 use Rattle.rules.proofs.Laws.{no_set}
 use Rattle.rules.proofs.one_of.Goals as goal
 
--- GONE slice-aggregate-some-stands: slice-aggregate-some-stands c = search rules
--- GONE slice-aggregate-some-stands-2: slice-aggregate-some-stands-2 c = search rules
--- GONE slice-aggregate-some-stands-3: slice-aggregate-some-stands-3 c = search rules
--- GONE slice-aggregate-some-stands-4: slice-aggregate-some-stands-4 c = search rules
--- GONE slice-aggregate-some-stands-5: slice-aggregate-some-stands-5 c = search rules
 pub returns-in-1 : goal.returns-in-1
 unfolding letters unpacked le strings_of
 returns-in-1 c =
-    c.some_stands.ensures ∙ ap (λ set. is_one_of (strings_of set) c.args.bytes.now) (sym c.match.keys1)
+    c.some_stands.ensures ∙ ap (λ set. is_one_of (strings_of set) c.args.bytes.now) (sym c.in-1.is)
 
 pub returns-in-2 : goal.returns-in-2
 unfolding letters unpacked le strings_of
 returns-in-2 c =
-    c.some_stands-in-2.ensures ∙ ap (λ set. is_one_of (strings_of set) c.args.bytes.now) (sym c.match.keys2)
+    c.some_stands-in-2.ensures ∙ ap (λ set. is_one_of (strings_of set) c.args.bytes.now) (sym c.in-2.is)
 
 pub returns-in-3 : goal.returns-in-3
 unfolding letters unpacked le strings_of
 returns-in-3 c =
-    c.some_stands-in-3.ensures ∙ ap (λ set. is_one_of (strings_of set) c.args.bytes.now) (sym c.match.keys3)
+    c.some_stands-in-3.ensures ∙ ap (λ set. is_one_of (strings_of set) c.args.bytes.now) (sym c.in-3.is)
 
 pub returns-in-4 : goal.returns-in-4
 unfolding letters unpacked le strings_of
 returns-in-4 c =
-    c.some_stands-in-4.ensures ∙ ap (λ set. is_one_of (strings_of set) c.args.bytes.now) (sym c.match.keys4)
+    c.some_stands-in-4.ensures ∙ ap (λ set. is_one_of (strings_of set) c.args.bytes.now) (sym c.in-4.is)
 
 pub returns-in-5 : goal.returns-in-5
 unfolding letters unpacked le strings_of
 returns-in-5 c =
-    c.some_stands-in-5.ensures ∙ ap (λ set. is_one_of (strings_of set) c.args.bytes.now) (sym c.match.keys5)
+    c.some_stands-in-5.ensures ∙ ap (λ set. is_one_of (strings_of set) c.args.bytes.now) (sym c.in-5.is)
 
 pub returns-in_default : goal.returns-in_default
 returns-in_default c =

@@ -8,7 +8,7 @@ use Rattle.table.proofs.clear_from.Goals as goal
 use Rattle.table.proofs.clear_from.Goals.{Then-row-has_room}
 
 -- what the test showed
-shown : (c : Then-row-has_room) → (BAD:c.before.before.before.before.args.row ≤ 1024) × (8192 ≤ length BAD:c.before.before.before.before.args.table.now)
+shown : (c : Then-row-has_room) → (c.args.row ≤ 1024) × (8192 ≤ length c.args.table.now)
 shown c = clears _ _ c.has_room.ensures c.if-row-has_room.true
 
 pub overflow_mul-from : goal.overflow_mul-from
@@ -31,7 +31,7 @@ zero-requires c = simp (length-take, length-drop) (omega (arith, (shown (goal.at
 
 pub returns-then-row-has_room : goal.returns-then-row-has_room
 returns-then-row-has_room c =
-    cleared_from_in BAD:t.before.before.before.before.args.row BAD:t.before.before.before.before.args.table.now c.has_room.ensures c.if-row-has_room.true c.zero.ensures
+    cleared_from_in c.args.row c.args.table.now c.has_room.ensures c.if-row-has_room.true c.zero.ensures
 
 pub returns-else-row-has_room : goal.returns-else-row-has_room
 returns-else-row-has_room c = cleared_from_out _ _ c.has_room.ensures c.if-row-has_room.false

@@ -9,5 +9,5 @@ pub returns : goal.returns
 unfolding digits
 returns c =
     let a = c.args in
-    let p = c.put_number.ensures.?place_output in
-    record { place = p.0 ∙ ap (place_after a.out.now a.at) (append-nil a.text.now); output = p.1 ∙ ap (with_text a.out.now a.at) (append-nil a.text.now) }
+    let p = c.put_number.ensures in
+    record { place = p.place ∙ ap (place_after a.out.now a.at) (append-nil a.text.now); output = p.output ∙ ap (with_text a.out.now a.at) (append-nil a.text.now) }

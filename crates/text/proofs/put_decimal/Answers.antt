@@ -8,9 +8,9 @@ use Rattle.text.proofs.put_decimal.Goals as goal
 pub returns : goal.returns
 returns c =
     let a = c.args in
-    let p = c.put_number.ensures.?place_output in
+    let p = c.put_number.ensures in
     let k = c.decimal_size.ensures.result in
-    let all = (
-      p.0 ∙ ap (λ n. place_after a.out.now a.at (a.label.now ++ digits 10 n a.n)) k,
-      p.1 ∙ ap (λ n. with_text a.out.now a.at (a.label.now ++ digits 10 n a.n)) k,
-    ) in record { place = all.0; output = all.1 }
+    record {
+      place = p.place ∙ ap (λ n. place_after a.out.now a.at (a.label.now ++ digits 10 n a.n)) k;
+      output = p.output ∙ ap (λ n. with_text a.out.now a.at (a.label.now ++ digits 10 n a.n)) k;
+    }

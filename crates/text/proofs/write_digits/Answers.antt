@@ -15,7 +15,7 @@ loop-left-init c =
     (omega arith, refl, stored_none a.out.now a.at a.base a.k a.n)
 
 pub glyph-requires : goal.glyph-requires
-glyph-requires c = omega (arith, mod-lt c.before.loop.rest {m = c.args.base} (omega arith))
+glyph-requires c = omega (arith, mod-lt c.loop-left.rest {m = c.args.base} (omega arith))
 
 pub loop-left-preserved : goal.loop-left-preserved
 loop-left-preserved c =

@@ -21,7 +21,7 @@ returns-in-1 c =
     let a = c.args in
     rw c.in-1.is
     (c.sole.ensures
-    ∙ ap (λ n. sole (leb n 1)) (c.value_at.ensures ∙ ap (λ (goal.at.returns-in-1 c).After-header_at-header. number_at (width_of c.code) (rest_at a.body.now a.at) 0) c.header_at-header.ensures))
+    ∙ ap (λ n. sole (leb n 1)) (c.value_at.ensures ∙ ap (λ h. number_at (width_of h.code) (rest_at a.body.now a.at) 0) c.header_at-header.ensures))
 
 pub returns-in-2 : goal.returns-in-2
 unfolding fault_of
@@ -34,19 +34,19 @@ pub returns-in-3 : goal.returns-in-3
 unfolding fault_of
 returns-in-3 c =
     let a = c.args in
-    rw c.in-3.is (c.whole-in-3.ensures ∙ ap (λ (goal.at.returns-in-3 c).After-header_at-header. whole (eqb c.length a.m.vertices)) c.header_at-header.ensures)
+    rw c.in-3.is (c.whole-in-3.ensures ∙ ap (λ h. whole (eqb h.length a.m.vertices)) c.header_at-header.ensures)
 
 pub returns-in-4 : goal.returns-in-4
 unfolding fault_of
 returns-in-4 c =
     let a = c.args in
-    rw c.in-4.is (c.whole-in-4.ensures ∙ ap (λ (goal.at.returns-in-4 c).After-header_at-header. whole (eqb c.length a.m.weights)) c.header_at-header.ensures)
+    rw c.in-4.is (c.whole-in-4.ensures ∙ ap (λ h. whole (eqb h.length a.m.weights)) c.header_at-header.ensures)
 
 pub returns-in-6 : goal.returns-in-6
 unfolding fault_of
 returns-in-6 c =
     let a = c.args in
-    rw c.in-6.is (c.whole-in-6.ensures ∙ ap (λ (goal.at.returns-in-6 c).After-header_at-header. whole (eqb c.length a.m.indices)) c.header_at-header.ensures)
+    rw c.in-6.is (c.whole-in-6.ensures ∙ ap (λ h. whole (eqb h.length a.m.indices)) c.header_at-header.ensures)
 
 pub returns-in-7 : goal.returns-in-7
 unfolding fault_of
@@ -54,7 +54,7 @@ returns-in-7 c =
     let a = c.args in
     rw c.in-7.is
     (c.whole-in-7.ensures ∙ ap (λ b. whole (eqb c.header_at-header.result.length a.m.keys && b)) c.takes.ensures
-    ∙ ap (λ (goal.at.returns-in-7 c).After-header_at-header. whole (eqb c.length a.m.keys && takes (types_from a.m.types) c.code)) c.header_at-header.ensures)
+    ∙ ap (λ h. whole (eqb h.length a.m.keys && takes (types_from a.m.types) h.code)) c.header_at-header.ensures)
 
 pub returns-in-8 : goal.returns-in-8
 unfolding fault_of

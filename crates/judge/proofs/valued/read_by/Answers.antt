@@ -12,8 +12,8 @@ returns-then-i-numbers c =
     let a = c.args in
     let at = get_or a.starts.now c.first_number-i.result 0 in
     let all = rw (← c.first_number-i.ensures, lt-ltb _ _ c.if-i-numbers.true) (
-      ap (λ (goal.at.returns-then-i-numbers c).After-header_at-header. c.length) c.header_at-header.ensures,
-      c.value_at.ensures ∙ ap (λ (goal.at.returns-then-i-numbers c).After-header_at-header. number_at (width_of c.code) (rest_at a.body.now at) 0) c.header_at-header.ensures,
+      ap (λ h. h.length) c.header_at-header.ensures,
+      c.value_at.ensures ∙ ap (λ h. number_at (width_of h.code) (rest_at a.body.now at) 0) c.header_at-header.ensures,
     ) in record { length = all.0; value = all.1 }
 
 pub returns : goal.returns

@@ -10,7 +10,6 @@ pub returns-then-numbers-i : goal.returns-then-numbers-i
 unfolding types_by_line letters
 returns-then-numbers-i c = rw (← c.first_number-i.ensures, le-ltb _ _ c.if-numbers-i.true)
 
--- GONE slice-aggregate-is-text: slice-aggregate-is-text c = search rules
 -- what the string at that place wants is what is sought
 wanted : (c : After-rest_at-string) →
     let a = c.args in
@@ -22,15 +21,14 @@ wanted c =
 pub returns-then-is_text : goal.returns-then-is_text
 unfolding letters
 returns-then-is_text c =
-    rw (wanted (goal.at.returns-then-is_text c).After-is_text-arg-1, ← c.is_text.ensures, c.if-is_text.true)
+    rw (wanted (goal.at.returns-then-is_text c).After-rest_at-string, ← c.is_text.ensures, c.if-is_text.true)
 
--- GONE slice-aggregate-is-text-2: slice-aggregate-is-text-2 c = search rules
 pub returns-then-is_text-2 : goal.returns-then-is_text-2
 unfolding letters
 returns-then-is_text-2 c =
-    rw (wanted (goal.at.returns-then-is_text-2 c).After-is_text-arg-2-1, ← c.is-text.ensures, c.if2.false, ← c.is_text-2.ensures, c.if-is_text-2.true)
+    rw (wanted (goal.at.returns-then-is_text-2 c).After-rest_at-string, ← c.is_text.ensures, c.if-is_text.false, ← c.is_text-2.ensures, c.if-is_text-2.true)
 
 pub returns : goal.returns
 unfolding letters
 returns c =
-    rw (wanted (goal.at.returns c).After-is_text-arg-2-1, ← c.is-text.ensures, c.if2.false, ← c.is_text-2.ensures, c.if-is_text-2.false)
+    rw (wanted (goal.at.returns c).After-rest_at-string, ← c.is_text.ensures, c.if-is_text.false, ← c.is_text-2.ensures, c.if-is_text-2.false)

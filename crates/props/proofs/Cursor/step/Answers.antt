@@ -4,7 +4,6 @@ use mathlib.Core.Path.{◌≡◌, sym, ap, subst, ◌∙◌}
 use mathlib.Core.Bool.{Bool}
 use Prim.Native.Nat.{◌+◌, ◌-◌, ◌≤◌}
 use lib.ListN.{length, take, drop}
-use borrow.Author.Tests.{not-true, not-false}
 use Rattle.le.proofs.Laws.{rest, rest_drop}
 use Rattle.names.specs.Names.{size_ok, bytes_ok}
 use Rattle.base.proofs.Answers.{told}
@@ -27,11 +26,11 @@ header c =
     c.header_of-header.ensures ∙ header_part a.body.now a.self.at (a.self.at + 8 - a.self.at) (omega arith)
 
 -- what was found of the name's size
-sized : (c : After-size_ok) {b : Bool} → c.Size-ok.result ≡ b → size_ok (size_at c.args.body.now c.args.self.at) ≡ b
-sized c e = ap (λ (h : PropertyHeader). size_ok h.size) (sym (header BADPLACE:c:After-header_of-header)) ∙ sym c.Size-ok.ensures ∙ e
+sized : (c : After-size_ok) {b : Bool} → c.size_ok.result ≡ b → size_ok (size_at c.args.body.now c.args.self.at) ≡ b
+sized c e = ap (λ (h : PropertyHeader). size_ok h.size) (sym (header (goal.at.After-size_ok c).After-header_of-header)) ∙ sym c.size_ok.ensures ∙ e
 
 size : (c : After-wide-size) → c.wide-size.result ≡ size_at c.args.body.now c.args.self.at
-size c = c.wide-size.ensures.0 ∙ ap (λ (h : PropertyHeader). h.size) (header BADPLACE:c:After-header_of-header)
+size c = c.wide-size.ensures.0 ∙ ap (λ (h : PropertyHeader). h.size) (header (goal.at.After-wide-size c).After-header_of-header)
 
 -- what was found of the name's bytes
 named : (c : After-bytes_ok) {b : Bool} → c.bytes_ok.result ≡ b → bytes_ok (name_at c.args.body.now c.args.self.at) ≡ b
@@ -39,7 +38,7 @@ unfolding name_at
 named c e =
     let a = c.args in
     let at = a.self.at in
-    let long : size_at a.body.now at ≡ at + 8 + c.wide-size.result - (at + 8) = omega (arith, size BADPLACE:c:After-wide-size) in
+    let long : size_at a.body.now at ≡ at + 8 + c.wide-size.result - (at + 8) = omega (arith, size (goal.at.After-bytes_ok c).After-wide-size) in
     ap (λ n. bytes_ok (take n (drop (at + 8) a.body.now))) long ∙ sym c.bytes_ok.ensures ∙ e
 
 -- the answer goes by the data
@@ -49,7 +48,7 @@ finish c =
     let a = c.args in
     let s = a.body.now in
     let at = a.self.at in
-    let here = header BADPLACE:c:After-header_of-header in
+    let here = header (goal.at.After-data_of c).After-header_of-header in
     let len = c.header_of-header.result.length in
     let extent : c.data_of.result ≡ data_of (element_size (code_at s at)) (length_at s at) (drop (at + 8 + c.wide-size.result) s)
     = c.data_of.ensures
@@ -57,8 +56,8 @@ finish c =
     ∙ ap (λ (z : Size). data_of z len (drop (at + 8 + c.wide-size.result) s)) c.element_size.ensures.result
     ∙ ap (λ (h : PropertyHeader). data_of (element_size h.code) h.length (drop (at + 8 + c.wide-size.result) s)) here in
     ap (past at (at + 8 + c.wide-size.result)) extent
-    ∙ ap (λ n. past at (at + 8 + n) (data_of (element_size (code_at s at)) (length_at s at) (drop (at + 8 + n) s))) (size BADPLACE:c:After-wide-size)
-    ∙ by_extent s at (omega arith) (sized BADPLACE:c:After-size_ok (not-false _ c.if-not-size_ok.false)) (omega (arith, size BADPLACE:c:After-wide-size)) (named BADPLACE:c:After-bytes_ok (not-false _ c.if-not-bytes_ok.false))
+    ∙ ap (λ n. past at (at + 8 + n) (data_of (element_size (code_at s at)) (length_at s at) (drop (at + 8 + n) s))) (size (goal.at.After-data_of c).After-wide-size)
+    ∙ by_extent s at (omega arith) (sized (goal.at.After-data_of c).After-size_ok c.if-not-size_ok.false) (omega (arith, size (goal.at.After-data_of c).After-wide-size)) (named (goal.at.After-data_of c).After-bytes_ok c.if-not-bytes_ok.false)
 
 -- the data takes what is there
 taken : (c : In-Takes) → c.in-Takes.k ≤ length (rest c.args.body.now (c.args.self.at + 8 + c.wide-size.result))
@@ -69,28 +68,28 @@ taken c =
     (data_within c.element_size.result c.header_of-header.result.length _)
 
 pub returns-then-n-at : goal.returns-then-n-at
-returns-then-n-at c = let a = let all = c.args in told step_numbers (header_out a.body.now a.self.at (omega arith)) in record { result = all.0; numbers = all.1 }
+returns-then-n-at c = let a = c.args in let all = told step_numbers (header_out a.body.now a.self.at (omega arith)) in record { result = all.0; numbers = all.1 }
 
 pub returns-then-n-at-lt8 : goal.returns-then-n-at-lt8
-returns-then-n-at-lt8 c = let a = let all = c.args in told step_numbers (header_out a.body.now a.self.at (omega arith)) in record { result = all.0; numbers = all.1 }
+returns-then-n-at-lt8 c = let a = c.args in let all = told step_numbers (header_out a.body.now a.self.at (omega arith)) in record { result = all.0; numbers = all.1 }
 
 pub returns-then-not-size_ok : goal.returns-then-not-size_ok
 returns-then-not-size_ok c =
     let a = c.args in
-    let all = told step_numbers (size_wrong a.body.now a.self.at (omega arith) (sized (goal.at.returns-then-not-size_ok c).After-size_ok (not-true _ c.if-not-size_ok.true))) in record { result = all.0; numbers = all.1 }
+    let all = told step_numbers (size_wrong a.body.now a.self.at (omega arith) (sized (goal.at.returns-then-not-size_ok c).After-size_ok c.if-not-size_ok.true)) in record { result = all.0; numbers = all.1 }
 
 pub returns-then-n-name : goal.returns-then-n-name
 returns-then-n-name c =
     let a = c.args in
     let all = told step_numbers
     (ap Refused (c.name_out.ensures ∙ ap (λ (h : PropertyHeader). name_out h.code) (header (goal.at.returns-then-n-name c).After-header_of-header))
-    ∙ name_unfit a.body.now a.self.at (omega arith) (sized (goal.at.returns-then-n-name c).After-size_ok (not-false _ c.if-not-size_ok.false)) (omega (arith, size (goal.at.returns-then-n-name c).After-wide-size))) in record { result = all.0; numbers = all.1 }
+    ∙ name_unfit a.body.now a.self.at (omega arith) (sized (goal.at.returns-then-n-name c).After-size_ok c.if-not-size_ok.false) (omega (arith, size (goal.at.returns-then-n-name c).After-wide-size))) in record { result = all.0; numbers = all.1 }
 
 pub returns-then-not-bytes_ok : goal.returns-then-not-bytes_ok
 returns-then-not-bytes_ok c =
     let a = c.args in
     let all = told step_numbers
-    (bytes_wrong a.body.now a.self.at (omega arith) (sized (goal.at.returns-then-not-bytes_ok c).After-size_ok (not-false _ c.if-not-size_ok.false)) (omega (arith, size (goal.at.returns-then-not-bytes_ok c).After-wide-size)) (named (goal.at.returns-then-not-bytes_ok c).After-bytes_ok (not-true _ c.if-not-bytes_ok.true))) in record { result = all.0; numbers = all.1 }
+    (bytes_wrong a.body.now a.self.at (omega arith) (sized (goal.at.returns-then-not-bytes_ok c).After-size_ok c.if-not-size_ok.false) (omega (arith, size (goal.at.returns-then-not-bytes_ok c).After-wide-size)) (named (goal.at.returns-then-not-bytes_ok c).After-bytes_ok c.if-not-bytes_ok.true)) in record { result = all.0; numbers = all.1 }
 
 pub overflow_add-end : goal.overflow_add-end
 overflow_add-end c = omega (arith, taken (goal.at.overflow_add-end c).In-Takes)

@@ -26,7 +26,7 @@ module _ (c : After-is_judged) where
 
 pub returns-then-is_judged : goal.returns-then-is_judged
 returns-then-is_judged c =
-    let l = (at-loop (goal.at.returns-then-is_judged c).After-is_judged).loop.invariant in
+    let l = c.loop-i.invariant in
     record {
       onward = l.0;
       within = l.1;
@@ -41,25 +41,25 @@ unknown_bytes-unknown-requires c = c.known-known.ensures
 
 pub overflow_add-unknown : goal.overflow_add-unknown
 overflow_add-unknown c =
-    omega (arith, (at-loop (goal.at.overflow_add-unknown c).After-is_judged).loop.invariant.4, (turn (goal.at.overflow_add-unknown c).After-is_judged).loop-test.true, (start (goal.at.overflow_add-unknown c).After-is_judged).requires.1, c.unknown_bytes-unknown.ensures.1)
+    omega (arith, c.loop-i.invariant.4, c.loop-i-test.true, c.requires.1, c.unknown_bytes-unknown.ensures.1)
 
 pub overflow_add-i : goal.overflow_add-i
-overflow_add-i c = let j = (goal.at.overflow_add-i c).After-is_judged in omega (arith, (turn j).loop-test.true, (start j).requires.1)
+overflow_add-i c = omega (arith, c.loop-i-test.true, c.requires.1)
 
 pub loop-i-smaller : goal.loop-i-smaller
-loop-i-smaller c = let j = (goal.at.loop-i-smaller c).After-is_judged in omega (arith, (turn j).loop-test.true)
+loop-i-smaller c = omega (arith, c.loop-i-test.true)
 
 pub loop-i-preserved : goal.loop-i-preserved
 loop-i-preserved c =
-    let a = (start (goal.at.loop-i-preserved c).After-is_judged).args in
-    let i = (at-loop (goal.at.loop-i-preserved c).After-is_judged).loop.i in
-    let l = (at-loop (goal.at.loop-i-preserved c).After-is_judged).loop.invariant in
-    let here = (turn (goal.at.loop-i-preserved c).After-is_judged).loop-test.true in
+    let a = c.args in
+    let i = c.loop-i.i in
+    let l = c.loop-i.invariant in
+    let here = c.loop-i-test.true in
     let x = c.unknown_bytes-unknown.ensures in (
       omega (arith, l.0),
       omega (arith, here),
       one_more (λ k. is_judged (row_at a.table.now k) ≡ false) a.from i l.2 (sym (is (goal.at.loop-i-preserved c).After-is_judged) ∙ c.if-is_judged.false),
-      unknown_passed a.table.now a.nodes i here (row (goal.at.loop-i-preserved c).After-is_judged).row_at.ensures (at-loop (goal.at.loop-i-preserved c).After-is_judged).loop.unknown x.0 ∙ l.3,
+      unknown_passed a.table.now a.nodes i here c.row_at-row.ensures c.loop-i.unknown x.0 ∙ l.3,
       omega (arith, l.4, x.1),
     )
 

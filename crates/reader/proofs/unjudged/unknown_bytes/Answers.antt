@@ -7,7 +7,7 @@ use Rattle.reader.proofs.Bare.{bytes_known, bytes_unknown}
 use Rattle.reader.proofs.unjudged.unknown_bytes.Goals as goal
 
 pub returns-then-known : goal.returns-then-known
-returns-then-known c = let s = (goal.at.returns-then-known c).Start in (bytes_known s.args.row (sym s.requires ∙ c.if-known.true), omega arith)
+returns-then-known c = (bytes_known c.args.row (sym c.requires ∙ c.if-known.true), omega arith)
 
 pub returns : goal.returns
 returns c =

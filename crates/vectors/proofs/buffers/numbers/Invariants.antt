@@ -1,0 +1,16 @@
+-- `vectors::buffers::numbers`: the numbers that are read, and those that are left to read, are the whole.
+use mathlib.Core.Path.{refl, ap, sym, ◌≡◌, ◌∙◌}
+use mathlib.Core.List.{◌∷◌, ◌++◌}
+use native.Mathlib.Omega.{arith}
+use lib.ListN.{length, take, length-set}
+use borrow.Author.Rules.{rules}
+use Prim.Native.Nat.{◌+◌, ◌-◌, ◌≤◌, ◌<◌}
+use Rattle.vectors.specs.Buffers.{numbers_in, numbers_read}
+use Rattle.vectors.proofs.Lent.{stored_more, stored_all, numbers_more, numbers_none}
+use Rattle.vectors.proofs.buffers.numbers.Given as goal
+
+abbrev pub invariant-loop-i : goal.invariant-loop-i
+invariant-loop-i l = (l.i ≤ length l.out) × (length l.out ≡ length l.initial.out) × (take l.i l.out ++ numbers_read l.bytes l.i (length l.initial.out - l.i) ≡ numbers_in l.bytes (length l.initial.out))
+
+abbrev pub decreases-loop-i : goal.decreases-loop-i
+decreases-loop-i l = length l.out - l.i

@@ -1,0 +1,24 @@
+-- `vectors::outputs::lent`: the answer's numbers, and the checksum of the output.
+use mathlib.Core.Path.{ap, ◌∙◌}
+use mathlib.Core.List.{[], ◌∷◌}
+use lib.ListN.{length}
+use borrow.Author.Rules.{rules}
+use Rattle.vectors.specs.Answers.{answered, extended}
+use Rattle.vectors.specs.Buffers.{filling, checksum}
+use Rattle.vectors.specs.Outputs.{put_numbers, put_output, into_output}
+use Rattle.vectors.proofs.Answers.{joined}
+use Rattle.vectors.proofs.outputs.lent.Goals as goal
+
+pub returns : goal.returns
+unfolding into_output
+returns c =
+    let at-start = BAD:at_fill_lem.before.before.before.before.before in
+    let a = at-start.args in
+    let filled = c.fill.ensures in
+    let e = c.put.ensures in
+    let out = filling a.f.seed (length a.out.now) in
+    joined (put_numbers a.f a.first.now a.second.now out) (checksum (put_output a.f a.first.now a.second.now out) ∷ [])
+    (c.push.ensures
+    ∙ ap (λ n. extended c.put.result (n ∷ []))
+    (c.checksum.ensures ∙ ap checksum (e.1 ∙ ap (put_output a.f a.first.now a.second.now) filled)))
+    (e.0 ∙ ap (λ o. answered (put_numbers a.f a.first.now a.second.now o)) filled)
