@@ -36,9 +36,7 @@ fn written(f: Frame, len: usize) -> Answer
 }
 
 fn lent(f: Frame, out: &mut [u8]) -> Answer
-    ensures* { do
-      let out = filling f.seed (length out.entry.now)
-      ⌜ result ≡ answered (checksum (stored f.function f.x f.y out) ∷ []) ⌝ }
+    ensures { let out = filling f.seed (length out.old) in result ≡ answered (checksum (stored f.function f.x f.y out) ∷ []) }
 {
     buffers::fill(out, f.seed);
     store(f.function, f.x as usize, f.y, out);

@@ -25,9 +25,7 @@ fn space() -> [u8; 98304] {
 }
 
 fn lent(f: Frame, out: &mut [u8], first: &[u8], second: &[u8]) -> Answer
-    ensures* { do
-      let out = filling f.seed (length out.entry.now)
-      ⌜ result ≡ answered (into_output f first.now second.now out) ⌝ }
+    ensures { let out = filling f.seed (length out.old) in result ≡ answered (into_output f first.now second.now out) }
 {
     buffers::fill(out, f.seed);
     let answer = put(f, out, first, second);

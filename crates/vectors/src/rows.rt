@@ -33,9 +33,7 @@ fn table(row: usize, numbers: &[u8], fields: &[u8]) -> Answer
 }
 
 fn lent(table: &mut [u32], row: usize, numbers: &[u8], fields: &[u8]) -> Answer
-    ensures* { do
-      let t = numbers_in numbers.now (length table.old)
-      ⌜ result ≡ answered (row_table t row (row_in fields.now)) ⌝ }
+    ensures { let t = numbers_in numbers.now (length table.old) in result ≡ answered (row_table t row (row_in fields.now)) }
 {
     buffers::numbers(table, numbers);
     let seen = seen(table, row);
@@ -95,9 +93,7 @@ fn query(bytes: &[u8], second: &[u8], n: usize, row: usize) -> Answer
 
 // The table's numbers come first in the block.
 fn lookup(table: &mut [u32], bytes: &[u8], row: usize, block: &[u8], name: &[u8]) -> Answer
-    ensures* { do
-      let t = numbers_in block.now (length table.old)
-      ⌜ result ≡ answered (lookup_numbers bytes.now t row name.now) ⌝ }
+    ensures { let t = numbers_in block.now (length table.old) in result ≡ answered (lookup_numbers bytes.now t row name.now) }
 {
     buffers::numbers(table, block);
     found(bytes, table, row, name)

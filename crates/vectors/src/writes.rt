@@ -23,12 +23,8 @@ pub fn run(f: Frame, out: &mut [u8], source: &[u8], numbers: &[u8]) -> Answer
 }
 
 fn lent(f: Frame, out: &mut [u8], source: &[u8], plan: &mut [u32], numbers: &[u8]) -> Answer
-    ensures* result { do
-      let plan = numbers_in numbers.now (length plan.entry.now)
-      ⌜ result ≡ answered (plan_numbers f source.now plan (length out.old)) ⌝ }
-    ensures* output { do
-      let plan = numbers_in numbers.now (length plan.entry.now)
-      ⌜ out.new ≡ plan_output f source.now plan out.old ⌝ }
+    ensures result { let plan = numbers_in numbers.now (length plan.old) in result ≡ answered (plan_numbers f source.now plan (length out.old)) }
+    ensures output { let plan = numbers_in numbers.now (length plan.old) in out.new ≡ plan_output f source.now plan out.old }
 {
     buffers::numbers(plan, numbers);
     planned(f, out, source, plan)
