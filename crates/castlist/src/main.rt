@@ -1,12 +1,14 @@
 // Prints the listing of the file on standard input.
 #![tactic(auto)]
 
-fn main() {
+use std::io::Read;
+
+fn main(rt: HostRuntime) {
     let mut input = [0u8; 32769];
     let mut out = [0u8; 98304];
     let n = io::read_full(0, &mut input);
     if n < 32769 {
-        if !ended() {
+        if !ended(&rt) {
             io::write_all(2, b"castlist: standard input cannot be read\n");
             return;
         }
@@ -18,7 +20,7 @@ fn main() {
 }
 
 // Whether standard input is at its end. After a read that failed, the next one fails too or finds more.
-fn ended() -> bool {
+fn ended(rt: &HostRuntime) -> bool {
     let mut more = [0u8; 1];
-    libc::read(0, &mut more) == 0
+    matches!(rt.reader().read(&mut more), Ok(0))
 }
