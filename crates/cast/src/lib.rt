@@ -1,4 +1,4 @@
-// The exported functions. include/cast.h declares them.
+// The exported functions, which the static library of cast_c exports to C. include/cast.h declares them.
 #![tactic(auto)]
 
 ghost use Rattle.std.specs.Prelude.{◌≡◌, ◌≤◌, length};
@@ -23,8 +23,7 @@ pub struct CastReading {
 }
 
 // Reads a file, and puts its rows into the table.
-#[unsafe(no_mangle)]
-pub extern "C" fn cast_read(file: &[u8], table: &mut [u32]) -> CastReading
+pub fn cast_read(file: &[u8], table: &mut [u32]) -> CastReading
     ensures result { result ≡ answer_of (reading_of file.now table.old) }
     ensures table { table.new ≡ table_after file.now table.old }
 {
@@ -74,8 +73,7 @@ pub struct CastFound {
 }
 
 // Finds a property of a row by its name: its data is bytes[start..end].
-#[unsafe(no_mangle)]
-pub extern "C" fn cast_lookup(bytes: &[u8], table: &[u32], row: usize, name: &[u8]) -> CastFound
+pub fn cast_lookup(bytes: &[u8], table: &[u32], row: usize, name: &[u8]) -> CastFound
     ensures result { result ≡ found_of (lookup_of bytes.now table.now row name.now) }
     ensures order { result.start ≤ result.end }
     ensures within { result.end ≤ length bytes.now }
@@ -116,8 +114,7 @@ fn numbers_of(written: emit::Written) -> CastWritten
 }
 
 // Writes a plan's rows, with their bodies out of the source, as a file.
-#[unsafe(no_mangle)]
-pub extern "C" fn cast_write(plan: &[u32], source: &[u8], flags: u32, out: &mut [u8]) -> CastWritten
+pub fn cast_write(plan: &[u32], source: &[u8], flags: u32, out: &mut [u8]) -> CastWritten
     ensures result { result ≡ written_as (written_of plan.now source.now flags (length out.old)) }
     ensures output { out.new ≡ output_after plan.now source.now flags out.old }
 {
@@ -125,8 +122,7 @@ pub extern "C" fn cast_write(plan: &[u32], source: &[u8], flags: u32, out: &mut 
 }
 
 // Writes a file without the node of a row, whose kind must be unknown, and puts the new file's rows into the table.
-#[unsafe(no_mangle)]
-pub extern "C" fn cast_trim(
+pub fn cast_trim(
     file: &[u8],
     row: usize,
     table: &mut [u32],
