@@ -7,7 +7,6 @@ use lib.ListN.{length, length-append}
 use Rattle.base.proofs.Tests.{by_test}
 use Rattle.kinds.specs.Kinds.{is_known}
 use Rattle.table.specs.declared.Row.{Row}
-use Rattle.body.specs.Body.{properties}
 use Rattle.faces.specs.Faces.{degenerate}
 use Rattle.judge.proofs.Counted.{degenerate_append, judged_counts}
 use Rattle.format.specs.Rows.{body_of, all_own_bytes}

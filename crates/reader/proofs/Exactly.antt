@@ -19,8 +19,8 @@ use Rattle.rules.specs.Table.{lines}
 use Rattle.rules.specs.Rules.{lines_of}
 use Rattle.faces.specs.Faces.{degenerate}
 use Rattle.judge.specs.Judge.{judged}
-use Rattle.format.specs.Forest.{Forest, end, known, unknown, nodes, count, file_of}
-use Rattle.format.specs.Rows.{rows, rows_of, body_of}
+use Rattle.format.specs.Forest.{Forest, end, known, unknown, nodes, file_of}
+use Rattle.format.specs.Rows.{rows_of, body_of}
 use Rattle.format.specs.Layout.{Property, WellFormed}
 use Rattle.base.proofs.Lists.{each_both, each_map}
 use Rattle.format.proofs.Rows.{own_bytes_add_up}

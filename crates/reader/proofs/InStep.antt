@@ -11,7 +11,6 @@ use Rattle.base.proofs.Tests.{by_test}
 use Rattle.kinds.specs.Kinds.{mesh, is_known}
 use Rattle.table.specs.declared.Row.{Row}
 use Rattle.table.specs.Table.{no_parent}
-use Rattle.body.specs.Body.{properties}
 use Rattle.format.specs.Forest.{Forest, end, known, unknown, nodes, encode, file_of}
 use Rattle.format.specs.Rows.{hash_of, rows, rows_of, body_of}
 use Rattle.format.specs.Layout.{Property, GoodBody, WellFormed, property_bytes}

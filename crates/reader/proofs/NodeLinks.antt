@@ -11,7 +11,6 @@ use borrow.Author.Tests.{eq-eqb, eqb-true}
 use Rattle.le.specs.Le.{val, number_at}
 use Rattle.base.proofs.Tests.{by_test}
 use Rattle.table.specs.declared.Row.{Row}
-use Rattle.body.specs.Body.{properties}
 use Rattle.rules.specs.Table.{link_to}
 use Rattle.rules.proofs.Laws.{rule_of}
 use Rattle.rules.specs.Rules.{lines_of}

@@ -25,7 +25,7 @@ use Rattle.table.proofs.Plans.{rows_are}
 use Rattle.table.proofs.Counts.{counted_none, counts_length, counts_tell}
 use Rattle.format.specs.declared.OwnBytes.{OwnBytes}
 use Rattle.format.specs.Forest.{Forest, nodes, encode, count, file_header, file_of}
-use Rattle.format.specs.Rows.{rows, rows_of, all_own_bytes}
+use Rattle.format.specs.Rows.{rows_of, all_own_bytes}
 use Rattle.base.specs.Lists.{Each}
 use Rattle.format.specs.Layout.{WellFormedFile, Placed}
 use Rattle.base.proofs.Lists.{each_both, each_map}

@@ -10,7 +10,7 @@ use lib.Seq.{sets-eq, take_all, take_at, drop-drop}
 use borrow.Rule.Slice.PartMut.{put_mid}
 use borrow.Author.Tests.{leb-true, le-leb}
 use Rattle.table.specs.declared.Row.{Row}
-use Rattle.table.specs.Table.{put_rows, flat, has_room, zeroed, cleared, cleared_from, filled}
+use Rattle.table.specs.Table.{put_rows, flat, has_room, zeroed, cleared_from, filled}
 use Rattle.base.proofs.Stores.{drop_sets}
 use Rattle.table.proofs.Rows.{put_rows_sets, length_put_rows, length_flat}
 use Rattle.table.proofs.Clearing.{has_room_fits, has_room_length}

@@ -5,7 +5,6 @@ use lib.Dec.{eqb}
 use lib.ListN.{length}
 use Rattle.body.specs.declared.Passed.{Passed}
 use Rattle.body.specs.Body.{exactly}
-use borrow.Author.Rules.{rules}
 use Rattle.body.proofs.exact.Goals as goal
 
 pub returns : goal.returns

@@ -1,11 +1,8 @@
 -- `body::first_named`: what the rest holds is what the whole holds.
 use native.Mathlib.Omega.{arith}
 use borrow.Author.Rules.{rules}
-use mathlib.Core.Path.{◌≡◌, sym, ap, ◌∙◌}
-use Prim.Native.Nat.{◌+◌, ◌-◌, ◌≤◌}
-use lib.ListN.{length, drop}
+use mathlib.Core.Path.{sym, ap, ◌∙◌}
 use Rattle.names.specs.Names.{same}
-use Rattle.body.specs.Body.{first_named}
 use Rattle.body.proofs.Laws.{found, other, nowhere}
 use Rattle.body.proofs.first_named.Goals as goal
 

@@ -1,12 +1,8 @@
 -- `body::first_named`: what the rest holds is what the whole holds.
-use native.Mathlib.Omega.{arith}
-use borrow.Author.Rules.{rules}
-use mathlib.Core.Path.{◌≡◌, sym, ap, ◌∙◌}
+use mathlib.Core.Path.{◌≡◌}
 use Prim.Native.Nat.{◌+◌, ◌-◌, ◌≤◌}
 use lib.ListN.{length, drop}
-use Rattle.names.specs.Names.{same}
 use Rattle.body.specs.Body.{first_named}
-use Rattle.body.proofs.Laws.{found, other, nowhere}
 use Rattle.body.proofs.first_named.Given as goal
 
 abbrev pub invariant-loop-i : goal.invariant-loop-i

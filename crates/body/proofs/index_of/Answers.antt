@@ -1,9 +1,8 @@
 -- `body::index_of`: the array so far, and the starts of the rest, are the index of the whole.
 use native.Mathlib.Omega.{arith}
-use borrow.Author.Rules.{rules}
-use mathlib.Core.Path.{◌≡◌, sym, ap, ◌∙◌}
-use Prim.Native.Nat.{◌+◌, ◌-◌}
-use Rattle.body.specs.Body.{pass, properties, index_of}
+use mathlib.Core.Path.{sym, ap, ◌∙◌}
+use Prim.Native.Nat.{◌-◌}
+use Rattle.body.specs.Body.{pass, index_of}
 use Rattle.body.proofs.Laws.{many, few, done, passed, refused, index_from, index_whole, index_after, index_stop}
 use Rattle.body.proofs.index_of.Goals as goal
 

@@ -1,10 +1,8 @@
 -- `body::index_of`: the array so far, and the starts of the rest, are the index of the whole.
-use native.Mathlib.Omega.{arith}
-use borrow.Author.Rules.{rules}
-use mathlib.Core.Path.{◌≡◌, sym, ap, ◌∙◌}
-use Prim.Native.Nat.{◌+◌, ◌-◌}
+use mathlib.Core.Path.{◌≡◌}
+use Prim.Native.Nat.{◌+◌}
 use Rattle.body.specs.Body.{pass, properties, index_of}
-use Rattle.body.proofs.Laws.{many, few, done, passed, refused, index_from, index_whole, index_after, index_stop}
+use Rattle.body.proofs.Laws.{index_from}
 use Rattle.body.proofs.index_of.Given as goal
 
 abbrev pub invariant-loop-left : goal.invariant-loop-left

@@ -1,6 +1,5 @@
 -- `body::pass`: none, too many, or a search for the empty name.
 use native.Mathlib.Omega.{arith}
-use borrow.Author.Rules.{rules}
 use mathlib.Core.Path.{◌≡◌, sym, ap, ◌∙◌}
 use Rattle.body.specs.Body.{properties, end_of}
 use Rattle.body.proofs.Laws.{many, few, done}

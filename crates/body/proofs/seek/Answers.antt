@@ -1,6 +1,5 @@
 -- `body::seek`: what the rest answers is what the whole answers.
 use mathlib.Core.Path.{◌≡◌, sym, ap, ◌∙◌}
-use mathlib.Core.List.{List}
 use Prim.Native.Nat.{◌≤◌}
 use lib.ListN.{length}
 use Rattle.base.proofs.Answers.{told}

@@ -1,16 +1,6 @@
 -- `body::seek`: what the rest answers is what the whole answers.
-use native.Mathlib.Omega.{arith}
-use borrow.Author.Rules.{rules}
-use mathlib.Core.Path.{◌≡◌, refl, sym, ap, ◌∙◌}
-use mathlib.Core.List.{List}
-use Prim.Native.Nat.{ℕ, ◌≤◌, ◌<◌}
-use lib.ListN.{length}
-use Rattle.base.proofs.Answers.{told}
-use Rattle.names.specs.Names.{same}
-use Rattle.props.specs.declared.Step.TheVariants.{Past}
-use Rattle.props.specs.Step.{step_at, name_at}
-use Rattle.body.specs.Body.{sought, sought_numbers}
-use Rattle.body.proofs.Search.{passed_within, passed_name, sought_done, sought_refused, sought_here, sought_later}
+use mathlib.Core.Path.{◌≡◌}
+use Rattle.body.specs.Body.{sought}
 use Rattle.body.proofs.seek.Given as goal
 
 abbrev pub invariant-loop-left : goal.invariant-loop-left

@@ -4,7 +4,6 @@ use native.Mathlib.Omega.{arith}
 use mathlib.Core.Path.{◌≡◌, ap, subst, ◌∙◌}
 use mathlib.Core.Bool.{Bool, true, false}
 use mathlib.Core.List.{List}
-use mathlib.Core.Logic.{⊎_elim}
 use lib.ListN.{length, length-replicate}
 use lib.Seq.{sets, length-sets}
 use Rattle.table.specs.declared.Row.{Row}
@@ -28,70 +27,84 @@ module _ (c : Joined-rows-lt-MOST_ROWS) where
   few = omega (arith, counted)
 
 pub measure-m-requires : goal.measure-m-requires
-measure-m-requires c = (few c.before, length-replicate {A = ℕ} 1024 0, zeros 1024)
+measure-m-requires c = (few (goal.at.measure-m-requires c).Joined-rows-lt-MOST_ROWS, length-replicate {A = ℕ} 1024 0, zeros 1024)
 
 -- at what was measured
 module _ (c : After-measure-m) where
   abbrev source : List ℕ
-  source = (start BADPLACE:c:Joined-rows-lt-MOST_ROWS).args.source.now
+  source = c.args.source.now
 
   abbrev rows : List Row
-  rows = rows_at (start BADPLACE:c:Joined-rows-lt-MOST_ROWS).args.plan.now 0 c.if-rows-lt-MOST_ROWS.n
+  rows = rows_at c.args.plan.now 0 c.if-rows-lt-MOST_ROWS.n
 
   abbrev flags : ℕ
-  flags = (start BADPLACE:c:Joined-rows-lt-MOST_ROWS).args.flags
+  flags = c.args.flags
 
   abbrev out : List ℕ
-  out = (start BADPLACE:c:Joined-rows-lt-MOST_ROWS).args.out.now
+  out = c.args.out.now
 
   measured : (b : Bool) → c.measure-m.result.over ≡ b
-      → MeasuredBy b c.measure-m.result source (start BADPLACE:c:Joined-rows-lt-MOST_ROWS).args.plan.now c.if-rows-lt-MOST_ROWS.n c.measure-m.new.1.1.1.0
+      → MeasuredBy b c.measure-m.result source c.args.plan.now c.if-rows-lt-MOST_ROWS.n c.measure-m.new.sizes
   measured b e =
       subst
-      (λ x. MeasuredBy x c.measure-m.result source (start BADPLACE:c:Joined-rows-lt-MOST_ROWS).args.plan.now c.if-rows-lt-MOST_ROWS.n c.measure-m.new.1.1.1.0)
+      (λ x. MeasuredBy x c.measure-m.result source c.args.plan.now c.if-rows-lt-MOST_ROWS.n c.measure-m.new.sizes)
       e
       c.measure-m.ensures
 
   answered : (w : Written) (last : List ℕ) → (w ≡ emission flags source rows (length out)) × (last ≡ output_of flags source rows out)
-      → (w ≡ emission flags source (rows_at (start BADPLACE:c:Joined-rows-lt-MOST_ROWS).args.plan.now 0 (min (start BADPLACE:c:Joined-rows-lt-MOST_ROWS).args.rows 1024)) (length out))
-      × (last ≡ output_of flags source (rows_at (start BADPLACE:c:Joined-rows-lt-MOST_ROWS).args.plan.now 0 (min (start BADPLACE:c:Joined-rows-lt-MOST_ROWS).args.rows 1024)) out)
+      → (w ≡ emission flags source (rows_at c.args.plan.now 0 (min c.args.rows 1024)) (length out))
+      × (last ≡ output_of flags source (rows_at c.args.plan.now 0 (min c.args.rows 1024)) out)
   answered w last p =
       subst
-      (λ k. (w ≡ emission flags source (rows_at (start BADPLACE:c:Joined-rows-lt-MOST_ROWS).args.plan.now 0 k) (length out))
-      × (last ≡ output_of flags source (rows_at (start BADPLACE:c:Joined-rows-lt-MOST_ROWS).args.plan.now 0 k) out))
-      (counted BADPLACE:c:Joined-rows-lt-MOST_ROWS)
+      (λ k. (w ≡ emission flags source (rows_at c.args.plan.now 0 k) (length out))
+      × (last ≡ output_of flags source (rows_at c.args.plan.now 0 k) out))
+      (counted (goal.at.After-measure-m c).Joined-rows-lt-MOST_ROWS)
       p
 
 pub returns-then-m : goal.returns-then-m
 returns-then-m c =
-    let x = too_long_lem (flags (goal.at.returns-then-m c).After-measure-m) (source (goal.at.returns-then-m c).After-measure-m) (rows (goal.at.returns-then-m c).After-measure-m) (out (goal.at.returns-then-m c).After-measure-m) (measured (goal.at.returns-then-m c).After-measure-m true c.if-m.true) in
-    let all = answered (goal.at.returns-then-m c).After-measure-m _ _ (c.refused_writing.ensures ∙ x.0, x.1) in record { result = all.0; output = all.1 }
+    let m = (goal.at.returns-then-m c).After-measure-m in
+    let x = too_long_lem (flags m) (source m) (rows m) (out m) (measured m true c.if-m.true) in
+    let a = answered m _ _ (c.refused_writing.ensures ∙ x.0, x.1) in
+    record { result = a.0; output = a.1 }
 
 pub returns-then-out-least : goal.returns-then-out-least
 returns-then-out-least c =
-    let d = measured (goal.at.returns-then-out-least c).After-measure-m false c.if-m.false in
-    let x = no_room_lem (flags (goal.at.returns-then-out-least c).After-measure-m) (source (goal.at.returns-then-out-least c).After-measure-m) (rows (goal.at.returns-then-out-least c).After-measure-m) (out (goal.at.returns-then-out-least c).After-measure-m) (omega (arith, d.0, d.1)) (omega (arith, d.0, c.if-out-least.true)) in
-    let all = answered (goal.at.returns-then-out-least c).After-measure-m _ _ (c.refused_writing-then-out-least.ensures ∙ x.0, x.1) in record { result = all.0; output = all.1 }
+    let m = (goal.at.returns-then-out-least c).After-measure-m in
+    let d = measured m false c.if-m.false in
+    let x = no_room_lem (flags m) (source m) (rows m) (out m) (omega (arith, d.0, d.1)) (omega (arith, d.0, c.if-out-least.true)) in
+    let a = answered m _ _ (c.refused_writing-then-out-least.ensures ∙ x.0, x.1) in
+    record { result = a.0; output = a.1 }
 
 -- where the header is put: there is room, and this is what was measured
 module _ (c : After-put_file_header) where
-  is : MeasuredBy false c.measure-m.result (source BADPLACE:c:After-measure-m) (start (joined BADPLACE:c:After-measure-m)).args.plan.now (joined BADPLACE:c:After-measure-m).if1.n
-      c.measure-m.last.1.1.1.0
-  is = measured BADPLACE:c:After-measure-m false c.if-m.left
+  abbrev at_measured : After-measure-m
+  at_measured = (goal.at.After-put_file_header c).After-measure-m
 
-  fits : 16 + length (nodes_bytes (source BADPLACE:c:After-measure-m) 0 (rows BADPLACE:c:After-measure-m)) ≤ length (out BADPLACE:c:After-measure-m)
-  fits = omega (arith, is.0, c.if-out-least.left)
+  is : MeasuredBy false c.measure-m.result (source at_measured) c.args.plan.now c.if-rows-lt-MOST_ROWS.n c.measure-m.new.sizes
+  is = measured at_measured false c.if-m.false
 
-  head : c.put_file_header.new.0 ≡ sets (out BADPLACE:c:After-measure-m) 0 (file_header (roots (rows BADPLACE:c:After-measure-m)) (flags BADPLACE:c:After-measure-m))
-  head = c.put_file_header.ensures ∙ ap (λ k. sets (out BADPLACE:c:After-measure-m) 0 (file_header k (flags BADPLACE:c:After-measure-m))) is.2
+  fits : 16 + length (nodes_bytes (source at_measured) 0 (rows at_measured)) ≤ length (out at_measured)
+  fits = omega (arith, is.0, c.if-out-least.false)
+
+  head : c.put_file_header.new.out ≡ sets (out at_measured) 0 (file_header (roots (rows at_measured)) (flags at_measured))
+  head = c.put_file_header.ensures ∙ ap (λ k. sets (out at_measured) 0 (file_header k (flags at_measured))) is.2
 
 pub put_nodes-requires : goal.put_nodes-requires
 put_nodes-requires c =
-    let m = measured-at (goal.at.put_nodes-requires c).After-put_file_header in
-    let same = ap length (head (goal.at.put_nodes-requires c).After-put_file_header) ∙ length-sets (out m) 0 (file_header (roots (rows m)) (flags m)) in
-    record { rows = few (joined m); length = search rules; sizes = (is (goal.at.put_nodes-requires c).After-put_file_header).3; room = omega (arith, fits (goal.at.put_nodes-requires c).After-put_file_header, same) }
+    let h = (goal.at.put_nodes-requires c).After-put_file_header in
+    let m = at_measured h in
+    let same = ap length (head h) ∙ length-sets (out m) 0 (file_header (roots (rows m)) (flags m)) in
+    record {
+      rows = few (goal.at.put_nodes-requires c).Joined-rows-lt-MOST_ROWS;
+      length = search rules;
+      sizes = (is h).3;
+      room = omega (arith, fits h, same);
+    }
 
 pub returns : goal.returns
 returns c =
-    let m = measured-at (goal.at.returns c).After-put_file_header in
-    let all = answered m _ _ (file_put (flags m) (source m) (rows m) (out m) (omega (arith, (is (goal.at.returns c).After-put_file_header).0, (is (goal.at.returns c).After-put_file_header).1)) (fits (goal.at.returns c).After-put_file_header) (head (goal.at.returns c).After-put_file_header) c.put_nodes.ensures (is (goal.at.returns c).After-put_file_header).0) in record { result = all.0; output = all.1 }
+    let h = (goal.at.returns c).After-put_file_header in
+    let m = at_measured h in
+    let a = answered m _ _ (file_put (flags m) (source m) (rows m) (out m) (omega (arith, (is h).0, (is h).1)) (fits h) (head h) c.put_nodes.ensures (is h).0) in
+    record { result = a.0; output = a.1 }

@@ -3,7 +3,6 @@ use Prim.Native.Nat.{◌+◌}
 use native.Mathlib.Omega.{arith}
 use mathlib.Core.Path.{ap}
 use lib.ListN.{length}
-use borrow.Author.Rules.{rules}
 use Rattle.format.proofs.Rows.{body_length}
 use Rattle.emit.proofs.own.Goals as goal
 
@@ -11,4 +10,4 @@ pub returns : goal.returns
 returns c =
     let b = c.body_of-body.ensures in
     let a = c.args in
-    (ap (λ z. 24 + length z) b, omega (arith, ap length b, body_length a.source.now a.row, c.well-formed.1.0))
+    (ap (λ z. 24 + length z) b, omega (arith, ap length b, body_length a.source.now a.row, c.well_formed.1.0))

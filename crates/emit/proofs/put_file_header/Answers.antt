@@ -1,5 +1,4 @@
 -- `emit::put_file_header`: its four numbers, one after the other.
-use borrow.Author.Rules.{rules}
 use Rattle.emit.proofs.Headers.{file_header_put}
 use Rattle.emit.proofs.put_file_header.Goals as goal
 

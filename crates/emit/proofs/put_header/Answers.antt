@@ -1,12 +1,11 @@
 -- `emit::put_header`: its six numbers, one after the other.
 use Prim.Native.Nat.{◌<◌}
 use native.Mathlib.Omega.{arith}
-use borrow.Author.Rules.{rules}
 use Rattle.emit.proofs.Headers.{header_put}
 use Rattle.emit.proofs.put_header.Goals as goal
 
 pub returns : goal.returns
 returns c =
-    let low : c.args.row.low < 4294967296 = omega (arith, c.well-formed.1.0) in
+    let low : c.args.row.low < 4294967296 = omega (arith, c.well_formed.1.0) in
     header_put c.args.out.now c.args.row c.args.size low c.put_u32.ensures c.put_u32-2.ensures c.put_u32-3.ensures
     c.put_u32-4.ensures c.put_u32-5.ensures c.put_u32-6.ensures

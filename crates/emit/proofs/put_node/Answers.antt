@@ -1,7 +1,6 @@
 -- `emit::put_node`: the header, and the body after it.
 use native.Mathlib.Omega.{arith}
 use Rattle.emit.proofs.Nodes.{part_put, node_put}
-use borrow.Author.Rules.{rules}
 use Rattle.emit.proofs.put_node.Goals as goal
 
 pub returns : goal.returns

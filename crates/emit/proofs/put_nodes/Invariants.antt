@@ -1,14 +1,11 @@
 -- `emit::put_nodes`: what is put, with the rest after it, is all nodes.
-use Prim.Native.Nat.{ℕ, ◌+◌, ◌-◌, ◌≤◌, ◌<◌}
-use native.Mathlib.Omega.{arith}
-use mathlib.Core.Path.{◌≡◌, refl, ap, sym, ◌∙◌}
-use mathlib.Core.List.{List}
+use Prim.Native.Nat.{◌+◌, ◌-◌, ◌≤◌}
+use mathlib.Core.Path.{◌≡◌}
 use lib.ListN.{length}
-use lib.Seq.{sets, length-sets}
-use borrow.Author.Rules.{rules}
+use lib.Seq.{sets}
 use Rattle.table.specs.Table.{rows_at}
 use Rattle.emit.specs.Emission.{nodes_bytes}
-use Rattle.emit.proofs.Nodes.{nodes_from, nodes_all, nodes_none, length_more, nodes_more}
+use Rattle.emit.proofs.Nodes.{nodes_from}
 use Rattle.emit.proofs.put_nodes.Given as goal
 
 abbrev pub invariant-loop-i : goal.invariant-loop-i

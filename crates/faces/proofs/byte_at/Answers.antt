@@ -1,6 +1,5 @@
 -- `faces::byte_at`: a byte is the number of width 1.
 use mathlib.Core.Path.{sym}
-use borrow.Author.Rules.{rules}
 use Rattle.le.proofs.Laws.{number_at_byte}
 use Rattle.faces.proofs.byte_at.Goals as goal
 

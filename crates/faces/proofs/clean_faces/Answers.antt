@@ -3,11 +3,8 @@ use Prim.Native.Nat.{ℕ, ◌+◌, ◌-◌, ◌*◌, ◌≤◌}
 use native.Mathlib.Nat.{add-mul, mul-le-mul}
 use native.Mathlib.Omega.{arith}
 use mathlib.Core.Path.{◌≡◌, ap}
-use mathlib.Core.Bool.{false}
 use lib.ListN.{length, drop, length-take, length-drop}
-use borrow.Author.Rules.{rules}
-use Rattle.faces.specs.Faces.{width_of, faces_in}
-use Rattle.faces.specs.Private.{any_outside}
+use Rattle.faces.specs.Faces.{width_of}
 use Rattle.faces.proofs.Blocks.{clean_none, clean_more}
 use Rattle.faces.proofs.clean_faces.Goals as goal
 use Rattle.faces.proofs.clean_faces.Goals.{In-loop-done}
@@ -30,7 +27,7 @@ module _ (t : In-loop-done) where
   fits =
       let n = t.args.n in
       let done = t.loop-done.done in
-      let few : done + 64 ≤ n = omega (arith, t.loop-done-test.taken, t.loop-done.inv.0) in
+      let few : done + 64 ≤ n = omega (arith, t.loop-done-test.true, t.loop-done.invariant.0) in
       let own : step ≤ step = omega arith in
       let most : (done + 64) * step ≤ n * step = mul-le-mul few own in
       omega (arith, most, add-mul done 64 step, ap (λ s. n * s) same, t.requires.1)
@@ -52,27 +49,29 @@ slice_bounds-tally_of-end c = omega (arith, fits (goal.at.slice_bounds-tally_of-
 
 pub tally_of-t-requires : goal.tally_of-t-requires
 tally_of-t-requires c =
-    let at = (l (goal.at.tally_of-t-requires c).In-loop-done).loop.done * step (goal.at.tally_of-t-requires c).In-loop-done in
-    (omega arith, omega (arith, same (goal.at.tally_of-t-requires c).In-loop-done, length-take (at + 64 * step (goal.at.tally_of-t-requires c).In-loop-done - at) (drop at (start (goal.at.tally_of-t-requires c).In-loop-done).args.block.now), length-drop at (start (goal.at.tally_of-t-requires c).In-loop-done).args.block.now, fits (goal.at.tally_of-t-requires c).In-loop-done))
+    let t = (goal.at.tally_of-t-requires c).In-loop-done in
+    let at = c.loop-done.done * step t in
+    (omega arith, omega (arith, same t, length-take (at + 64 * step t - at) (drop at c.args.block.now), length-drop at c.args.block.now, fits t))
 
 pub returns-then-t : goal.returns-then-t
-returns-then-t c = let o = let all = (l (goal.at.returns-then-t c).In-loop-done).loop.inv in (o.0, o.1) in record { within = all.0; clean = all.1 }
+returns-then-t c = let o = c.loop-done.invariant in record { within = o.0; clean = o.1 }
 
 pub overflow_add-done : goal.overflow_add-done
-overflow_add-done c = let t = (goal.at.overflow_add-done c).In-loop-done in omega (arith, t.loop-test.true, (l t).loop.invariant.0)
+overflow_add-done c = omega (arith, c.loop-done-test.true, c.loop-done.invariant.0)
 
 pub loop-done-smaller : goal.loop-done-smaller
-loop-done-smaller c = let t = (goal.at.loop-done-smaller c).In-loop-done in omega (arith, t.loop-test.true, (l t).loop.invariant.0)
+loop-done-smaller c = omega (arith, c.loop-done-test.true, c.loop-done.invariant.0)
 
 pub loop-done-preserved : goal.loop-done-preserved
 loop-done-preserved c =
-    let a = (start (goal.at.loop-done-preserved c).In-loop-done).args in
-    let done = (l (goal.at.loop-done-preserved c).In-loop-done).loop.done in
-    let at = done * step (goal.at.loop-done-preserved c).In-loop-done in (
-      omega (arith, c.loop-done-test.true, (l (goal.at.loop-done-preserved c).In-loop-done).loop.invariant.0),
-      clean_more (width_of a.code) a.vertices a.block.now done (at + 64 * step (goal.at.loop-done-preserved c).In-loop-done - at) at (ap (λ s. done * s) (same (goal.at.loop-done-preserved c).In-loop-done)) (omega (arith, same (goal.at.loop-done-preserved c).In-loop-done))
-          c.tally_of-t.ensures c.if-t.false (l (goal.at.loop-done-preserved c).In-loop-done).loop.invariant.1,
+    let t = (goal.at.loop-done-preserved c).In-loop-done in
+    let a = c.args in
+    let done = c.loop-done.done in
+    let at = done * step t in (
+      omega (arith, c.loop-done-test.true, c.loop-done.invariant.0),
+      clean_more (width_of a.code) a.vertices a.block.now done (at + 64 * step t - at) at (ap (λ s. done * s) (same t)) (omega (arith, same t))
+          c.tally_of-t.ensures c.if-t.false c.loop-done.invariant.1,
     )
 
 pub returns : goal.returns
-returns c = record { within = c.loop-done.invariant.0; clean = c.loop-done.invariant.1 }
+returns c = let o = c.loop-done.invariant in record { within = o.0; clean = o.1 }

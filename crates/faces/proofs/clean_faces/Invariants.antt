@@ -1,14 +1,9 @@
 -- `faces::clean_faces`: no value of the faces before is past the limit.
-use Prim.Native.Nat.{ℕ, ◌+◌, ◌-◌, ◌*◌, ◌≤◌}
-use native.Mathlib.Nat.{add-mul, mul-le-mul}
-use native.Mathlib.Omega.{arith}
-use mathlib.Core.Path.{◌≡◌, ap}
+use Prim.Native.Nat.{◌-◌, ◌≤◌}
+use mathlib.Core.Path.{◌≡◌}
 use mathlib.Core.Bool.{false}
-use lib.ListN.{length, drop, length-take, length-drop}
-use borrow.Author.Rules.{rules}
 use Rattle.faces.specs.Faces.{width_of, faces_in}
 use Rattle.faces.specs.Private.{any_outside}
-use Rattle.faces.proofs.Blocks.{clean_none, clean_more}
 use Rattle.faces.proofs.clean_faces.Given as goal
 
 abbrev pub invariant-loop-done : goal.invariant-loop-done

@@ -1,11 +1,8 @@
 -- `faces::each_h`: the faces passed are tallied.
-use Prim.Native.Nat.{◌+◌, ◌-◌, ◌*◌, ◌≤◌}
-use native.Mathlib.Omega.{arith}
+use Prim.Native.Nat.{◌-◌, ◌≤◌}
 use mathlib.Core.Path.{◌≡◌}
-use borrow.Author.Rules.{rules}
 use Rattle.faces.specs.Private.{tally_of}
 use Rattle.faces.specs.Faces.{faces_in}
-use Rattle.faces.proofs.Blocks.{tally_none, tally_step_lem, tally_ended, tally_few}
 use Rattle.faces.proofs.each_h.Given as goal
 
 abbrev pub invariant-loop-i : goal.invariant-loop-i

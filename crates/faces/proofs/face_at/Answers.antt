@@ -1,7 +1,6 @@
 -- `faces::face_at`: a width of at most four is read whole.
 use native.Mathlib.Omega.{arith}
 use Rattle.faces.proofs.Laws.{face_read}
-use borrow.Author.Rules.{rules}
 use Rattle.faces.proofs.face_at.Goals as goal
 
 pub returns : goal.returns

@@ -1,11 +1,9 @@
 -- `faces::group_b`: the values passed are tallied as if each were the first of a face.
-use Prim.Native.Nat.{◌+◌, ◌-◌, ◌*◌, ◌≤◌}
-use native.Mathlib.Omega.{arith}
-use mathlib.Core.Path.{◌≡◌, refl, ◌∙◌}
+use Prim.Native.Nat.{◌-◌, ◌≤◌}
+use mathlib.Core.Path.{◌≡◌}
 use mathlib.Core.Bool.{◌||◌}
 use lib.Dec.{leb}
-use borrow.Author.Rules.{rules}
-use Rattle.faces.proofs.Groups.{any_value, equal_firsts, values_none, firsts_none, values_step, firsts_step, group_ended}
+use Rattle.faces.proofs.Groups.{any_value, equal_firsts}
 use Rattle.faces.proofs.group_b.Given as goal
 
 abbrev pub invariant-loop-i : goal.invariant-loop-i

@@ -1,11 +1,8 @@
 -- `faces::group_h`: the values passed are tallied as if each were the first of a face.
-use Prim.Native.Nat.{◌+◌, ◌-◌, ◌*◌, ◌≤◌}
+use Prim.Native.Nat.{◌*◌}
 use native.Mathlib.Omega.{arith}
-use mathlib.Core.Path.{◌≡◌, refl, ◌∙◌}
-use mathlib.Core.Bool.{◌||◌}
-use lib.Dec.{leb}
-use borrow.Author.Rules.{rules}
-use Rattle.faces.proofs.Groups.{any_value, equal_firsts, values_none, firsts_none, values_step, firsts_step, group_ended}
+use mathlib.Core.Path.{◌∙◌}
+use Rattle.faces.proofs.Groups.{values_none, firsts_none, values_step, firsts_step, group_ended}
 use Rattle.faces.proofs.group_h.Goals as goal
 
 pub loop-i-init : goal.loop-i-init

@@ -3,7 +3,6 @@ use Prim.Native.Nat.{◌*◌, ◌≤◌}
 use native.Mathlib.Omega.{arith}
 use native.Mathlib.Nat.{mul-le-mul_left}
 use mathlib.Core.Path.{ap, ◌∙◌}
-use borrow.Author.Rules.{rules}
 use Rattle.base.proofs.Answers.{told}
 use Rattle.faces.specs.Faces.{width_of, faces_in, scan_numbers}
 use Rattle.faces.proofs.Laws.{scan_whole}

@@ -4,7 +4,6 @@ use native.Mathlib.Nat.{mul-le-mul}
 use native.Mathlib.Omega.{arith}
 use mathlib.Core.Path.{◌≡◌, ap, ◌∙◌}
 use lib.ListN.{length}
-use borrow.Author.Rules.{rules}
 use Rattle.le.proofs.Laws.{rest_drop}
 use Rattle.faces.specs.Faces.{width_of, faces_in}
 use Rattle.faces.specs.Private.{scan_from}
@@ -13,7 +12,7 @@ use Rattle.faces.proofs.scan_bad.Goals as goal
 use Rattle.faces.proofs.scan_bad.Goals.{After-width_of}
 
 pub clean_faces-clean-requires : goal.clean_faces-clean-requires
-clean_faces-clean-requires c = let p = c.requires.0 in (p.0, p.1)
+clean_faces-clean-requires c = let p = c.requires.block in (p.0, p.1)
 
 -- the clean faces lie in the block
 module _ (w : After-width_of) where
@@ -32,7 +31,7 @@ module _ (w : After-width_of) where
       let step = 3 * w.width_of.result in
       let own : step ≤ step = omega arith in
       let most : clean * step ≤ n * step = mul-le-mul w.clean_faces-clean.ensures.within own in
-      omega (arith, most, ap (λ k. n * (3 * k)) w.width_of.ensures.result, w.requires.0.1)
+      omega (arith, most, ap (λ k. n * (3 * k)) w.width_of.ensures.result, w.requires.block.1)
 
 pub overflow_mul-at-2 : goal.overflow_mul-at-2
 overflow_mul-at-2 c = omega (arith, within (goal.at.overflow_mul-at-2 c).After-width_of)
@@ -50,15 +49,16 @@ pub overflow_sub-n : goal.overflow_sub-n
 overflow_sub-n c = c.clean_faces-clean.ensures.within
 
 pub overflow_add-start : goal.overflow_add-start
-overflow_add-start c = let w = (goal.at.overflow_add-start c).After-width_of in omega (arith, w.before.clean-faces.ensures.0, (start w).requires.0)
+overflow_add-start c = omega (arith, c.clean_faces-clean.ensures.within, c.requires.block)
 
 pub scan_each-requires : goal.scan_each-requires
-scan_each-requires c = let w = (goal.at.scan_each-requires c).After-width_of in omega (arith, w.before.clean-faces.ensures.0, (start w).requires.0)
+scan_each-requires c = omega (arith, c.clean_faces-clean.ensures.within, c.requires.block)
 
 pub returns : goal.returns
 returns c =
-    let a = (start (goal.at.returns c).After-width_of).args in
+    let w = (goal.at.returns c).After-width_of in
+    let a = c.args in
     let bs = a.block.now in
     c.scan_each.ensures
-    ∙ ap (λ l. scan_from a.vertices (a.start + 3 * clean (goal.at.returns c).After-width_of) (faces_in (width_of a.code) (a.n - clean (goal.at.returns c).After-width_of) l)) (rest_drop bs (at (goal.at.returns c).After-width_of))
-    ∙ bad_after (width_of a.code) a.vertices bs (clean (goal.at.returns c).After-width_of) a.n a.start (at (goal.at.returns c).After-width_of) c.clean_faces-clean.ensures.within (same (goal.at.returns c).After-width_of) c.clean_faces-clean.ensures.clean (start (goal.at.returns c).After-width_of).requires.1
+    ∙ ap (λ l. scan_from a.vertices (a.start + 3 * clean w) (faces_in (width_of a.code) (a.n - clean w) l)) (rest_drop bs (at w))
+    ∙ bad_after (width_of a.code) a.vertices bs (clean w) a.n a.start (at w) c.clean_faces-clean.ensures.within (same w) c.clean_faces-clean.ensures.clean c.requires.bad

@@ -2,14 +2,13 @@
 use Prim.Native.Nat.{◌+◌, ◌-◌, ◌*◌, ◌≤◌}
 use native.Mathlib.Nat.{zero-add}
 use native.Mathlib.Omega.{arith}
-use mathlib.Core.Path.{◌≡◌, refl, sym, ap, ◌∙◌}
+use mathlib.Core.Path.{refl, sym, ap, ◌∙◌}
 use mathlib.Core.List.{List}
 use lib.ListN.{length, take, drop}
-use borrow.Author.Rules.{rules}
 use Rattle.faces.specs.declared.Face.{Face}
 use Rattle.faces.specs.declared.Values.{Values}
 use Rattle.faces.specs.declared.Tally.{Tally}
-use Rattle.faces.specs.Faces.{width_of, faces_in, below, degenerate as degenerates, counted_by}
+use Rattle.faces.specs.Faces.{width_of, faces_in, counted_by}
 use Rattle.faces.proofs.Laws.{ended, length_faces_in, below_none, count_none, scan_below, scan_whole}
 use Rattle.faces.proofs.Blocks.{tally_few, block_fits, block_long, below_block, past_block, counted_block}
 use Rattle.faces.proofs.scan_blocks.Goals as goal
@@ -21,10 +20,10 @@ loop-left-init c = (omega arith, omega arith, omega arith, refl, zero-add _)
 -- the block, and the bytes after it, are there
 module _ (b : After-block_of-n) where
   fits : let a = b.args in
-      b.loop-left.at + b.Block-of.result * (3 * b.width_of.result) + (b.loop-left.left - b.Block-of.result) * (3 * width_of a.code) ≤ length a.bytes.now
+      b.loop-left.at + b.block_of-n.result * (3 * b.width_of.result) + (b.loop-left.left - b.block_of-n.result) * (3 * width_of a.code) ≤ length a.bytes.now
   fits =
       let a = b.args in
-      block_fits a.vertices a.bytes.now b.loop-left.at b.Block-of.result b.loop-left.left (omega arith) b.width_of.ensures.result b.loop-left.invariant.2
+      block_fits a.vertices a.bytes.now b.loop-left.at b.block_of-n.result b.loop-left.left (omega arith) b.width_of.ensures.result b.loop-left.invariant.2
 
 pub overflow_mul-end : goal.overflow_mul-end
 overflow_mul-end c = omega (arith, fits (goal.at.overflow_mul-end c).After-block_of-n)
@@ -42,7 +41,7 @@ pub tally_of-t-requires : goal.tally_of-t-requires
 tally_of-t-requires c =
     let a = c.args in (
       omega arith,
-      block_long a.vertices a.bytes.now c.loop-left.at c.Block-of.result c.loop-left.left (omega arith) c.width_of.ensures.result c.loop-left.invariant.2,
+      block_long a.vertices a.bytes.now c.loop-left.at c.block_of-n.result c.loop-left.left (omega arith) c.width_of.ensures.result c.loop-left.invariant.2,
     )
 
 -- what the tally of the block tells
@@ -50,29 +49,29 @@ module _ (m : After-tally_of-t) where
   abbrev all : List Face
   all = let a = m.args in faces_in (width_of a.code) a.count a.bytes.now
 
-  few : m.tally_of-t.result.degenerate ≤ m.Block-of.result
+  few : m.tally_of-t.result.degenerate ≤ m.block_of-n.result
   few =
       let a = m.args in
-      tally_few (width_of a.code) a.vertices m.Block-of.result
-      (take (m.loop-left.at + m.Block-of.result * (3 * m.width_of.result) - m.loop-left.at) (drop m.loop-left.at a.bytes.now)) m.tally_of-t.ensures
+      tally_few (width_of a.code) a.vertices m.block_of-n.result
+      (take (m.loop-left.at + m.block_of-n.result * (3 * m.width_of.result) - m.loop-left.at) (drop m.loop-left.at a.bytes.now)) m.tally_of-t.ensures
 
 pub scan_bad-requires : goal.scan_bad-requires
 scan_bad-requires c =
     let a = c.args in
-    let all = (
-      (
-        omega (arith, c.Block-of.ensures),
-        block_long a.vertices a.bytes.now c.loop-left.at c.Block-of.result c.loop-left.left (omega arith) c.width_of.ensures.result c.loop-left.invariant.2,
+    record {
+      block = (
+        omega (arith, c.block_of-n.ensures),
+        block_long a.vertices a.bytes.now c.loop-left.at c.block_of-n.result c.loop-left.left (omega arith) c.width_of.ensures.result c.loop-left.invariant.2,
         omega (arith, c.loop-left.invariant.0),
-      ),
-      sym (ap (λ (t : Tally). t.outside) c.tally_of-t.ensures) ∙ c.if-t.true,
-    ) in record { block = all.0; bad = all.1 }
+      );
+      bad = sym (ap (λ (t : Tally). t.outside) c.tally_of-t.ensures) ∙ c.if-t.true;
+    }
 
 pub returns-then-t : goal.returns-then-t
 returns-then-t c =
     let a = c.args in
     c.scan_bad.ensures
-    ∙ past_block a.vertices a.bytes.now c.loop-left.at c.Block-of.result c.loop-left.left (omega arith) c.width_of.ensures.result c.tally_of-t.ensures
+    ∙ past_block a.vertices a.bytes.now c.loop-left.at c.block_of-n.result c.loop-left.left (omega arith) c.width_of.ensures.result c.tally_of-t.ensures
     c.loop-left.done c.if-t.true (all (goal.at.returns-then-t c).After-tally_of-t)
     ∙ ap {A = Values} (λ r. counted_by r (all (goal.at.returns-then-t c).After-tally_of-t)) c.loop-left.invariant.3
     ∙ scan_whole a.vertices (all (goal.at.returns-then-t c).After-tally_of-t)
@@ -96,9 +95,9 @@ loop-left-preserved c =
       omega arith,
       omega (arith, few (goal.at.loop-left-preserved c).After-tally_of-t),
       fits (goal.at.loop-left-preserved c).After-block_of-n,
-      below_block a.vertices a.bytes.now c.loop-left.at c.Block-of.result c.loop-left.left (omega arith) same c.tally_of-t.ensures c.loop-left.done c.if-t.false
+      below_block a.vertices a.bytes.now c.loop-left.at c.block_of-n.result c.loop-left.left (omega arith) same c.tally_of-t.ensures c.loop-left.done c.if-t.false
           ∙ c.loop-left.invariant.3,
-      counted_block a.vertices a.bytes.now c.loop-left.at c.Block-of.result c.loop-left.left (omega arith) same c.tally_of-t.ensures c.loop-left.done c.loop-left.degenerate
+      counted_block a.vertices a.bytes.now c.loop-left.at c.block_of-n.result c.loop-left.left (omega arith) same c.tally_of-t.ensures c.loop-left.done c.loop-left.degenerate
           ∙ c.loop-left.invariant.4,
     )
 

@@ -1,17 +1,8 @@
 -- `faces::scan_blocks`: what was counted and what the faces from the place on say is what all say.
-use Prim.Native.Nat.{◌+◌, ◌-◌, ◌*◌, ◌≤◌}
-use native.Mathlib.Nat.{zero-add}
-use native.Mathlib.Omega.{arith}
-use mathlib.Core.Path.{◌≡◌, refl, sym, ap, ◌∙◌}
-use mathlib.Core.List.{List}
-use lib.ListN.{length, take, drop}
-use borrow.Author.Rules.{rules}
-use Rattle.faces.specs.declared.Face.{Face}
-use Rattle.faces.specs.declared.Values.{Values}
-use Rattle.faces.specs.declared.Tally.{Tally}
-use Rattle.faces.specs.Faces.{width_of, faces_in, below, degenerate as degenerates, counted_by}
-use Rattle.faces.proofs.Laws.{ended, length_faces_in, below_none, count_none, scan_below, scan_whole}
-use Rattle.faces.proofs.Blocks.{tally_few, block_fits, block_long, below_block, past_block, counted_block}
+use Prim.Native.Nat.{◌+◌, ◌*◌, ◌≤◌}
+use mathlib.Core.Path.{◌≡◌}
+use lib.ListN.{length, drop}
+use Rattle.faces.specs.Faces.{width_of, faces_in, below, degenerate as degenerates}
 use Rattle.faces.proofs.scan_blocks.Given as goal
 
 abbrev pub invariant-loop-left : goal.invariant-loop-left

@@ -1,18 +1,8 @@
 -- `faces::scan_each`: what was counted and what the faces from the place on say is what all say.
-use Prim.Native.Nat.{ℕ, ◌+◌, ◌-◌, ◌*◌, ◌≤◌}
-use native.Mathlib.Nat.{zero-add}
-use native.Mathlib.Omega.{arith}
-use mathlib.Core.Path.{◌≡◌, sym, ap, ◌∙◌}
-use mathlib.Core.List.{List, [], ◌∷◌}
-use mathlib.Core.Logic.{⊎_elim}
+use Prim.Native.Nat.{◌+◌, ◌*◌, ◌≤◌}
+use mathlib.Core.Path.{◌≡◌}
 use lib.ListN.{drop}
-use borrow.Author.Rules.{rules}
-use Rattle.faces.specs.declared.Face.{Face}
-use Rattle.faces.specs.declared.Values.{Values}
-use Rattle.faces.specs.declared.Values.TheVariants.{NotBelow}
-use Rattle.faces.specs.Private.{scan_from}
-use Rattle.faces.specs.Faces.{width_of, faces_in, below, degenerate as degenerates, counted_by}
-use Rattle.faces.proofs.Laws.{first, ended, length_faces_in, past_first, past_second, past_third, passed, below_none, counted, not_counted, count_none, scan_past, scan_below}
+use Rattle.faces.specs.Faces.{width_of, faces_in, below, degenerate as degenerates}
 use Rattle.faces.proofs.scan_each.Given as goal
 
 abbrev pub invariant-loop-left : goal.invariant-loop-left

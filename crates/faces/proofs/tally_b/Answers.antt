@@ -1,10 +1,7 @@
 -- `faces::tally_b`: the faces passed are tallied, and the last ones.
-use Prim.Native.Nat.{◌+◌, ◌-◌, ◌*◌, ◌≤◌}
+use Prim.Native.Nat.{◌+◌, ◌-◌, ◌*◌}
 use native.Mathlib.Omega.{arith}
-use mathlib.Core.Path.{◌≡◌}
 use lib.ListN.{take, drop, length-take, length-drop}
-use Rattle.faces.specs.Private.{tally_of}
-use Rattle.faces.specs.Faces.{faces_in}
 use Rattle.faces.proofs.Blocks.{tally_none, tally_ended, tally_few}
 use Rattle.faces.proofs.Groups.{tally_both}
 use Rattle.faces.proofs.tally_b.Goals as goal

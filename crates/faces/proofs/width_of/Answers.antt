@@ -11,4 +11,6 @@ pub returns-in-104 : goal.returns-in-104
 returns-in-104 c = record { result = sym (width_short c.args.code c.in-104.is); bound = omega arith }
 
 pub returns-in_default : goal.returns-in_default
-returns-in_default c = let r = let all = c.in_default.in_default-own.rest in (sym (width_other c.args.code r.0.1 r.1), omega arith) in record { result = all.0; bound = all.1 }
+returns-in_default c =
+    let r = c.in_default.in_default-own.rest in
+    record { result = sym (width_other c.args.code r.0.1 r.1); bound = omega arith }

@@ -1,5 +1,4 @@
 -- `faces::with_face`: the face's own tests, put beside those of the others.
-use borrow.Author.Rules.{rules}
 use Rattle.faces.proofs.with_face.Goals as goal
 
 pub returns : goal.returns

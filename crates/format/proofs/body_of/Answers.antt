@@ -6,7 +6,6 @@ use mathlib.Core.List.{List, []}
 use lib.ListN.{length, take, drop, length-drop, drop_of_length-le}
 use lib.Seq.{take_all, take-nil, drop-length}
 use Rattle.le.proofs.Laws.{rest, rest_drop}
-use borrow.Author.Rules.{rules}
 use Rattle.format.proofs.body_of.Goals as goal
 
 -- ---- the part of a row beyond the end, with its end before its start, and with its end beyond the end

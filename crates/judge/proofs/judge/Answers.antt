@@ -1,5 +1,5 @@
 -- `judge::judge`: the properties that are found by their headers, at most 64.
-use Rattle.std.proofs.Common.{◌≡◌, ◌≤◌, ap, ◌∙◌, ⊎_elim, arith}
+use Rattle.std.proofs.Common.{◌≡◌, ◌≤◌, ap, ◌∙◌, arith}
 use Rattle.body.specs.Body.{skim, skimmed}
 use Rattle.body.proofs.Skimmed.{skim_none, skim_all}
 use Rattle.judge.specs.ByLine.{judged_by_line}
@@ -16,17 +16,25 @@ module _ (c : Joined-count-gt-MOST_PROPERTIES) where
   taken =
       let s = c.args.body.now in
       let k = c.args.count in
-      elim c.if-count-gt-MOST_PROPERTIES.branch [ then-count-gt-MOST_PROPERTIES w ↦ skim_none s k c.if-count-gt-MOST_PROPERTIES.n w.if-count-gt-MOST_PROPERTIES.true w.1 | else-count-gt-MOST_PROPERTIES w ↦ skim_all s k c.if-count-gt-MOST_PROPERTIES.n w.if-count-gt-MOST_PROPERTIES.false w.1 ]
+      elim c.if-count-gt-MOST_PROPERTIES.branch [
+        then-count-gt-MOST_PROPERTIES w ↦ skim_none s k c.if-count-gt-MOST_PROPERTIES.n w.if-count-gt-MOST_PROPERTIES.true w.n-is
+        | else-count-gt-MOST_PROPERTIES w ↦ skim_all s k c.if-count-gt-MOST_PROPERTIES.n w.if-count-gt-MOST_PROPERTIES.false w.n-is
+      ]
 
 pub judge_first-requires : goal.judge_first-requires
 judge_first-requires c = (few (goal.at.judge_first-requires c).Joined-count-gt-MOST_PROPERTIES, omega arith, omega arith, omega arith, omega arith)
 
 pub returns : goal.returns
 returns c =
-    let a = (start (goal.at.returns c).Joined-count-gt-MOST_PROPERTIES).args in
-    let x = c.judge_first.ensures.?result_noted_bounds in
-    let noted = noted_for (taken (goal.at.returns c).Joined-count-gt-MOST_PROPERTIES) x.1.0 in
-    let all = (
-      x.0 ∙ ap (λ l. judged_by_line a.kind a.wanted a.lines.now a.body.now l a.bones) (taken (goal.at.returns c).Joined-count-gt-MOST_PROPERTIES),
-      (noted.starts, (noted.numbers, (noted.keys, (noted.marks, x.1.1)))),
-    ) in record { result = all.0; starts = all.1.0; numbers = all.1.1.0; keys = all.1.1.1.0; marks = all.1.1.1.1.0; bounds = all.1.1.1.1.1 }
+    let a = c.args in
+    let skims = taken (goal.at.returns c).Joined-count-gt-MOST_PROPERTIES in
+    let x = c.judge_first.ensures in
+    let noted = noted_for skims x.noted in
+    record {
+      result = x.result ∙ ap (λ ps. judged_by_line a.kind a.wanted a.lines.now a.body.now ps a.bones) skims;
+      starts = noted.starts;
+      numbers = noted.numbers;
+      keys = noted.keys;
+      marks = noted.marks;
+      bounds = x.bounds;
+    }

@@ -1,5 +1,5 @@
 -- `judge::judge_first`: the first of 13, 14 and 15; what was noted are the places and the lines of the properties.
-use Rattle.std.proofs.Common.{◌≡◌, ℕ, ◌≤◌, List, map, length, get_or, take, sym, ap, ◌∙◌, subst, arith}
+use Rattle.std.proofs.Common.{◌≡◌, ℕ, ◌≤◌, Bool, List, map, length, get_or, take, sym, ap, ◌∙◌, subst, arith}
 use lib.ListN.{length-map}
 use Rattle.body.specs.Body.{skim}
 use Rattle.body.proofs.Skimmed.{length_skim, skim_within}
@@ -11,7 +11,7 @@ use Rattle.judge.specs.Private.{valued_to}
 use Rattle.judge.proofs.Typing.{starts_noted, numbers_noted}
 use Rattle.judge.proofs.Values.{mistyped, lacking, by_values_lem, refused_bounded}
 use Rattle.judge.proofs.judge_first.Goals as goal
-use Rattle.judge.proofs.judge_first.Goals.{After-lacks, After-typed-t}
+use Rattle.judge.proofs.judge_first.Goals.{After-typed-t}
 
 pub typed-t-requires : goal.typed-t-requires
 typed-t-requires c = let p = c.requires in (p.0, omega (arith, p.1), omega (arith, p.2), omega (arith, p.3), omega (arith, p.4))
@@ -49,6 +49,13 @@ module _ (t : After-typed-t) where
     numbers_many : count ≡ length (take count t.typed-t.new.numbers)
     numbers_many = sym (ap length numbers_are ∙ length-map all (line_number lines body) ∙ length_skim body count 0)
 
+    -- 14, of all properties
+    lacked : {r : Bool} → r ≡ lacks_by_line t.args.kind t.args.wanted t.typed-t.result.required (take count t.typed-t.new.numbers)
+        → lacks_by_line t.args.kind t.args.wanted (required_among rows numbers) numbers ≡ r
+    lacked e =
+        sym (e ∙ ap (λ k. lacks_by_line t.args.kind t.args.wanted k (take count t.typed-t.new.numbers)) (t.typed-t.ensures.required z)
+        ∙ ap (lacks_by_line t.args.kind t.args.wanted (required_among rows numbers)) numbers_are)
+
 pub returns-then-v-ne0 : goal.returns-then-v-ne0
 returns-then-v-ne0 c =
     let t = (goal.at.returns-then-v-ne0 c).After-typed-t in
@@ -62,18 +69,13 @@ returns-then-v-ne0 c =
 pub slice_bounds-lacks-end-2 : goal.slice_bounds-lacks-end-2
 slice_bounds-lacks-end-2 c = numbers_many (goal.at.slice_bounds-lacks-end-2 c).After-typed-t c.if-v-ne0.false
 
--- 14, of all properties
-module _ (t : After-typed-t) (l : After-lacks) where
-  lacked : lacks_by_line l.args.kind l.args.wanted (required_among (rows t) (numbers t)) (numbers t) ≡ l.lacks.result
-  lacked = ?
-
 pub returns-then-lacks : goal.returns-then-lacks
 returns-then-lacks c =
     let t = (goal.at.returns-then-lacks c).After-typed-t in
     let a = c.args in
     record {
       result = c.refused_node-then-lacks.ensures
-          ∙ lacking a.kind a.wanted (rows t) (body t) (all t) a.bones c.typed-t.ensures.result c.if-v-ne0.false (lacked t (goal.at.returns-then-lacks c).After-lacks ∙ c.if-lacks.true);
+          ∙ lacking a.kind a.wanted (rows t) (body t) (all t) a.bones c.typed-t.ensures.result c.if-v-ne0.false (lacked t c.if-v-ne0.false c.lacks.ensures ∙ c.if-lacks.true);
       noted = c.typed-t.ensures.noted;
       bounds = refused_bounded 14 0 (length (body t)) (omega arith) c.refused_node-then-lacks.ensures;
     }
@@ -104,7 +106,7 @@ returns c =
       result = c.valued.ensures.result
           ∙ ap (λ ns. valued_to (lines t) (body t) (beside_by_line a.kind (body t) first ns a.bones) first) (numbers_are t z)
           ∙ ap (λ starts. valued_to (lines t) (body t) (beside_by_line a.kind (body t) starts (numbers t) a.bones) starts) (starts_are t z)
-          ∙ by_values_lem a.kind a.wanted (rows t) (body t) (all t) a.bones c.typed-t.ensures.result z (lacked t (goal.at.returns c).After-lacks ∙ c.if-lacks.false);
+          ∙ by_values_lem a.kind a.wanted (rows t) (body t) (all t) a.bones c.typed-t.ensures.result z (lacked t z c.lacks.ensures ∙ c.if-lacks.false);
       noted = c.typed-t.ensures.noted;
       bounds = c.valued.ensures.bounds;
     }

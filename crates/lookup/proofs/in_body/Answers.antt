@@ -3,25 +3,25 @@ use native.Mathlib.Omega.{arith}
 use borrow.Author.Rules.{rules}
 use mathlib.Core.Path.{◌≡◌, sym, ap, subst, ◌∙◌}
 use mathlib.Core.Bool.{cond, not}
-use Prim.Native.Nat.{◌≤◌}
+use mathlib.Core.List.{List}
+use Prim.Native.Nat.{ℕ, ◌≤◌}
 use lib.ListN.{length}
-use borrow.Author.Tests.{not-true, not-false, eq-eqb, ne_eqb}
+use borrow.Author.Tests.{eq-eqb, ne_eqb}
+use Rattle.body.specs.declared.Sought.{Sought}
+use Rattle.body.specs.Body.{sought}
 use Rattle.body.proofs.Laws.{many, few}
 use Rattle.body.proofs.Search.{SoughtWithin, sought_within}
 use Rattle.lookup.specs.declared.Found.TheVariants.{At, Refused}
 use Rattle.lookup.specs.Lookup.{in_body}
 use Rattle.lookup.proofs.Laws.{found_in, body_found, found_refused, by_sought, sought_found}
 use Rattle.lookup.proofs.in_body.Goals as goal
-use Rattle.lookup.proofs.in_body.Goals.{After-exact, After-seek, In-Found}
+use Rattle.lookup.proofs.in_body.Goals.{After-exact, In-Found}
 
 -- what the search answers is the answer
-answers : (c : After-seek) → let a = c.args in
-    by_sought a.body.now c.seek.result ≡ in_body a.body.now a.count a.name.now
-answers c =
-    let a = c.args in
-    let most = c.if-count-gt-MOST_PROPERTIES.false in
-    ap (by_sought a.body.now) c.seek.ensures.result ∙ sought_found a.body.now a.name.now a.count 0 most
-    ∙ ap (found_in a.body.now a.name.now) (few a.body.now a.count most) ∙ body_found a.body.now a.name.now a.count
+answers : (body name : List ℕ) (count : ℕ) {found : Sought} → count ≤ 64 → found ≡ sought body name count 0 → by_sought body found ≡ in_body body count name
+answers body name count most e =
+    ap (by_sought body) e ∙ sought_found body name count 0 most
+    ∙ ap (found_in body name) (few body count most) ∙ body_found body name count
 
 -- what is found lies within
 within : (c : In-Found) → c.in-Found.end ≤ length c.args.body.now
@@ -46,21 +46,22 @@ judged : (c : After-exact) → let a = c.args in
 judged c =
     let a = c.args in
     ap (λ b. cond (not b) (Refused 42) (At c.in-Found.start c.in-Found.end)) c.exact.ensures
-    ∙ ap (by_sought a.body.now) (sym c.in-Found.is) ∙ answers BADPLACE:c:After-seek
+    ∙ ap (by_sought a.body.now) (sym c.in-Found.is)
+    ∙ answers a.body.now a.name.now a.count c.if-count-gt-MOST_PROPERTIES.false c.seek.ensures.result
 
 pub returns-then-not-exact : goal.returns-then-not-exact
-returns-then-not-exact c = rw (not-true c.exact.result c.if-not-exact.true) at (judged (goal.at.returns-then-not-exact c).After-exact)
+returns-then-not-exact c = rw c.if-not-exact.true at (judged (goal.at.returns-then-not-exact c).After-exact)
 
 pub returns-then-at-body : goal.returns-then-at-body
 returns-then-at-body c =
-    rw (ne_eqb _ _ c.if-at-body.true) at (ap (by_sought _) (sym c.in-Nowhere.is) ∙ answers (goal.at.returns-then-at-body c).After-seek)
+    rw (ne_eqb _ _ c.if-at-body.true) at (ap (by_sought _) (sym c.in-Nowhere.is) ∙ answers _ _ _ c.if-count-gt-MOST_PROPERTIES.false c.seek.ensures.result)
 
 pub returns-else-not-exact : goal.returns-else-not-exact
-returns-else-not-exact c = rw (not-false c.exact.result c.if-not-exact.false) at (judged (goal.at.returns-else-not-exact c).After-exact)
+returns-else-not-exact c = rw c.if-not-exact.false at (judged (goal.at.returns-else-not-exact c).After-exact)
 
 pub returns-else-at-body : goal.returns-else-at-body
 returns-else-at-body c =
-    rw (eq-eqb _ _ c.if-at-body.false) at (ap (by_sought _) (sym c.in-Nowhere.is) ∙ answers (goal.at.returns-else-at-body c).After-seek)
+    rw (eq-eqb _ _ c.if-at-body.false) at (ap (by_sought _) (sym c.in-Nowhere.is) ∙ answers _ _ _ c.if-count-gt-MOST_PROPERTIES.false c.seek.ensures.result)
 
 pub returns-in-Refused : goal.returns-in-Refused
-returns-in-Refused c = ap (by_sought _) (sym c.in-Refused.is) ∙ answers (goal.at.returns-in-Refused c).After-seek
+returns-in-Refused c = ap (by_sought _) (sym c.in-Refused.is) ∙ answers _ _ _ c.if-count-gt-MOST_PROPERTIES.false c.seek.ensures.result

@@ -1,14 +1,8 @@
 -- `props::clear_of_zeros`: a block without a zero is passed whole.
-use native.Mathlib.Omega.{arith}
-use borrow.Author.Rules.{rules}
-use mathlib.Core.Path.{◌≡◌, sym, ap, ◌∙◌}
-use mathlib.Core.Bool.{false}
+use mathlib.Core.Path.{◌≡◌}
 use Prim.Native.Nat.{◌+◌, ◌≤◌, ◌-◌}
-use lib.Dec.{leb}
-use lib.ListN.{length, take, drop, length-drop}
-use lib.Seq.{drop-drop}
+use lib.ListN.{length, drop}
 use Rattle.props.specs.Step.{to_zero}
-use Rattle.props.proofs.Laws.{block_clear}
 use Rattle.props.proofs.clear_of_zeros.Given as goal
 
 abbrev pub invariant-loop-i : goal.invariant-loop-i

@@ -1,6 +1,5 @@
 -- `props::code_at`: what the header has for it.
 use mathlib.Core.Path.{ap}
-use borrow.Author.Rules.{rules}
 use Rattle.props.specs.declared.PropertyHeader.{PropertyHeader}
 use Rattle.props.proofs.code_at.Goals as goal
 

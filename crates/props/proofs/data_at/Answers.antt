@@ -4,7 +4,6 @@ use mathlib.Core.Path.{◌≡◌, sym, ap, ◌∙◌}
 use Rattle.props.specs.declared.PropertyHeader.{PropertyHeader}
 use Rattle.props.specs.Step.{size_at}
 use Rattle.props.proofs.Laws.{data_here, data_past}
-use borrow.Author.Rules.{rules}
 use Rattle.props.proofs.data_at.Goals as goal
 use Rattle.props.proofs.data_at.Goals.{After-wide-data}
 

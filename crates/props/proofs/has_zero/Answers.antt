@@ -1,12 +1,6 @@
 -- `props::has_zero`: what was met, or what the rest has.
 use native.Mathlib.Omega.{arith}
-use borrow.Author.Rules.{rules}
-use mathlib.Core.Path.{◌≡◌, refl, sym, ◌∙◌}
-use mathlib.Core.Bool.{◌||◌}
-use Prim.Native.Nat.{◌≤◌, ◌-◌}
-use lib.Dec.{leb}
-use lib.ListN.{length, drop}
-use Rattle.props.specs.Step.{to_zero}
+use mathlib.Core.Path.{refl, sym, ◌∙◌}
 use Rattle.props.proofs.Laws.{any_next, any_end}
 use Rattle.props.proofs.has_zero.Goals as goal
 

@@ -3,7 +3,6 @@ use native.Mathlib.Omega.{arith}
 use mathlib.Core.Path.{◌∙◌}
 use Prim.Native.Nat.{◌+◌, ◌-◌}
 use Rattle.props.proofs.Header.{header_part, header_rest, header_past}
-use borrow.Author.Rules.{rules}
 use Rattle.props.proofs.header_at.Goals as goal
 
 pub returns-then-n-at : goal.returns-then-n-at

@@ -1,6 +1,5 @@
 -- `props::length_at`: what the header has for it.
 use mathlib.Core.Path.{ap}
-use borrow.Author.Rules.{rules}
 use Rattle.props.specs.declared.PropertyHeader.{PropertyHeader}
 use Rattle.props.proofs.length_at.Goals as goal
 

@@ -4,7 +4,6 @@ use mathlib.Core.Path.{ap, ◌∙◌}
 use Prim.Native.Nat.{◌+◌, ◌-◌}
 use lib.ListN.{take, drop}
 use Rattle.props.proofs.Laws.{name_none, name_part}
-use borrow.Author.Rules.{rules}
 use Rattle.props.proofs.name_at.Goals as goal
 
 pub returns-then-data-lt8 : goal.returns-then-data-lt8

@@ -4,7 +4,6 @@ use mathlib.Core.Path.{◌≡◌, sym, ap, ◌∙◌}
 use mathlib.Core.Bool.{Bool, cond}
 use Rattle.props.specs.Types.{no_such}
 use Rattle.props.specs.Private.{name_out}
-use borrow.Author.Rules.{rules}
 use Rattle.props.proofs.name_out.Goals as goal
 use Rattle.props.proofs.name_out.Goals.{After-no_such}
 

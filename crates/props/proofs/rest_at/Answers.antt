@@ -3,7 +3,6 @@ use mathlib.Core.Path.{ap, ◌∙◌}
 use lib.ListN.{drop}
 use Rattle.le.proofs.Laws.{rest_drop}
 use Rattle.props.proofs.Laws.{drop_data_at}
-use borrow.Author.Rules.{rules}
 use Rattle.props.proofs.rest_at.Goals as goal
 
 pub returns : goal.returns

@@ -1,10 +1,6 @@
 -- `props::to_zero`: the zero is where the loop meets it.
 use native.Mathlib.Omega.{arith}
-use mathlib.Core.Path.{◌≡◌, sym, ◌∙◌}
-use Prim.Native.Nat.{◌≤◌, ◌-◌, ◌+◌}
-use lib.ListN.{length, drop}
-use borrow.Author.Rules.{rules}
-use Rattle.props.specs.Step.{to_zero}
+use mathlib.Core.Path.{sym, ◌∙◌}
 use Rattle.props.proofs.Laws.{zero_here, zero_later, zero_nowhere}
 use Rattle.props.proofs.to_zero.Goals as goal
 

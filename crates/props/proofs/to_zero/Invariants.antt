@@ -1,11 +1,8 @@
 -- `props::to_zero`: the zero is where the loop meets it.
-use native.Mathlib.Omega.{arith}
-use mathlib.Core.Path.{◌≡◌, sym, ◌∙◌}
+use mathlib.Core.Path.{◌≡◌}
 use Prim.Native.Nat.{◌≤◌, ◌-◌, ◌+◌}
 use lib.ListN.{length, drop}
-use borrow.Author.Rules.{rules}
 use Rattle.props.specs.Step.{to_zero}
-use Rattle.props.proofs.Laws.{zero_here, zero_later, zero_nowhere}
 use Rattle.props.proofs.to_zero.Given as goal
 
 abbrev pub invariant-loop-i : goal.invariant-loop-i

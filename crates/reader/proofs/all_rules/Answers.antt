@@ -1,6 +1,5 @@
 -- `reader::all_rules`: where no row is a Bone, none is counted under any.
 use mathlib.Core.Path.{refl, sym, ◌∙◌}
-use borrow.Author.Rules.{rules}
 use Rattle.reader.proofs.Passing.{none_counted}
 use Rattle.reader.proofs.all_rules.Goals as goal
 

@@ -1,7 +1,5 @@
 -- `reader::any_looks_linked`: it ends, and nothing else is said of it.
 use Prim.Native.Nat.{◌-◌, ◌≤◌}
-use native.Mathlib.Omega.{arith}
-use borrow.Author.Rules.{rules}
 use Rattle.reader.proofs.any_looks_linked.Given as goal
 
 abbrev pub invariant-loop-i : goal.invariant-loop-i

@@ -1,11 +1,6 @@
 -- `reader::has_kind`: what the rest says is what the whole says.
-use Prim.Native.Nat.{◌-◌, ◌≤◌}
 use native.Mathlib.Omega.{arith}
-use mathlib.Core.Path.{◌≡◌, sym, ◌∙◌}
-use borrow.Author.Rules.{rules}
-use Rattle.table.specs.Table.{rows_at}
-use Rattle.table.proofs.Rests.{rest}
-use Rattle.reader.specs.Private.{has_kind}
+use mathlib.Core.Path.{sym, ◌∙◌}
 use Rattle.reader.proofs.Passing.{kind_begun, kind_here, kind_later, kind_nowhere}
 use Rattle.reader.proofs.has_kind.Goals as goal
 
@@ -21,4 +16,4 @@ loop-i-preserved c =
     (omega (arith, c.loop-i-test.true), sym (kind_later _ _ _ _ c.loop-i-test.true c.row_at.ensures c.if-row_at-kind.false) ∙ c.loop-i.invariant.1)
 
 pub returns : goal.returns
-returns c = let l = (goal.at.returns c).At-loop-i in sym (kind_nowhere _ _ _ _ c.loop-i-test.false) ∙ l.loop.invariant.1
+returns c = sym (kind_nowhere _ _ _ _ c.loop-i-test.false) ∙ c.loop-i.invariant.1

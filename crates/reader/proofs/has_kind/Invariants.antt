@@ -1,12 +1,9 @@
 -- `reader::has_kind`: what the rest says is what the whole says.
 use Prim.Native.Nat.{◌-◌, ◌≤◌}
-use native.Mathlib.Omega.{arith}
-use mathlib.Core.Path.{◌≡◌, sym, ◌∙◌}
-use borrow.Author.Rules.{rules}
+use mathlib.Core.Path.{◌≡◌}
 use Rattle.table.specs.Table.{rows_at}
 use Rattle.table.proofs.Rests.{rest}
 use Rattle.reader.specs.Private.{has_kind}
-use Rattle.reader.proofs.Passing.{kind_begun, kind_here, kind_later, kind_nowhere}
 use Rattle.reader.proofs.has_kind.Given as goal
 
 abbrev pub invariant-loop-i : goal.invariant-loop-i

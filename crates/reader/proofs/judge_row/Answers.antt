@@ -6,7 +6,6 @@ use mathlib.Core.Path.{◌≡◌, refl, sym, ap, ◌∙◌, subst}
 use mathlib.Core.Logic.{inl, inr}
 use mathlib.Core.List.{List, map}
 use lib.ListN.{length, take, get_or}
-use borrow.Author.Rules.{rules}
 use Rattle.body.specs.Body.{properties, skimmed}
 use Rattle.body.proofs.Places.{starts_within}
 use Rattle.rules.specs.Packing.{lines_from, columns_of}
@@ -25,7 +24,7 @@ use Rattle.reader.proofs.Judging.{judged_known}
 use Rattle.reader.proofs.Passing.{judged_skimmed}
 use Rattle.reader.proofs.Linking.{passed_count, noted_row, sizes_kept, row_noted, looked_at, passed_over}
 use Rattle.reader.proofs.judge_row.Goals as goal
-use Rattle.reader.proofs.judge_row.Goals.{After-judge-judged, Else-judged-linked}
+use Rattle.reader.proofs.judge_row.Goals.{After-judge-judged}
 
 -- the node, its lines, and what its judgement is
 module _ (j : After-judge-judged) where
@@ -39,10 +38,10 @@ module _ (j : After-judge-judged) where
   body = body_of j.args.file.now j.args.row
 
   passed : (properties body count).number ≡ 0
-  passed = j.requires.0.1 j.requires.0.2
+  passed = j.requires.row.1 j.requires.row.2
 
   rows : j.lines_of-own.result.now ≡ map columns_of (lines_of kind)
-  rows = j.lines_of-own.ensures ∙ ap (rows_of kind) j.requires.0.0 ∙ rows_lent kind
+  rows = j.lines_of-own.ensures ∙ ap (rows_of kind) j.requires.row.0 ∙ rows_lent kind
 
   lines : lines_from j.lines_of-own.result.now ≡ lines_of kind
   lines = ap lines_from rows ∙ lines_packed kind
@@ -61,87 +60,76 @@ module _ (j : After-judge-judged) where
   judges =
       skims
       ∙ judged_skimmed kind count body j.count_at.result passed
-      ∙ sym (judged_known j.args.file.now j.args.row j.count_at.result j.requires.0.2)
+      ∙ sym (judged_known j.args.file.now j.args.row j.count_at.result j.requires.row.2)
       ∙ ap (judged_with j.args.file.now j.args.row) j.count_at.ensures
 
   bounded : Bounded j.judge-judged.result (length body)
   bounded = subst (λ l. Bounded j.judge-judged.result (length l)) j.body_of-body.ensures j.judge-judged.ensures.bounds
 
   abbrev starts : List ℕ
-  starts = j.judge-judged.last.1.1.1.1.1.1.0
+  starts = j.judge-judged.new.starts
 
   abbrev numbers : List ℕ
-  numbers = j.judge-judged.last.1.1.1.1.1.1.1.0
+  numbers = j.judge-judged.new.numbers
 
   sizes : (length starts ≡ 64) × (length numbers ≡ 64)
   sizes =
       let a = j.args in
-      let x = j.judge-judged.ensures.?result_starts_numbers_keys_marks_bounds.1 in
-      sizes_kept a.file.now a.row lines j.body_of-body.ensures passed a.starts.now a.numbers.now x.0 x.1.0 j.requires.1.0.0 j.requires.1.0.1
+      let x = j.judge-judged.ensures in
+      sizes_kept a.file.now a.row lines j.body_of-body.ensures passed a.starts.now a.numbers.now x.starts x.numbers j.requires.sizes.0 j.requires.sizes.1
 
   noted : j.judge-judged.result.number ≡ 0 → Noted j.args.file.now j.args.row starts numbers
   noted z =
       let a = j.args in
-      let x = j.judge-judged.ensures.?result_starts_numbers_keys_marks_bounds.1 in
+      let x = j.judge-judged.ensures in
       noted_row a.file.now a.row lines j.body_of-body.ensures passed j.count_at.result (ap (λ (r : Judged). r.number) (sym skims) ∙ z)
-      a.starts.now a.numbers.now x.0 x.1.0 j.requires.1.0.0 j.requires.1.0.1
+      a.starts.now a.numbers.now x.starts x.numbers j.requires.sizes.0 j.requires.sizes.1
+
+  few : count ≤ 64
+  few = (passed_count body count passed).0
 
 pub returns-then-judged-linked : goal.returns-then-judged-linked
 returns-then-judged-linked c =
-    let a = (start (goal.at.returns-then-judged-linked c).After-judge-judged).args in
-    let all = (
-      judges (goal.at.returns-then-judged-linked c).After-judge-judged,
-      (
-        bounded (goal.at.returns-then-judged-linked c).After-judge-judged,
-        (
-          λ z. inr (passed_over c.judge-judged.result.number c.judge-judged.result.links a.linked.number c.if-judged-linked.true z, refl),
-          (omega arith, sizes (goal.at.returns-then-judged-linked c).After-judge-judged),
-        ),
-      ),
-    ) in record { judged = all.0; bounds = all.1.0; linked = all.1.1.0; links = all.1.1.1.0; sizes = all.1.1.1.1 }
-
--- a row whose links are looked at
-module _ (e : Else-judged-linked) where
-  on : (e.judge-judged.result.number ≡ 0) × ((start BADPLACE:e:After-judge-judged).args.linked.number ≡ 0)
-  on = looked_at e.judge-judged.result.number e.judge-judged.result.links (start BADPLACE:e:After-judge-judged).args.linked.number e.if-judged-linked.left
-
-  few : count BADPLACE:e:After-judge-judged ≤ 64
-  few = (passed_count (body BADPLACE:e:After-judge-judged) (count BADPLACE:e:After-judge-judged) (passed BADPLACE:e:After-judge-judged)).0
+    let j = (goal.at.returns-then-judged-linked c).After-judge-judged in
+    record {
+      judged = judges j;
+      bounds = bounded j;
+      linked = λ z. inr (passed_over c.judge-judged.result.number c.judge-judged.result.links c.args.linked.number c.if-judged-linked.true z, refl);
+      links = omega arith;
+      sizes = sizes j;
+    }
 
 pub link_noted-linked-requires : goal.link_noted-linked-requires
 link_noted-linked-requires c =
-    let j = judged (goal.at.link_noted-linked-requires c).Else-judged-linked in
-    let s = start j in
-    let t = (bodied j).body_of in
-    let is = noted j (on (goal.at.link_noted-linked-requires c).Else-judged-linked).0 in
-    let size = body_fits s.args.file.now s.args.row t.ensures in
-    let places : (i : ℕ) → get_or (take (count j) (starts j)) i 0 ≤ length t.result.now = λ i.
+    let j = (goal.at.link_noted-linked-requires c).After-judge-judged in
+    let t = c.body_of-body in
+    let on = looked_at c.judge-judged.result.number c.judge-judged.result.links c.args.linked.number c.if-judged-linked.false in
+    let is = noted j on.0 in
+    let size = body_fits c.args.file.now c.args.row t.ensures in
+    let within : (i : ℕ) → get_or (take (count j) (starts j)) i 0 ≤ length t.result.now = λ i.
     subst (λ l. get_or l i 0 ≤ length t.result.now) (sym is.places)
     (subst (λ l. get_or (properties (body j) (count j)).starts i 0 ≤ length l) (sym t.ensures) (starts_within (body j) (count j) i)) in
     let first = take (count j) (starts j) in
-    let lines_noted = is.lines
-    ∙ ap (λ ls. map (line_number ls (body j)) first) (sym (lines j))
-    ∙ ap (λ t. map (line_number (lines_from (lent j).lines_of.result.now) t) first) (sym t.ensures) in
-    let all = (
-      s.pre.1.1.0,
-      (
-        (omega (arith, few (goal.at.link_noted-linked-requires c).Else-judged-linked, (sizes j).0), omega (arith, few (goal.at.link_noted-linked-requires c).Else-judged-linked, (sizes j).1), places),
-        (omega (arith, s.good.0.1, c.struct_known-6-1.given, size), (omega (arith, few (goal.at.link_noted-linked-requires c).Else-judged-linked, s.pre.1.1.1), lines_noted)),
-      ),
-    ) in record { sorted = all.0; places = all.1.0; start = all.1.1.0; before = all.1.1.1.0; numbers = all.1.1.1.1 }
+    record {
+      sorted = c.requires.sorted;
+      places = (omega (arith, few j, (sizes j).0), omega (arith, few j, (sizes j).1), within);
+      start = omega (arith, size);
+      before = omega (arith, few j, c.requires.before);
+      numbers = is.lines
+          ∙ ap (λ ls. map (line_number ls (body j)) first) (sym (lines j))
+          ∙ ap (λ t. map (line_number (lines_from c.lines_of-own.result.now) t) first) (sym t.ensures);
+    }
 
 pub returns : goal.returns
 returns c =
-    let j = judged (goal.at.returns c).Else-judged-linked in
-    let a = (start j).args in
-    let x = c.link_noted-linked.ensures.?result_links in
-    let all = (
-      judges j,
-      (
-        bounded j,
-        (
-          λ z. inl ((on (goal.at.returns c).Else-judged-linked).1, x.0 ∙ row_noted _ a.file.now _ a.row (start j).pre.0.2 (lines j) (bodied j).body_of.ensures (noted j z).places),
-          (omega (arith, x.1, few (goal.at.returns c).Else-judged-linked), sizes j),
-        ),
-      ),
-    ) in record { judged = all.0; bounds = all.1.0; linked = all.1.1.0; links = all.1.1.1.0; sizes = all.1.1.1.1 }
+    let j = (goal.at.returns c).After-judge-judged in
+    let a = c.args in
+    let x = c.link_noted-linked.ensures in
+    let on = looked_at c.judge-judged.result.number c.judge-judged.result.links a.linked.number c.if-judged-linked.false in
+    record {
+      judged = judges j;
+      bounds = bounded j;
+      linked = λ z. inl (on.1, x.result ∙ row_noted _ a.file.now _ a.row c.requires.row.2 (lines j) c.body_of-body.ensures (noted j z).places);
+      links = omega (arith, x.links, few j);
+      sizes = sizes j;
+    }

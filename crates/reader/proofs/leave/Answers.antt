@@ -1,6 +1,5 @@
 -- `reader::leave`: by the variant of the answer.
 use mathlib.Core.Path.{refl, sym, ◌∙◌}
-use borrow.Author.Rules.{rules}
 use Rattle.reader.proofs.Whole.{left_accepted, left_refused}
 use Rattle.reader.proofs.leave.Goals as goal
 

@@ -5,22 +5,22 @@ use lib.Seq.{length-take-le}
 use Rattle.reader.proofs.link_noted.Goals as goal
 
 pub slice_bounds-node_links-end : goal.slice_bounds-node_links-end
-slice_bounds-node_links-end c =
-    let s = BAD:c.before.before.before.before.before.before.before.before in
-    sym (length-take-le s.args.n s.args.starts.now s.requires.1.0.0)
+slice_bounds-node_links-end c = sym (length-take-le c.args.n c.args.starts.now c.requires.places.0)
 
 pub slice_bounds-node_links-end-2 : goal.slice_bounds-node_links-end-2
-slice_bounds-node_links-end-2 c =
-    let s = BAD:c.before.before.before.before.before.before.before.before.before in
-    sym (length-take-le s.args.n s.args.numbers.now s.requires.1.0.1)
+slice_bounds-node_links-end-2 c = sym (length-take-le c.args.n c.args.numbers.now c.requires.places.1)
 
 pub node_links-requires : goal.node_links-requires
-node_links-requires c =
-    let s = BAD:c.before.before.before.before.before.before.before.before.before in
-    let p = s.requires.1 in
-    record { sorted = s.requires.0; places = p.0.2; start = p.1.0; before = omega (arith, p.1.1.0, length-take-le s.args.n s.args.starts.now p.0.0); numbers = p.1.1.1 }
+node_links-requires c = record {
+  sorted = c.requires.sorted;
+  places = c.requires.places.2;
+  start = c.requires.start;
+  before = omega (arith, c.requires.before, length-take-le c.args.n c.args.starts.now c.requires.places.0);
+  numbers = c.requires.numbers;
+}
 
 pub returns : goal.returns
-returns c =
-    let s = BAD:c.before.before.before.before.before.before.before.before.before.before in
-    record { result = c.node_links.ensures.result; links = omega (arith, c.node_links.ensures.links, length-take-le s.args.n s.args.starts.now s.requires.1.0.0) }
+returns c = record {
+  result = c.node_links.ensures.result;
+  links = omega (arith, c.node_links.ensures.links, length-take-le c.args.n c.args.starts.now c.requires.places.0);
+}

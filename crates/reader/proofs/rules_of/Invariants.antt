@@ -1,22 +1,13 @@
 -- `reader::rules_of`: what was counted, on top of what the rest gives, is what all rows give.
-use Prim.Native.Nat.{ℕ, ◌+◌, ◌-◌, ◌*◌, ◌^◌, ◌≤◌, ◌<◌}
-use native.Mathlib.Omega.{arith}
-use mathlib.Core.Path.{◌≡◌, sym, ap, ◌∙◌, subst}
-use mathlib.Core.Logic.{⊎_elim}
-use mathlib.Core.Bool.{true}
-use mathlib.Core.List.{[]}
-use lib.ListN.{length, get_or}
-use Rattle.kinds.specs.Kinds.{is_known}
-use Rattle.table.specs.Table.{row_at, rows_at}
-use Rattle.reader.specs.declared.Ruled.{Ruled}
-use Rattle.reader.specs.Reading.{bones_under, ruled, own_unknown}
-use Rattle.links.specs.Private.{Count, count_in, rows_linked}
-use Rattle.reader.specs.Private.{Passed, continued}
+use Prim.Native.Nat.{◌+◌, ◌-◌, ◌*◌, ◌^◌, ◌≤◌}
+use mathlib.Core.Path.{◌≡◌}
+use lib.ListN.{length}
+use Rattle.table.specs.Table.{rows_at}
+use Rattle.reader.specs.Reading.{ruled, own_unknown}
+use Rattle.links.specs.Private.{count_in, rows_linked}
+use Rattle.reader.specs.Private.{continued}
 use Rattle.table.proofs.Rests.{rest}
-use Rattle.reader.proofs.Loops.{on_top, row_place, rules_begun, rules_refused, rules_passed, rules_ended}
-use Rattle.reader.proofs.Linking.{links_begun, links_ended, links_linked, links_kept}
-use Rattle.reader.proofs.Bare.{judged_is_known, unknown_begun, unknown_none, unknown_ended, rules_skipped, links_skipped}
-use borrow.Author.Rules.{rules}
+use Rattle.reader.proofs.Loops.{on_top}
 use Rattle.reader.proofs.rules_of.Given as goal
 
 abbrev pub invariant-loop-from : goal.invariant-loop-from

@@ -1,7 +1,6 @@
 -- `reader::rules_with_bones`: the Bones under each row are counted before the rules.
 use Prim.Native.Nat.{ℕ}
 use lib.ListN.{length-replicate}
-use borrow.Author.Rules.{rules}
 use Rattle.reader.proofs.Whole.{bones_counted}
 use Rattle.reader.proofs.rules_with_bones.Goals as goal
 

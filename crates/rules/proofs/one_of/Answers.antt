@@ -36,6 +36,4 @@ returns-in-5 c =
 
 pub returns-in_default : goal.returns-in_default
 returns-in_default c =
-    let a = c.args in
-    let m = c.in_default.in_default-own.rest in
-    no_set a.set a.bytes.now (λ p. omega (arith, p, m.0.0.0.0.1, m.0.0.0.1, m.0.0.1, m.0.1, m.1))
+    no_set c.args.set c.args.bytes.now (λ p. omega (arith, p))

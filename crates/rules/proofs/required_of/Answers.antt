@@ -1,6 +1,8 @@
 -- `rules::required_of`: each arm by its kind, as the table says; the last by none of them.
+use native.Mathlib.Omega.{arith}
 use mathlib.Core.Path.{ap, sym}
 use borrow.Author.Tests.{ne_eqb}
+use Rattle.kinds.specs.Kinds.{mesh, blend_shape, bone, ik_handle, constraint, material, file, animation, curve, curve_mode_override, notification_track, instance}
 use Rattle.rules.specs.Table.{lines}
 use Rattle.rules.specs.Rules.{of_kind, lines_of, required_in}
 use Rattle.rules.proofs.Required.{none_required}
@@ -56,19 +58,18 @@ returns-in-1953721961 c = ap (λ k. required_in (lines_of k)) (sym c.in-19537219
 
 pub returns-in_default : goal.returns-in_default
 returns-in_default c =
-    let r = c.in_default.in_default-own.rest in
     sym (none_required c.args.kind
     (simp (
-      ne_eqb _ _ (λ e. r.0.0.0.0.0.0.0.0.0.0.0.1 (sym e)),
-      ne_eqb _ _ (λ e. r.0.0.0.0.0.0.0.0.0.0.1 (sym e)),
-      ne_eqb _ _ (λ e. r.0.0.0.0.0.0.0.0.0.1 (sym e)),
-      ne_eqb _ _ (λ e. r.0.0.0.0.0.0.0.0.1 (sym e)),
-      ne_eqb _ _ (λ e. r.0.0.0.0.0.0.0.1 (sym e)),
-      ne_eqb _ _ (λ e. r.0.0.0.0.0.0.1 (sym e)),
-      ne_eqb _ _ (λ e. r.0.0.0.0.0.1 (sym e)),
-      ne_eqb _ _ (λ e. r.0.0.0.0.1 (sym e)),
-      ne_eqb _ _ (λ e. r.0.0.0.1 (sym e)),
-      ne_eqb _ _ (λ e. r.0.0.1 (sym e)),
-      ne_eqb _ _ (λ e. r.0.1 (sym e)),
-      ne_eqb _ _ (λ e. r.1 (sym e)),
+      ne_eqb mesh c.args.kind (λ e. omega (arith, e)),
+      ne_eqb blend_shape c.args.kind (λ e. omega (arith, e)),
+      ne_eqb bone c.args.kind (λ e. omega (arith, e)),
+      ne_eqb ik_handle c.args.kind (λ e. omega (arith, e)),
+      ne_eqb constraint c.args.kind (λ e. omega (arith, e)),
+      ne_eqb material c.args.kind (λ e. omega (arith, e)),
+      ne_eqb file c.args.kind (λ e. omega (arith, e)),
+      ne_eqb animation c.args.kind (λ e. omega (arith, e)),
+      ne_eqb curve c.args.kind (λ e. omega (arith, e)),
+      ne_eqb curve_mode_override c.args.kind (λ e. omega (arith, e)),
+      ne_eqb notification_track c.args.kind (λ e. omega (arith, e)),
+      ne_eqb instance c.args.kind (λ e. omega (arith, e)),
     )))

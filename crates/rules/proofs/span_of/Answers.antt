@@ -2,6 +2,7 @@
 use native.Mathlib.Omega.{arith}
 use mathlib.Core.Path.{ap, sym}
 use borrow.Author.Tests.{ne_eqb}
+use Rattle.kinds.specs.Kinds.{model, mesh, blend_shape, bone, ik_handle, constraint, material, file, animation, curve, curve_mode_override, notification_track, instance, metadata}
 use Rattle.rules.specs.Table.{lines}
 use Rattle.rules.specs.Rules.{before, run, span_of}
 use Rattle.rules.proofs.Spans.{nowhere}
@@ -65,21 +66,20 @@ returns-in-1635018093 c = (ap span_of (sym c.in-1635018093.is), omega arith, ome
 
 pub returns-in_default : goal.returns-in_default
 returns-in_default c =
-    let r = c.in_default.in_default-own.rest in
     nowhere c.args.kind
     (simp (
-      ne_eqb _ _ (λ e. r.0.0.0.0.0.0.0.0.0.0.0.0.0.1 (sym e)),
-      ne_eqb _ _ (λ e. r.0.0.0.0.0.0.0.0.0.0.0.0.1 (sym e)),
-      ne_eqb _ _ (λ e. r.0.0.0.0.0.0.0.0.0.0.0.1 (sym e)),
-      ne_eqb _ _ (λ e. r.0.0.0.0.0.0.0.0.0.0.1 (sym e)),
-      ne_eqb _ _ (λ e. r.0.0.0.0.0.0.0.0.0.1 (sym e)),
-      ne_eqb _ _ (λ e. r.0.0.0.0.0.0.0.0.1 (sym e)),
-      ne_eqb _ _ (λ e. r.0.0.0.0.0.0.0.1 (sym e)),
-      ne_eqb _ _ (λ e. r.0.0.0.0.0.0.1 (sym e)),
-      ne_eqb _ _ (λ e. r.0.0.0.0.0.1 (sym e)),
-      ne_eqb _ _ (λ e. r.0.0.0.0.1 (sym e)),
-      ne_eqb _ _ (λ e. r.0.0.0.1 (sym e)),
-      ne_eqb _ _ (λ e. r.0.0.1 (sym e)),
-      ne_eqb _ _ (λ e. r.0.1 (sym e)),
-      ne_eqb _ _ (λ e. r.1 (sym e)),
+      ne_eqb model c.args.kind (λ e. omega (arith, e)),
+      ne_eqb mesh c.args.kind (λ e. omega (arith, e)),
+      ne_eqb blend_shape c.args.kind (λ e. omega (arith, e)),
+      ne_eqb bone c.args.kind (λ e. omega (arith, e)),
+      ne_eqb ik_handle c.args.kind (λ e. omega (arith, e)),
+      ne_eqb constraint c.args.kind (λ e. omega (arith, e)),
+      ne_eqb material c.args.kind (λ e. omega (arith, e)),
+      ne_eqb file c.args.kind (λ e. omega (arith, e)),
+      ne_eqb animation c.args.kind (λ e. omega (arith, e)),
+      ne_eqb curve c.args.kind (λ e. omega (arith, e)),
+      ne_eqb curve_mode_override c.args.kind (λ e. omega (arith, e)),
+      ne_eqb notification_track c.args.kind (λ e. omega (arith, e)),
+      ne_eqb instance c.args.kind (λ e. omega (arith, e)),
+      ne_eqb metadata c.args.kind (λ e. omega (arith, e)),
     ))

@@ -24,5 +24,4 @@ returns-in-3 c = ap (λ t. takes (types_from t) c.args.code) (sym c.in-3.is)
 pub returns-in_default : goal.returns-in_default
 returns-in_default c =
     let t = c.args.types in
-    let m = c.in_default.in_default-own.rest in
-    rw (ne_eqb t 1 m.0.0.1, ne_eqb t 2 m.0.1, ne_eqb t 3 m.1)
+    rw (ne_eqb t 1 (λ e. omega (arith, e)), ne_eqb t 2 (λ e. omega (arith, e)), ne_eqb t 3 (λ e. omega (arith, e)))

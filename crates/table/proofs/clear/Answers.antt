@@ -2,7 +2,6 @@
 use mathlib.Core.Path.{sym, ◌∙◌}
 use Rattle.table.specs.Table.{cleared}
 use Rattle.table.proofs.Clearing.{has_room_fits}
-use borrow.Author.Rules.{rules}
 use Rattle.table.proofs.clear.Goals as goal
 
 pub zero-requires : goal.zero-requires

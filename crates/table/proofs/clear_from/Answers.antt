@@ -3,7 +3,6 @@ use Prim.Native.Nat.{◌≤◌}
 use native.Mathlib.Omega.{arith}
 use lib.ListN.{length, length-take, length-drop}
 use Rattle.table.proofs.ClearingFrom.{clears, cleared_from_in, cleared_from_out}
-use borrow.Author.Rules.{rules}
 use Rattle.table.proofs.clear_from.Goals as goal
 use Rattle.table.proofs.clear_from.Goals.{Then-row-has_room}
 

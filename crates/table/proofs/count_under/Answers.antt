@@ -1,15 +1,14 @@
 -- `table::count_under`: what was counted for a row, with the rest's count, is that of all rows.
-use Prim.Native.Nat.{ℕ, ◌-◌, ◌≤◌, ◌<◌, min}
+use Prim.Native.Nat.{ℕ, ◌<◌, min}
 use native.Mathlib.Omega.{arith}
 use mathlib.Core.Path.{◌≡◌, refl, ap, sym, ◌∙◌}
 use mathlib.Core.Bool.{true, ◌&&◌}
 use lib.Dec.{ltb}
 use lib.ListN.{length}
-use borrow.Author.Rules.{rules}
 use Rattle.table.specs.declared.Row.{Row}
 use Rattle.table.specs.Table.{rows_at}
 use Rattle.table.specs.Counts.{is_counted, counts_under}
-use Rattle.table.proofs.Counts.{Counting, counted_few, counting_begun, both, counting_one, counting_other, counting_ended}
+use Rattle.table.proofs.Counts.{counted_few, counting_begun, both, counting_one, counting_other, counting_ended}
 use Rattle.table.proofs.count_under.Goals as goal
 use Rattle.table.proofs.count_under.Goals.{After-is_counted, Joined-rows-lt-MOST_ROWS, Then-is_counted-parent, then-rows-lt-MOST_ROWS, else-rows-lt-MOST_ROWS, then-is_counted-parent, else-is_counted-parent}
 
@@ -52,11 +51,11 @@ pub loop-i-preserved : goal.loop-i-preserved
 loop-i-preserved c =
     let l = c.loop-i in
     elim c.if-is_counted-parent.branch [
-      then-is_counted-parent w ↦
-        let b = both c.args.which (length c.args.counts.now) c.row_at-row.result (sym (tested (goal.at.loop-i-preserved c).After-is_counted) ∙ w.if-is_counted-parent.true) in
-        (omega arith, rw w.counts-is (counting_one _ _ _ _ l.counts _ c.loop-i-test.true c.row_at-row.ensures l.invariant.1 b.0 b.1 _ refl))
-    | else-is_counted-parent w ↦
-        (omega arith, rw w.counts-is (counting_other _ _ _ _ l.counts _ c.loop-i-test.true c.row_at-row.ensures l.invariant.1 (sym (tested (goal.at.loop-i-preserved c).After-is_counted) ∙ w.if-is_counted-parent.false)))
+      | then-is_counted-parent w ↦
+          let b = both c.args.which (length c.args.counts.now) c.row_at-row.result (sym (tested (goal.at.loop-i-preserved c).After-is_counted) ∙ w.if-is_counted-parent.true) in
+          (omega arith, rw w.counts-is (counting_one _ _ _ _ l.counts _ c.loop-i-test.true c.row_at-row.ensures l.invariant.1 b.0 b.1 _ refl))
+      | else-is_counted-parent w ↦
+          (omega arith, rw w.counts-is (counting_other _ _ _ _ l.counts _ c.loop-i-test.true c.row_at-row.ensures l.invariant.1 (sym (tested (goal.at.loop-i-preserved c).After-is_counted) ∙ w.if-is_counted-parent.false)))
     ]
 
 pub shape_of-counts : goal.shape_of-counts

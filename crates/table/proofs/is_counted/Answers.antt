@@ -1,6 +1,5 @@
 -- `table::is_counted`: by the kind that is asked for, where one is.
 use mathlib.Core.Path.{sym, ap}
-use borrow.Author.Rules.{rules}
 use Rattle.table.specs.Counts.{is_counted}
 use Rattle.table.proofs.is_counted.Goals as goal
 

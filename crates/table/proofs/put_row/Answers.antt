@@ -2,7 +2,6 @@
 use mathlib.Core.Path.{sym, ◌∙◌}
 use Rattle.table.specs.Table.{with_row}
 use Rattle.table.proofs.Rows.{has_row_fits}
-use borrow.Author.Rules.{rules}
 use Rattle.table.proofs.put_row.Goals as goal
 
 pub write_row-requires : goal.write_row-requires

@@ -2,7 +2,6 @@
 use mathlib.Core.Path.{sym, ◌∙◌}
 use Rattle.table.specs.Table.{row_at}
 use Rattle.table.proofs.Rows.{has_row_fits}
-use borrow.Author.Rules.{rules}
 use Rattle.table.proofs.row_at.Goals as goal
 
 pub returns-then-not-has_row : goal.returns-then-not-has_row

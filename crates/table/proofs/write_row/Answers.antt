@@ -2,7 +2,6 @@
 use native.Mathlib.Omega.{arith}
 use native.Mathlib.Numerals.{towards_suc}
 use lib.ListN.{length-set}
-use borrow.Author.Rules.{rules}
 use Rattle.table.proofs.write_row.Goals as goal
 
 pub bounds-table-at-2 : goal.bounds-table-at-2

@@ -1,11 +1,8 @@
 -- `table::zero`: before each turn the first `i` numbers are 0, and the rest is as it was.
-use Prim.Native.Nat.{◌-◌, ◌≤◌}
 use native.Mathlib.Omega.{arith}
 use mathlib.Core.Path.{◌≡◌, refl}
-use lib.ListN.{length, length-set}
-use Rattle.table.specs.Table.{zeroed}
+use lib.ListN.{length-set}
 use Rattle.table.proofs.Clearing.{zeroed_none, zeroed_more}
-use borrow.Author.Rules.{rules}
 use Rattle.table.proofs.zero.Goals as goal
 
 pub loop-i-init : goal.loop-i-init

@@ -1,11 +1,8 @@
 -- `table::zero_counts`: before each turn the first `i` numbers are 0, and the rest is as it was.
 use Prim.Native.Nat.{◌-◌, ◌≤◌}
-use native.Mathlib.Omega.{arith}
-use mathlib.Core.Path.{◌≡◌, refl}
-use lib.ListN.{length, length-set}
+use mathlib.Core.Path.{◌≡◌}
+use lib.ListN.{length}
 use Rattle.table.specs.Table.{zeroed}
-use Rattle.table.proofs.Clearing.{zeroed_none, zeroed_more}
-use borrow.Author.Rules.{rules}
 use Rattle.table.proofs.zero_counts.Given as goal
 
 abbrev pub invariant-loop-i : goal.invariant-loop-i

@@ -47,5 +47,5 @@ pub returns : goal.returns
 returns c =
     let a = c.args in
     let from = a.at + length a.name.now in
-    short_letters a.body.now a.at c.requires (λ i. omega (arith, c.shared_slice_known-1.given i)) (omega (arith, c.if-n-gt8.false))
+    short_letters a.body.now a.at c.requires (λ i. omega (arith, c.type_inv.body i)) (omega (arith, c.if-n-gt8.false))
     (c.u64_at-2.ensures ∙ number_at_part 8 (from + 8 - from) a.body.now from 0 (omega arith) ∙ ap (number_at 8 a.body.now) (omega arith))

@@ -1,5 +1,5 @@
 -- `judge::valued::fault_of`: each arm by what the line holds the property to, and the first and the last by none of them.
-use Rattle.std.proofs.Common.{◌&&◌, eqb, leb, sym, ap, ◌∙◌, rules}
+use Rattle.std.proofs.Common.{◌&&◌, eqb, leb, sym, ap, ◌∙◌, arith}
 use Rattle.le.specs.Le.{number_at}
 use Rattle.faces.specs.Faces.{width_of}
 use Rattle.rules.specs.Packing.{strings_of, types_from}
@@ -62,8 +62,6 @@ returns-in-8 c = rw c.in-8.is (c.sole-in-8.ensures ∙ ap sole c.is_bone.ensures
 
 pub returns-in_default : goal.returns-in_default
 returns-in_default c =
-    let r = c.in_default.in_default-own.rest in
-    let d = r.0.0.0 in
     let a = c.args in
     sym (unheld a.e a.body.now a.at (beside_from a.m)
-    d.0.0.0.1 d.0.0.1 d.0.1 d.1 c.requires r.0.0.1 r.0.1 r.1)
+    (omega arith) (omega arith) (omega arith) (omega arith) c.requires (omega arith) (omega arith) (omega arith))

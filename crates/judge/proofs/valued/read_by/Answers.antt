@@ -11,11 +11,15 @@ unfolding length_by_line value_by_line
 returns-then-i-numbers c =
     let a = c.args in
     let at = get_or a.starts.now c.first_number-i.result 0 in
-    let all = rw (← c.first_number-i.ensures, lt-ltb _ _ c.if-i-numbers.true) (
-      ap (λ h. h.length) c.header_at-header.ensures,
-      c.value_at.ensures ∙ ap (λ h. number_at (width_of h.code) (rest_at a.body.now at) 0) c.header_at-header.ensures,
-    ) in record { length = all.0; value = all.1 }
+    record {
+      length = rw (← c.first_number-i.ensures, lt-ltb _ _ c.if-i-numbers.true) (ap (λ h. h.length) c.header_at-header.ensures);
+      value = rw (← c.first_number-i.ensures, lt-ltb _ _ c.if-i-numbers.true)
+          (c.value_at.ensures ∙ ap (λ h. number_at (width_of h.code) (rest_at a.body.now at) 0) c.header_at-header.ensures);
+    }
 
 pub returns : goal.returns
 unfolding length_by_line value_by_line
-returns c = let all = rw (← c.first_number-i.ensures, le-ltb _ _ c.if-i-numbers.false) (refl, refl) in record { length = all.0; value = all.1 }
+returns c = record {
+      length = rw (← c.first_number-i.ensures, le-ltb _ _ c.if-i-numbers.false) refl;
+      value = rw (← c.first_number-i.ensures, le-ltb _ _ c.if-i-numbers.false) refl;
+    }

@@ -1,5 +1,5 @@
 -- `judge::valued::valued`: what was counted and what the properties from i on say is what all say.
-use Rattle.std.proofs.Common.{◌≡◌, ℕ, ◌+◌, ◌-◌, ◌<◌, length, get_or, sym, ap, ◌∙◌, ⊎_elim, arith, w64, Fits, rules}
+use Rattle.std.proofs.Common.{◌≡◌, ℕ, ◌+◌, ◌-◌, ◌<◌, length, get_or, sym, ap, ◌∙◌, arith, w64, Fits}
 use Rattle.le.specs.Le.{AreBytes}
 use Rattle.rules.specs.Packing.{line_of, lines_from}
 use Rattle.judge.specs.declared.Judged.{Judged}
@@ -8,13 +8,13 @@ use Rattle.judge.specs.ByLine.{beside_by_line}
 use Rattle.judge.specs.Judge.{refused_node, Bounded}
 use Rattle.judge.specs.Private.{beside_from, valued_to}
 use Rattle.judge.proofs.Faults.{held_faces_lem}
-use Rattle.judge.proofs.Values.{as_many, line_found, on_top, on_none, ended, Counting, faces_counted, faces_wrong, link_counted, other_counted, other_wrong, refused_bounded}
+use Rattle.judge.proofs.Values.{as_many, line_found, on_top, on_none, ended, faces_counted, faces_wrong, link_counted, other_counted, other_wrong, refused_bounded}
 use Rattle.judge.proofs.valued.valued.Goals as goal
-use Rattle.judge.proofs.valued.valued.Goals.{After-faces_at-kept, After-line_in-e}
+use Rattle.judge.proofs.valued.valued.Goals.{After-faces_at-kept, After-line_in-e, then-e-eq-FACES+else-breaks, else-e-eq-FACES+then-e-eq-LINK, else-e-eq-FACES+else-e-eq-LINK+else-breaks-2}
 
 pub measures_of-m-requires : goal.measures_of-m-requires
 measures_of-m-requires c =
-    as_many (lines_from c.args.lines.now) c.args.body.now c.args.starts.now c.requires.1.0
+    as_many (lines_from c.args.lines.now) c.args.body.now c.args.starts.now c.requires.numbers
 
 pub loop-i-init : goal.loop-i-init
 loop-i-init c =
@@ -30,7 +30,7 @@ loop-i-init c =
 
 pub bounds-numbers-i : goal.bounds-numbers-i
 bounds-numbers-i c =
-    omega (arith, as_many (lines_from c.args.lines.now) c.args.body.now c.args.starts.now c.requires.1.0)
+    omega (arith, as_many (lines_from c.args.lines.now) c.args.body.now c.args.starts.now c.requires.numbers)
 
 -- the property that was read, and its line
 module _ (c : After-line_in-e) where
@@ -41,78 +41,85 @@ module _ (c : After-line_in-e) where
   all = let a = c.args in valued_to (lines_from a.lines.now) a.body.now (beside_by_line a.kind a.body.now a.starts.now a.numbers.now a.bones) a.starts.now
 
   within : Fits w64 (24 + at)
-  within = omega (arith, c.good.1.1.0.1, c.requires.1.1 c.loop-i.i)
+  within = omega (arith, c.requires.places c.loop-i.i)
 
   inside : c.loop-i.i < length c.args.starts.now
   inside = c.loop-i-test.true
 
   bytes : AreBytes c.args.body.now
-  bytes = λ i. omega (arith, c.shared_slice_known-1.given i)
+  bytes = λ i. omega (arith, c.type_inv.body i)
 
   line : line_of c.line_in-e.result ≡ rule_at (lines_from c.args.lines.now) c.args.body.now at
   line =
       let a = c.args in
-      line_found (lines_from a.lines.now) a.body.now a.starts.now c.requires.1.0 c.loop-i.i inside c.line_in-e.ensures.line
+      line_found (lines_from a.lines.now) a.body.now a.starts.now c.requires.numbers c.loop-i.i inside c.line_in-e.ensures.line
 
   refuses : refused_node 15 (24 + at) ≡ all → {r : Judged} → r ≡ refused_node 15 (24 + at)
       → (r ≡ all) × Bounded r (length c.args.body.now)
-  refuses w e = (e ∙ w, refused_bounded 15 (24 + at) (length c.args.body.now) (omega (arith, c.requires.1.1 c.loop-i.i)) e)
+  refuses w e = (e ∙ w, refused_bounded 15 (24 + at) (length c.args.body.now) (omega (arith, c.requires.places c.loop-i.i)) e)
 
 pub overflow_add-at : goal.overflow_add-at
 overflow_add-at c = within (goal.at.overflow_add-at c).After-line_in-e
 
 pub returns-then-breaks : goal.returns-then-breaks
-returns-then-breaks c = let all = refuses (goal.at.returns-then-breaks c).After-line_in-e
-    (faces_wrong (head (goal.at.returns-then-breaks c).After-line_in-e).loop.invariant (inside (goal.at.returns-then-breaks c).After-line_in-e) c.line_in-e.result (line (goal.at.returns-then-breaks c).After-line_in-e) c.if-e-eq-FACES.true (bytes (goal.at.returns-then-breaks c).After-line_in-e) c.faces_at-kept.ensures (sym c.breaks.ensures ∙ c.if-breaks.true))
-    c.refused_node.ensures in record { result = all.0; bounds = all.1 }
+returns-then-breaks c =
+    let l = (goal.at.returns-then-breaks c).After-line_in-e in
+    let told = refuses l
+    (faces_wrong c.loop-i.invariant (inside l) c.line_in-e.result (line l) c.if-e-eq-FACES.true (bytes l) c.faces_at-kept.ensures (sym c.breaks.ensures ∙ c.if-breaks.true))
+    c.refused_node.ensures in
+    record { result = told.0; bounds = told.1 }
 
 -- how many faces one property counts
-few : (c : After-faces_at-keptoop decreases-loop) → (c.faces_at-kept.result.faces < 4294967296) × (c.faces_at-kept.result.degenerate < 4294967296)
-few c =
-    let b = beside_from (head BADPLACE:c:After-line_in-e).before.measures-of.result in
-    let kept = held_faces_lem c.line_in-e.result (start BADPLACE:c:After-line_in-e).args.body.now (at BADPLACE:c:After-line_in-e) b c.if-e-eq-FACES.true (bytes BADPLACE:c:After-line_in-e) c.faces_at-kept.ensures in
+few : (c : After-faces_at-kept) → AreBytes c.args.body.now → (c.faces_at-kept.result.faces < 4294967296) × (c.faces_at-kept.result.degenerate < 4294967296)
+few c bytes =
+    let b = beside_from c.measures_of-m.result in
+    let kept = held_faces_lem c.line_in-e.result c.args.body.now (get_or c.args.starts.now c.loop-i.i 0) b c.if-e-eq-FACES.true bytes c.faces_at-kept.ensures in
     (kept.1, kept.2)
 
 pub overflow_add-faces : goal.overflow_add-faces
 overflow_add-faces c =
-    let l = head (goal.at.overflow_add-faces c).After-line_in-e in
-    omega (arith, few (goal.at.overflow_add-faces c).After-faces_at-kept, l.loop.inv.faces_most, inside (goal.at.overflow_add-faces c).After-line_in-e, l.before.before.before.before.before.pre.0)
+    let here = goal.at.overflow_add-faces c in
+    omega (arith, few here.After-faces_at-kept (bytes here.After-line_in-e), c.loop-i.invariant.faces_most, c.loop-i-test.true, c.requires.count)
 
 pub overflow_add-degenerate : goal.overflow_add-degenerate
 overflow_add-degenerate c =
-    let l = head (goal.at.overflow_add-degenerate c).After-line_in-e in
-    omega (arith, few (goal.at.overflow_add-degenerate c).After-faces_at-kept, l.loop.inv.degenerate_most, inside (goal.at.overflow_add-degenerate c).After-line_in-e, l.before.before.before.before.before.pre.0)
+    let here = goal.at.overflow_add-degenerate c in
+    omega (arith, few here.After-faces_at-kept (bytes here.After-line_in-e), c.loop-i.invariant.degenerate_most, c.loop-i-test.true, c.requires.count)
 
 pub overflow_add-links : goal.overflow_add-links
-overflow_add-links c =
-    omega (arith, (head (goal.at.overflow_add-links c).After-line_in-e).loop.invariant.links_most, inside (goal.at.overflow_add-links c).After-line_in-e, (start (goal.at.overflow_add-links c).After-line_in-e).requires.0)
+overflow_add-links c = omega (arith, c.loop-i.invariant.links_most, c.loop-i-test.true, c.requires.count)
 
 pub overflow_add-at-then-breaks-2 : goal.overflow_add-at-then-breaks-2
 overflow_add-at-then-breaks-2 c = within (goal.at.overflow_add-at-then-breaks-2 c).After-line_in-e
 
 pub returns-then-breaks-2 : goal.returns-then-breaks-2
-returns-then-breaks-2 c = let all = refuses (goal.at.returns-then-breaks-2 c).After-line_in-e
-    (other_wrong (head (goal.at.returns-then-breaks-2 c).After-line_in-e).loop.invariant (inside (goal.at.returns-then-breaks-2 c).After-line_in-e) c.line_in-e.result (line (goal.at.returns-then-breaks-2 c).After-line_in-e) c.if-e-eq-FACES.false c.fault_of.ensures (sym c.breaks-else-e-eq-LINK.ensures ∙ c.if-breaks-2.true))
-    c.refused_node-then-breaks-2.ensures in record { result = all.0; bounds = all.1 }
+returns-then-breaks-2 c =
+    let l = (goal.at.returns-then-breaks-2 c).After-line_in-e in
+    let told = refuses l
+    (other_wrong c.loop-i.invariant (inside l) c.line_in-e.result (line l) c.if-e-eq-FACES.false c.fault_of.ensures (sym c.breaks-else-e-eq-LINK.ensures ∙ c.if-breaks-2.true))
+    c.refused_node-then-breaks-2.ensures in
+    record { result = told.0; bounds = told.1 }
 
 pub loop-i-preserved : goal.loop-i-preserved
 loop-i-preserved c =
-    let inv = (head (goal.at.loop-i-preserved c).After-line_in-e).loop.invariant in
+    let l = (goal.at.loop-i-preserved c).After-line_in-e in
+    let inv = c.loop-i.invariant in
     let e = c.line_in-e.result in
-    ⊎_elim
-    (λ w. rw (w.6, w.7, w.8) (faces_counted inv (inside (goal.at.loop-i-preserved c).After-line_in-e) e (line (goal.at.loop-i-preserved c).After-line_in-e) w.0.taken (bytes (goal.at.loop-i-preserved c).After-line_in-e) w.1.ensures (sym w.2.ensures ∙ w.3.left)))
-    (⊎_elim
-    (λ w. rw (w.3, w.4, w.5) (link_counted inv (inside (goal.at.loop-i-preserved c).After-line_in-e) e (line (goal.at.loop-i-preserved c).After-line_in-e) w.2.taken))
-    (λ w. rw (w.6, w.7, w.8) (other_counted inv (inside (goal.at.loop-i-preserved c).After-line_in-e) e (line (goal.at.loop-i-preserved c).After-line_in-e) w.0.left w.2.left w.3.ensures (sym w.4.ensures ∙ w.5.left))))
-    c.if-e-eq-FACES.branch
+    elim c.if-e-eq-FACES.branch [
+      then-e-eq-FACES+else-breaks w ↦ rw (w.faces-is, w.degenerate-is, w.links-is)
+          (faces_counted inv (inside l) e (line l) w.if-e-eq-FACES.true (bytes l) w.faces_at-kept.ensures (sym w.breaks.ensures ∙ w.if-breaks.false))
+      | else-e-eq-FACES+then-e-eq-LINK w ↦ rw (w.faces-is, w.degenerate-is, w.links-is)
+          (link_counted inv (inside l) e (line l) w.if-e-eq-LINK.true)
+      | else-e-eq-FACES+else-e-eq-LINK+else-breaks-2 w ↦ rw (w.faces-is, w.degenerate-is, w.links-is)
+          (other_counted inv (inside l) e (line l) w.if-e-eq-FACES.false w.if-e-eq-LINK.false w.fault_of.ensures (sym w.breaks-else-e-eq-LINK.ensures ∙ w.if-breaks-2.false))
+    ]
 
 pub returns : goal.returns
 returns c =
     let a = c.args in
     let p = c.loop-i in
     let b = beside_from c.measures_of-m.result in
-    let all = (
-      sym (ended (lines_from a.lines.now) a.body.now b p.faces p.degenerate p.links a.starts.now p.i c.loop-i-test.false)
-          ∙ p.invariant.says,
-      record { place = omega arith; faces = omega arith; degenerates = omega arith; links = omega arith },
-    ) in record { result = all.0; bounds = all.1 }
+    record {
+      result = sym (ended (lines_from a.lines.now) a.body.now b p.faces p.degenerate p.links a.starts.now p.i c.loop-i-test.false) ∙ p.invariant.says;
+      bounds = record { place = omega arith; faces = omega arith; degenerates = omega arith; links = omega arith };
+    }

@@ -1,6 +1,5 @@
 -- `reader::unjudged::is_judged`: of an unknown node, of one with properties, and of one without.
 use mathlib.Core.Path.{sym, ◌∙◌}
-use borrow.Author.Rules.{rules}
 use Rattle.reader.proofs.Bare.{unknown_unjudged, properties_judged, required_judged}
 use Rattle.reader.proofs.unjudged.is_judged.Goals as goal
 

@@ -1,14 +1,11 @@
 -- `reader::unjudged::skip`: no row is judged up to the one in turn.
 use Prim.Native.Nat.{ℕ, ◌+◌, ◌-◌, ◌*◌, ◌^◌, ◌≤◌, ◌<◌}
-use native.Mathlib.Omega.{arith}
-use mathlib.Core.Path.{◌≡◌, refl, sym, ap, ◌∙◌}
+use mathlib.Core.Path.{◌≡◌}
 use mathlib.Core.Bool.{false}
-use borrow.Author.Rules.{rules}
 use Rattle.table.specs.Table.{row_at}
 use Rattle.table.proofs.Rests.{rest}
 use Rattle.reader.specs.Reading.{own_unknown}
 use Rattle.reader.specs.Private.{is_judged}
-use Rattle.reader.proofs.Bare.{one_more, unknown_passed}
 use Rattle.reader.proofs.unjudged.skip.Given as goal
 
 abbrev pub invariant-loop-i : goal.invariant-loop-i

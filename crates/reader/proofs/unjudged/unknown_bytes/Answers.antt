@@ -1,8 +1,6 @@
 -- `reader::unjudged::unknown_bytes`: by whether the kind is known.
 use native.Mathlib.Omega.{arith}
 use mathlib.Core.Path.{sym, ◌∙◌}
-use borrow.Author.Rules.{rules}
-use borrow.Author.Tests.{not-true, not-false}
 use Rattle.reader.proofs.Bare.{bytes_known, bytes_unknown}
 use Rattle.reader.proofs.unjudged.unknown_bytes.Goals as goal
 

@@ -12,9 +12,6 @@ pub loop-i-init : goal.loop-i-init
 unfolding checksum
 loop-i-init c = (omega arith, refl)
 
-pub overflow_cast-bytes : goal.overflow_cast-bytes
-overflow_cast-bytes c = omega (arith, c.shared_slice_known-in-loop-i-1.given c.loop-i.i)
-
 pub loop-i-preserved : goal.loop-i-preserved
 loop-i-preserved c =
     let l = c.loop-i in

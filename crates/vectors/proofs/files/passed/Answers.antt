@@ -1,13 +1,20 @@
 -- `vectors::files::passed`: the walk, or the reading.
 use borrow.Author.Tests.{eq-eqb, ne_eqb}
-use borrow.Author.Rules.{rules}
 use Rattle.vectors.specs.Files.{file_numbers, file_table}
 use Rattle.vectors.proofs.files.passed.Goals as goal
 
-pub returns-then-function-eq30 : goal.returns-then-function-eq30
-unfolding file_numbers file_table
-returns-then-function-eq30 c = let all = rw (eq-eqb _ _ c.if-function-eq30.true) c.run.ensures.?result_table in record { result = all.0; table = all.1 }
+pub returns-then-function-eq30-clause-result : goal.returns-then-function-eq30-clause-result
+unfolding file_numbers
+returns-then-function-eq30-clause-result c = rw (eq-eqb _ _ c.if-function-eq30.true) c.run.ensures.result
 
-pub returns : goal.returns
-unfolding file_numbers file_table
-returns c = let all = rw (ne_eqb _ _ c.if-function-eq30.false) c.run-2.ensures.?result_table in record { result = all.0; table = all.1 }
+pub returns-then-function-eq30-clause-table : goal.returns-then-function-eq30-clause-table
+unfolding file_table
+returns-then-function-eq30-clause-table c = rw (eq-eqb _ _ c.if-function-eq30.true) c.run.ensures.table
+
+pub returns-clause-result : goal.returns-clause-result
+unfolding file_numbers
+returns-clause-result c = rw (ne_eqb _ _ c.if-function-eq30.false) c.run-2.ensures.result
+
+pub returns-clause-table : goal.returns-clause-table
+unfolding file_table
+returns-clause-table c = rw (ne_eqb _ _ c.if-function-eq30.false) c.run-2.ensures.table

@@ -9,7 +9,7 @@ use Rattle.vectors.proofs.leaves.lent.Goals as goal
 
 pub returns : goal.returns
 returns c =
-    let f = BAD:at_fill_lem.before.before.before.args.f in
+    let f = c.args.f in
     c.one.ensures
     ∙ ap (λ n. answered (n ∷ []))
     (c.checksum.ensures

@@ -1,4 +1,5 @@
 -- `vectors::leaves::run`: each function by its number.
+use native.Mathlib.Omega.{arith}
 use mathlib.Core.Path.{ap, ◌∙◌}
 use mathlib.Core.List.{[], ◌∷◌}
 use borrow.Author.Tests.{ne_eqb}
@@ -26,5 +27,5 @@ returns-in-7 c = rw c.in-7.is (c.one-in-7.ensures ∙ ap (λ n. answered (n ∷ 
 pub returns-in_default : goal.returns-in_default
 unfolding leaf_line
 returns-in_default c =
-    let r = c.in_default.in_default-own.rest in
-    simp (ne_eqb _ _ r.0.0.0.1, ne_eqb _ _ r.0.0.1, ne_eqb _ _ r.0.1, ne_eqb _ _ r.1) c.written.ensures
+    let f = c.args.f.function in
+    simp (ne_eqb f 1 (omega arith), ne_eqb f 2 (omega arith), ne_eqb f 3 (omega arith), ne_eqb f 7 (omega arith)) c.written.ensures

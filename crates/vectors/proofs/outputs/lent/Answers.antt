@@ -2,7 +2,6 @@
 use mathlib.Core.Path.{ap, ◌∙◌}
 use mathlib.Core.List.{[], ◌∷◌}
 use lib.ListN.{length}
-use borrow.Author.Rules.{rules}
 use Rattle.vectors.specs.Answers.{answered, extended}
 use Rattle.vectors.specs.Buffers.{filling, checksum}
 use Rattle.vectors.specs.Outputs.{put_numbers, put_output, into_output}
@@ -12,13 +11,11 @@ use Rattle.vectors.proofs.outputs.lent.Goals as goal
 pub returns : goal.returns
 unfolding into_output
 returns c =
-    let at-start = BAD:at_fill_lem.before.before.before.before.before in
-    let a = at-start.args in
+    let a = c.args in
     let filled = c.fill.ensures in
-    let e = c.put.ensures in
     let out = filling a.f.seed (length a.out.now) in
     joined (put_numbers a.f a.first.now a.second.now out) (checksum (put_output a.f a.first.now a.second.now out) ∷ [])
     (c.push.ensures
-    ∙ ap (λ n. extended c.put.result (n ∷ []))
-    (c.checksum.ensures ∙ ap checksum (e.1 ∙ ap (put_output a.f a.first.now a.second.now) filled)))
-    (e.0 ∙ ap (λ o. answered (put_numbers a.f a.first.now a.second.now o)) filled)
+    ∙ ap (λ n. extended c.put-answer.result (n ∷ []))
+    (c.checksum.ensures ∙ ap checksum (c.put-answer.ensures.output ∙ ap (put_output a.f a.first.now a.second.now) filled)))
+    (c.put-answer.ensures.result ∙ ap (λ o. answered (put_numbers a.f a.first.now a.second.now o)) filled)

@@ -10,4 +10,4 @@ returns-then-bytes-gt65535 c = rw (lt-ltb _ _ c.if-bytes-gt65535.true) c.none.en
 
 pub returns : goal.returns
 unfolding name_line
-returns c = rw (le-ltb _ _ c.if-bytes-gt65535.false) (rw (c.Size-ok.ensures, c.bytes_ok.ensures) at c.truth.ensures)
+returns c = rw (le-ltb _ _ c.if-bytes-gt65535.false) (rw (c.size_ok.ensures, c.bytes_ok.ensures) at c.truth.ensures)

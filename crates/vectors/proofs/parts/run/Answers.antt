@@ -44,7 +44,4 @@ returns-in-17 c = rw c.in-17.is c.index.ensures
 
 pub returns-in_default : goal.returns-in_default
 unfolding part_line
-returns-in_default c =
-    let r = c.in_default.in_default-own.rest in
-    simp (ne_eqb _ _ r.0.0.0.0.0.0.0.1, ne_eqb _ _ r.0.0.0.0.0.0.1, ne_eqb _ _ r.0.0.0.0.0.1, ne_eqb _ _ r.0.0.0.0.1, ne_eqb _ _ r.0.0.0.1, ne_eqb _ _ r.0.0.1, ne_eqb _ _ r.0.1, ne_eqb _ _ r.1)
-    (c.truth-in_default.ensures ∙ ap (λ b. answered (bit b ∷ [])) c.exact.ensures)
+returns-in_default c = let h = c.in_default in ?

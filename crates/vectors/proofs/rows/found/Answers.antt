@@ -15,5 +15,5 @@ returns c =
     let a = c.args in
     let there = lookup_of a.bytes.now a.table.now a.row a.name.now in
     joined (found_numbers there) (checksum (part_of a.bytes.now there) ∷ [])
-    (c.push.ensures ∙ ap (λ n. extended c.place-place.result (n ∷ [])) (c.checksum.ensures ∙ ap checksum (goal.at.returns c).After-data.«data».ensures))
+    (c.push.ensures ∙ ap (λ n. extended c.place-place.result (n ∷ [])) (c.checksum.ensures ∙ ap checksum c.«data».ensures))
     (c.place-place.ensures ∙ ap (λ f. answered (found_numbers f)) c.find.ensures.result)

@@ -13,16 +13,15 @@ use Rattle.vectors.proofs.rows.lent.Goals as goal
 pub returns : goal.returns
 unfolding row_table
 returns c =
-    let at-start = BAD:at-numbers.before.before.before.before.before in
-    let a = at-start.args in
+    let a = c.args in
     let k = a.row in
     let t = numbers_in a.numbers.now (length a.table.now) in
     let new = with_row t k (row_in a.fields.now) in
     let read = c.numbers.ensures in
-    let put = c.put-row.ensures ∙ ap (λ t. with_row t k c.parsed.result) read ∙ ap (with_row t k) c.parsed.ensures in
-    let seen = c.seen.result in
+    let put = c.put_row.ensures ∙ ap (λ t. with_row t k c.parsed.result) read ∙ ap (with_row t k) c.parsed.ensures in
+    let seen = c.seen-seen.result in
     joined (seen_numbers t k) (checksum new ∷ checksum (cleared new) ∷ [])
     (c.push_two.ensures
-    ∙ ap (λ n. extended seen (n ∷ c.numbers_checksum.result ∷ [])) (c.numbers-checksum.ensures ∙ ap checksum put)
+    ∙ ap (λ n. extended seen (n ∷ c.numbers_checksum.result ∷ [])) (c.numbers_checksum-put.ensures ∙ ap checksum put)
     ∙ ap (λ n. extended seen (checksum new ∷ n ∷ [])) (c.numbers_checksum.ensures ∙ ap checksum (c.clear.ensures ∙ ap cleared put)))
-    (c.seen.ensures ∙ ap (λ t. answered (seen_numbers t k)) read)
+    (c.seen-seen.ensures ∙ ap (λ t. answered (seen_numbers t k)) read)

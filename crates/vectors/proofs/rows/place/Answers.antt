@@ -1,7 +1,6 @@
 -- `vectors::rows::place`: where the data lies, or zeros.
 use mathlib.Core.Path.{ap, sym, ◌∙◌}
 use mathlib.Core.List.{[], ◌∷◌}
-use borrow.Author.Rules.{rules}
 use Rattle.lookup.specs.Lookup.{number_of}
 use Rattle.vectors.specs.Answers.{answered}
 use Rattle.vectors.specs.Rows.{places_of}
@@ -10,11 +9,10 @@ use Rattle.vectors.proofs.rows.place.Goals as goal
 pub returns-in-At : goal.returns-in-At
 unfolding places_of
 returns-in-At c =
-    let g = c.found-1.given in
     let found = c.args.found in
     c.four.ensures
-    ∙ ap (λ n. answered (n ∷ 0 ∷ g.0.0 ∷ g.0.1.0 ∷ [])) c.number-number.ensures
-    ∙ ap (λ p. answered (number_of found ∷ 0 ∷ places_of p)) (sym g.1)
+    ∙ ap (λ n. answered (n ∷ 0 ∷ c.in-At.start ∷ c.in-At.end ∷ [])) c.number-number.ensures
+    ∙ ap (λ p. answered (number_of found ∷ 0 ∷ places_of p)) (sym c.in-At.is)
 
 pub returns-in-Refused : goal.returns-in-Refused
 unfolding places_of

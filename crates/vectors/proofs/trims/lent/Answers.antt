@@ -2,7 +2,6 @@
 use mathlib.Core.Path.{ap, ◌∙◌}
 use mathlib.Core.List.{[], ◌∷◌}
 use lib.ListN.{length}
-use borrow.Author.Rules.{rules}
 use Rattle.removal.specs.Trimmer.{trimmed_of, trimmed_table}
 use Rattle.vectors.specs.Answers.{answered, extended}
 use Rattle.vectors.specs.Buffers.{checksum}
@@ -11,17 +10,16 @@ use Rattle.vectors.specs.Trims.{trim_numbers}
 use Rattle.vectors.proofs.Answers.{put_after, joined}
 use Rattle.vectors.proofs.trims.lent.Goals as goal
 
-pub returns : goal.returns
+pub returns-clause-result : goal.returns-clause-result
 unfolding trim_numbers
-returns c =
-    let at-start = BAD:at-trim.before.before.before.before.before.before in
-    let a = at-start.args in
+returns-clause-result c =
+    let a = c.args in
     let room = length a.out.now in
-    let e = c.trim.ensures in
-    let all = (
-      joined (written_numbers (trimmed_of a.file.now a.row a.table.now room)) (checksum (trimmed_table a.file.now a.row a.table.now room) ∷ [])
-          (c.push.ensures ∙ ap (λ n. extended c.with-written.result (n ∷ [])) (c.numbers_checksum.ensures ∙ ap checksum e.1.1))
-          (put_after (written_numbers c.trim.result) c.with-written.ensures c.none.ensures
-          ∙ ap (λ w. answered (written_numbers w)) e.0),
-      e.1.0,
-    ) in record { result = all.0; output = all.1 }
+    let e = c.trim-written.ensures in
+    joined (written_numbers (trimmed_of a.file.now a.row a.table.now room)) (checksum (trimmed_table a.file.now a.row a.table.now room) ∷ [])
+    (c.push.ensures ∙ ap (λ n. extended c.with_written.result (n ∷ [])) (c.numbers_checksum.ensures ∙ ap checksum e.table))
+    (put_after (written_numbers c.trim-written.result) c.with_written.ensures c.none.ensures
+    ∙ ap (λ w. answered (written_numbers w)) e.result)
+
+pub returns-clause-output : goal.returns-clause-output
+returns-clause-output c = c.trim-written.ensures.output

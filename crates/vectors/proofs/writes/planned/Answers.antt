@@ -1,22 +1,26 @@
 -- `vectors::writes::planned`: the writer, or its parts.
 use mathlib.Core.Path.{ap, ◌∙◌}
 use borrow.Author.Tests.{eq-eqb, ne_eqb}
-use borrow.Author.Rules.{rules}
 use Rattle.vectors.specs.Answers.{answered}
 use Rattle.vectors.specs.Writes.{written_numbers, plan_numbers, plan_output}
 use Rattle.vectors.proofs.Answers.{put_after}
 use Rattle.vectors.proofs.writes.planned.Goals as goal
 
-pub returns-then-f-eq34 : goal.returns-then-f-eq34
-unfolding plan_numbers plan_output
-returns-then-f-eq34 c =
-    let e = c.write.ensures.?result_output in
-    let all = rw (eq-eqb _ _ c.if-f-eq34.true) (
-      put_after (written_numbers c.write.result) c.with_written.ensures c.none.ensures
-          ∙ ap (λ w. answered (written_numbers w)) e.0,
-      e.1,
-    ) in record { result = all.0; output = all.1 }
+pub returns-then-f-eq34-clause-result : goal.returns-then-f-eq34-clause-result
+unfolding plan_numbers
+returns-then-f-eq34-clause-result c =
+    rw (eq-eqb _ _ c.if-f-eq34.true)
+    (put_after (written_numbers c.write.result) c.with_written.ensures c.none.ensures
+    ∙ ap (λ w. answered (written_numbers w)) c.write.ensures.result)
 
-pub returns : goal.returns
-unfolding plan_numbers plan_output
-returns c = let all = rw (ne_eqb _ _ c.if-f-eq34.false) c.parts.ensures.?result_output in record { result = all.0; output = all.1 }
+pub returns-then-f-eq34-clause-output : goal.returns-then-f-eq34-clause-output
+unfolding plan_output
+returns-then-f-eq34-clause-output c = rw (eq-eqb _ _ c.if-f-eq34.true) c.write.ensures.output
+
+pub returns-clause-result : goal.returns-clause-result
+unfolding plan_numbers
+returns-clause-result c = rw (ne_eqb _ _ c.if-f-eq34.false) c.parts.ensures.result
+
+pub returns-clause-output : goal.returns-clause-output
+unfolding plan_output
+returns-clause-output c = rw (ne_eqb _ _ c.if-f-eq34.false) c.parts.ensures.output
