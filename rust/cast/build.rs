@@ -1,4 +1,4 @@
-//! Links the static library that `rt staticlib cast` makes.
+//! Links the static library that `tools/build` makes.
 
 use std::{env, path::PathBuf};
 
@@ -9,7 +9,7 @@ fn main() {
     println!("cargo:rerun-if-changed={}", library.display());
     if !library.is_file() {
         panic!(
-            "{} is missing: run 'rt staticlib cast' first",
+            "{} is missing: run 'tools/build' first",
             library.display()
         );
     }

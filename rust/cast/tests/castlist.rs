@@ -30,7 +30,7 @@ fn start_with(input: Stdio, output: Stdio) -> Child {
     let program = project("target/bin/castlist");
     assert!(
         program.is_file(),
-        "{} is missing: run 'rt check castlist' first",
+        "{} is missing: run 'tools/build' first",
         program.display()
     );
     Command::new(program)

@@ -9,11 +9,11 @@ use std::{
 /// Words that a span may have and that the repository does not declare.
 const FOREIGN: [&str; 4] = [
     // Rattle's language, and its words for what a lent buffer holds
-    "pub fn self requires ensures now entry exit",
+    "pub fn self requires ensures now old new",
     // the kit: its command, what a check prints, its `io`
     "rt ci axioms io read_full write_all",
     // the proof library
-    "sets take drop map min getD",
+    "sets take drop map min get_or",
     // bytes, which are no names
     "Z c01",
 ];

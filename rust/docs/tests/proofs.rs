@@ -28,7 +28,7 @@ fn each_citation_of_the_document_is_looked_at() {
     for (i, piece) in pieces {
         if i % 2 == 1 {
             cited += 1;
-            wrong += &format!("`not_{piece}`");
+            wrong += &format!("`nowhere_{piece}`");
         } else {
             wrong += piece;
         }
@@ -46,8 +46,8 @@ fn missing(cites: &str) -> Vec<String> {
 #[test]
 fn what_exists_is_found() {
     let cites = [
-        "`numberAt`, `AreBytes` (`specs/Le.antt`), `proofs/Laws.antt`, `crates/walk/specs`, `Le.antt`",
-        "`r ≡ numberAt 2 bytes at`, `u16_at`, `val-le`, `trimmer::trim` (**gate**, `high_byte_first`)",
+        "`number_at`, `AreBytes` (`specs/Le.antt`), `proofs/Laws.antt`, `crates/walk/specs`, `Le.antt`",
+        "`r ≡ number_at 2 bytes at`, `u16_at`, `val_le`, `trimmer::trim` (**gate**, `high_byte_first`)",
     ];
     assert_eq!(missing(&cites.join("\n")), Vec::<String>::new());
 }
@@ -56,12 +56,12 @@ fn what_exists_is_found() {
 fn what_does_not_exist_is_told() {
     for (cites, told) in [
         (
-            "`numberAt`, `numberAtt`",
-            "line 3: `numberAtt`: nothing declares `numberAtt`",
+            "`number_at`, `number_att`",
+            "line 3: `number_att`: nothing declares `number_att`",
         ),
         (
-            "`r ≡ numberOff 2 bytes at`",
-            "line 3: `r ≡ numberOff 2 bytes at`: nothing declares `numberOff`",
+            "`r ≡ number_off 2 bytes at`",
+            "line 3: `r ≡ number_off 2 bytes at`: nothing declares `number_off`",
         ),
         (
             "\n`trimmer::trimm`",
@@ -76,8 +76,8 @@ fn what_does_not_exist_is_told() {
             "line 3: `crates/lee/specs`: no such file or folder",
         ),
         (
-            "`val-le`, `le` (`specs/Le.antt`)",
-            "line 3: `specs/Le.antt`: `val-le` is not there",
+            "`val_le`, `le` (`specs/Le.antt`)",
+            "line 3: `specs/Le.antt`: `val_le` is not there",
         ),
         (
             "(**gate**, `header_free`)",

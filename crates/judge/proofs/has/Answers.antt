@@ -1,5 +1,5 @@
 -- `judge::has`: the search gives a place before the end.
-use Rattle.std.proofs.Common.{ltb, length, ap, rules}
+use Rattle.std.proofs.Common.{ltb, length, ap}
 use Rattle.judge.proofs.has.Goals as goal
 
 pub returns : goal.returns

@@ -17,7 +17,7 @@ module _ (c : Joined-count-gt-MOST_PROPERTIES) where
       let s = c.args.body.now in
       let k = c.args.count in
       elim c.if-count-gt-MOST_PROPERTIES.branch [
-        then-count-gt-MOST_PROPERTIES w ↦ skim_none s k c.if-count-gt-MOST_PROPERTIES.n w.if-count-gt-MOST_PROPERTIES.true w.n-is
+        | then-count-gt-MOST_PROPERTIES w ↦ skim_none s k c.if-count-gt-MOST_PROPERTIES.n w.if-count-gt-MOST_PROPERTIES.true w.n-is
         | else-count-gt-MOST_PROPERTIES w ↦ skim_all s k c.if-count-gt-MOST_PROPERTIES.n w.if-count-gt-MOST_PROPERTIES.false w.n-is
       ]
 

@@ -1,10 +1,9 @@
 -- `names::block_ok`: what was met, and what the rest says.
-use Prim.Native.Nat.{◌+◌, ◌≤◌, ◌-◌}
+use Prim.Native.Nat.{◌+◌}
 use native.Mathlib.Omega.{arith}
-use mathlib.Core.Path.{◌≡◌, refl, sym, ap, ◌∙◌}
+use mathlib.Core.Path.{refl, ap, ◌∙◌}
 use mathlib.Core.Bool.{◌&&◌}
-use lib.ListN.{length, drop}
-use borrow.Author.Rules.{rules}
+use lib.ListN.{drop}
 use Rattle.names.specs.Names.{bytes_ok}
 use Rattle.names.proofs.Laws.{block_next, block_ended}
 use Rattle.names.proofs.block_ok.Goals as goal

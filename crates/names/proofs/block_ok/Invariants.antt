@@ -1,12 +1,9 @@
 -- `names::block_ok`: what was met, and what the rest says.
-use Prim.Native.Nat.{◌+◌, ◌≤◌, ◌-◌}
-use native.Mathlib.Omega.{arith}
-use mathlib.Core.Path.{◌≡◌, refl, sym, ap, ◌∙◌}
+use Prim.Native.Nat.{◌≤◌, ◌-◌}
+use mathlib.Core.Path.{◌≡◌}
 use mathlib.Core.Bool.{◌&&◌}
 use lib.ListN.{length, drop}
-use borrow.Author.Rules.{rules}
 use Rattle.names.specs.Names.{bytes_ok}
-use Rattle.names.proofs.Laws.{block_next, block_ended}
 use Rattle.names.proofs.block_ok.Given as goal
 
 abbrev pub invariant-loop-i : goal.invariant-loop-i

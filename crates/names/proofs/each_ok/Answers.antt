@@ -1,10 +1,6 @@
 -- `names::each_ok`: what the bytes from i on say is what all say.
-use Prim.Native.Nat.{◌≤◌, ◌-◌}
 use native.Mathlib.Omega.{arith}
-use mathlib.Core.Path.{◌≡◌, refl, sym, ◌∙◌}
-use lib.ListN.{length, drop}
-use borrow.Author.Rules.{rules}
-use Rattle.names.specs.Names.{bytes_ok}
+use mathlib.Core.Path.{refl, sym, ◌∙◌}
 use Rattle.names.proofs.Laws.{bytes_passed, bytes_refused, bytes_ended}
 use Rattle.names.proofs.each_ok.Goals as goal
 

@@ -1,12 +1,8 @@
 -- `names::each_ok`: what the bytes from i on say is what all say.
 use Prim.Native.Nat.{◌≤◌, ◌-◌}
-use native.Mathlib.Omega.{arith}
-use mathlib.Core.Path.{◌≡◌, refl, sym, ◌∙◌}
+use mathlib.Core.Path.{◌≡◌}
 use lib.ListN.{length, drop}
-use borrow.Author.Rules.{rules}
-use borrow.Author.Tests.{not-true, not-false}
 use Rattle.names.specs.Names.{bytes_ok}
-use Rattle.names.proofs.Laws.{bytes_passed, bytes_refused, bytes_ended}
 use Rattle.names.proofs.each_ok.Given as goal
 
 abbrev pub invariant-loop-i : goal.invariant-loop-i

@@ -1,10 +1,8 @@
 -- `names::ends_ok`: the two ends, which have every byte.
 use Prim.Native.Nat.{◌-◌}
-use native.Mathlib.Omega.{arith}
 use mathlib.Core.Path.{sym, ap, ◌∙◌}
 use lib.ListN.{length}
 use lib.Seq.{length-take-le}
-use borrow.Author.Rules.{rules}
 use Rattle.le.proofs.Laws.{rest_drop}
 use Rattle.names.specs.Names.{bytes_ok}
 use Rattle.names.proofs.Laws.{ends_are}

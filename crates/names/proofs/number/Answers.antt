@@ -1,6 +1,5 @@
 -- `names::number`: each refusal by its law, else the digits.
 use mathlib.Core.Path.{sym, ◌∙◌}
-use borrow.Author.Rules.{rules}
 use Rattle.names.proofs.Laws.{number_none, number_long, number_leading, number_read_digits}
 use Rattle.names.proofs.number.Goals as goal
 

@@ -1,10 +1,7 @@
 -- `names::read_digits`: the value so far and the digits from i on give what all give, and the value is below 10 ^ i.
-use Prim.Native.Nat.{◌≤◌, ◌<◌, ◌-◌, ◌^◌}
 use native.Mathlib.Omega.{arith}
-use mathlib.Core.Path.{◌≡◌, refl, sym, ◌∙◌}
-use lib.ListN.{length, drop}
+use mathlib.Core.Path.{refl, sym, ◌∙◌}
 use borrow.Author.Rules.{rules}
-use Rattle.names.specs.Names.{read_digits}
 use Rattle.names.proofs.Laws.{worth, worth_three, decimal_low, decimal_high, decimal_passed, decimal_ended}
 use Rattle.names.proofs.read_digits.Goals as goal
 

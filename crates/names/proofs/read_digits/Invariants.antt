@@ -1,11 +1,8 @@
 -- `names::read_digits`: the value so far and the digits from i on give what all give, and the value is below 10 ^ i.
 use Prim.Native.Nat.{◌≤◌, ◌<◌, ◌-◌, ◌^◌}
-use native.Mathlib.Omega.{arith}
-use mathlib.Core.Path.{◌≡◌, refl, sym, ◌∙◌}
+use mathlib.Core.Path.{◌≡◌}
 use lib.ListN.{length, drop}
-use borrow.Author.Rules.{rules}
 use Rattle.names.specs.Names.{read_digits}
-use Rattle.names.proofs.Laws.{worth, worth_three, decimal_low, decimal_high, decimal_passed, decimal_ended}
 use Rattle.names.proofs.read_digits.Given as goal
 
 abbrev pub invariant-loop-i : goal.invariant-loop-i

@@ -1,11 +1,8 @@
 -- `names::same`: another length, or what the bytes from i on say is what all say.
 use Prim.Native.Nat.{◌≤◌, ◌-◌}
-use native.Mathlib.Omega.{arith}
-use mathlib.Core.Path.{◌≡◌, sym, ◌∙◌}
+use mathlib.Core.Path.{◌≡◌}
 use lib.ListN.{length, drop}
-use borrow.Author.Rules.{rules}
 use Rattle.names.specs.Names.{same}
-use Rattle.names.proofs.Laws.{same_length_lem, same_passed, same_refused, same_ended}
 use Rattle.names.proofs.same.Given as goal
 
 abbrev pub invariant-loop-i : goal.invariant-loop-i

@@ -1,11 +1,8 @@
 -- `names::same_eights`: eight bytes with the same number are passed.
-use Prim.Native.Nat.{◌+◌, ◌≤◌, ◌-◌}
-use native.Mathlib.Omega.{arith}
-use mathlib.Core.Path.{◌≡◌, refl, sym, ◌∙◌}
+use Prim.Native.Nat.{◌≤◌, ◌-◌}
+use mathlib.Core.Path.{◌≡◌}
 use lib.ListN.{length, drop}
-use borrow.Author.Rules.{rules}
 use Rattle.names.specs.Names.{same}
-use Rattle.names.proofs.Laws.{same_block}
 use Rattle.names.proofs.same_eights.Given as goal
 
 abbrev pub invariant-loop-i : goal.invariant-loop-i

@@ -1,8 +1,7 @@
 -- `text::decimal_size`: each turn of the loop is a place, and leaves a tenth.
-use Prim.Native.Nat.{◌+◌, ◌-◌, ◌^◌, ◌≤◌, ◌<◌}
+use Prim.Native.Nat.{◌+◌, ◌-◌}
 use native.Mathlib.Omega.{arith}
 use mathlib.Core.Path.{◌≡◌, ap, ◌∙◌}
-use Rattle.text.specs.Text.{digit_count}
 use Rattle.text.proofs.Laws.{one_digit, more_digits}
 use Rattle.text.proofs.decimal_size.Goals as goal
 

@@ -1,9 +1,7 @@
 -- `text::decimal_size`: each turn of the loop is a place, and leaves a tenth.
 use Prim.Native.Nat.{◌+◌, ◌-◌, ◌^◌, ◌≤◌, ◌<◌}
-use native.Mathlib.Omega.{arith}
-use mathlib.Core.Path.{◌≡◌, ap, ◌∙◌}
+use mathlib.Core.Path.{◌≡◌}
 use Rattle.text.specs.Text.{digit_count}
-use Rattle.text.proofs.Laws.{one_digit, more_digits}
 use Rattle.text.proofs.decimal_size.Given as goal
 
 abbrev pub invariant-loop-rest : goal.invariant-loop-rest

@@ -1,7 +1,6 @@
 -- `text::glyph`.
 use borrow.Author.Tests.{lt-ltb, le-ltb}
 use Rattle.text.specs.Text.{glyph}
-use borrow.Author.Rules.{rules}
 use Rattle.text.proofs.glyph.Goals as goal
 
 pub returns-then-d-lt10 : goal.returns-then-d-lt10

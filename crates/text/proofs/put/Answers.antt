@@ -1,7 +1,6 @@
 -- `text::put`: a label with no digits after it.
 use mathlib.Core.Path.{ap, ◌∙◌}
 use mathlib.Core.List.{append-nil}
-use borrow.Author.Rules.{rules}
 use Rattle.text.specs.Text.{digits, place_after, with_text}
 use Rattle.text.proofs.put.Goals as goal
 

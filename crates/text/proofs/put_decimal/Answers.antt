@@ -1,7 +1,6 @@
 -- `text::put_decimal`: as many digits as the number has.
 use mathlib.Core.Path.{ap, ◌∙◌}
 use mathlib.Core.List.{◌++◌}
-use borrow.Author.Rules.{rules}
 use Rattle.text.specs.Text.{digits, place_after, with_text}
 use Rattle.text.proofs.put_decimal.Goals as goal
 

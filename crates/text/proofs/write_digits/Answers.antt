@@ -1,12 +1,10 @@
 -- `text::write_digits`: the digits from `left` on are written, and `rest` has those before them.
-use Prim.Native.Nat.{◌-◌, ◌≤◌}
 use native.Mathlib.Omega.{arith}
 use native.Mathlib.Nat.{mod-lt}
-use mathlib.Core.Path.{◌≡◌, refl}
-use lib.ListN.{length, length-set}
-use borrow.Author.Rules.{rules}
+use mathlib.Core.Path.{refl}
+use lib.ListN.{length-set}
 use Rattle.text.specs.Text.{digits}
-use Rattle.text.proofs.Laws.{Stored, stored_none, stored_one, stored_all}
+use Rattle.text.proofs.Laws.{stored_none, stored_one, stored_all}
 use Rattle.text.proofs.write_digits.Goals as goal
 
 pub loop-left-init : goal.loop-left-init

@@ -1,12 +1,9 @@
 -- `text::write_digits`: the digits from `left` on are written, and `rest` has those before them.
-use Prim.Native.Nat.{◌-◌, ◌≤◌}
-use native.Mathlib.Omega.{arith}
-use native.Mathlib.Nat.{mod-lt}
-use mathlib.Core.Path.{◌≡◌, refl}
-use lib.ListN.{length, length-set}
-use borrow.Author.Rules.{rules}
+use Prim.Native.Nat.{◌≤◌}
+use mathlib.Core.Path.{◌≡◌}
+use lib.ListN.{length}
 use Rattle.text.specs.Text.{digits}
-use Rattle.text.proofs.Laws.{Stored, stored_none, stored_one, stored_all}
+use Rattle.text.proofs.Laws.{Stored}
 use Rattle.text.proofs.write_digits.Given as goal
 
 abbrev pub invariant-loop-left : goal.invariant-loop-left

@@ -1,5 +1,4 @@
 -- `judge::missing::lacks`: a required property, or a partner.
-use Rattle.std.proofs.Common.{rules}
 use Rattle.judge.specs.ByLine.{lacks_by_line}
 use Rattle.judge.proofs.missing.lacks.Goals as goal
 

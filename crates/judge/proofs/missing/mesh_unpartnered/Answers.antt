@@ -1,5 +1,5 @@
 -- `judge::missing::mesh_unpartnered`: each by its line, and mi only where it is asked for.
-use Rattle.std.proofs.Common.{not, ◌&&◌, sym, ap, ◌∙◌, rules}
+use Rattle.std.proofs.Common.{not, ◌&&◌, sym, ap, ◌∙◌}
 use Rattle.judge.specs.ByLine.{wb_line, wv_line, mi_line, has_number}
 use Rattle.judge.proofs.Presence.{without_weights, with_weights}
 use Rattle.judge.proofs.missing.mesh_unpartnered.Goals as goal

@@ -1,5 +1,5 @@
 -- `judge::missing::unpartnered`: only a mesh has partners.
-use Rattle.std.proofs.Common.{◌∙◌, rules, eq-eqb, ne_eqb}
+use Rattle.std.proofs.Common.{◌∙◌, eq-eqb, ne_eqb}
 use Rattle.judge.proofs.missing.unpartnered.Goals as goal
 
 pub returns-then-kind-ne-MESH : goal.returns-then-kind-ne-MESH

@@ -1,7 +1,6 @@
 -- `judge::places::first_number`: what the numbers from i on give, after i others, is what all give.
-use Rattle.std.proofs.Common.{◌≡◌, ◌+◌, ◌-◌, ◌≤◌, length, drop, sym, ◌∙◌, arith, rules}
+use Rattle.std.proofs.Common.{◌≡◌, ◌+◌, ◌-◌, ◌≤◌, length, drop}
 use Rattle.judge.specs.ByLine.{first_number}
-use Rattle.judge.proofs.Named.{number_found, number_other, number_nowhere}
 use Rattle.judge.proofs.places.first_number.Given as goal
 
 abbrev pub invariant-loop-i : goal.invariant-loop-i

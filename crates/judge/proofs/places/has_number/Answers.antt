@@ -1,5 +1,5 @@
 -- `judge::places::has_number`: its first place is one of them.
-use Rattle.std.proofs.Common.{ltb, length, ap, rules}
+use Rattle.std.proofs.Common.{ltb, length, ap}
 use Rattle.judge.proofs.places.has_number.Goals as goal
 
 pub returns : goal.returns

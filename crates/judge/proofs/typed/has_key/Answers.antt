@@ -1,6 +1,5 @@
 -- `judge::typed::has_key`: what was found and what the keys from i on say is what all say.
-use Rattle.std.proofs.Common.{◌≡◌, ◌-◌, ◌≤◌, ◌||◌, length, drop, refl, ◌∙◌, arith, rules}
-use Rattle.judge.specs.Private.{has_key}
+use Rattle.std.proofs.Common.{refl, ◌∙◌, arith}
 use Rattle.judge.proofs.Typing.{key_next, key_ended}
 use Rattle.judge.proofs.typed.has_key.Goals as goal
 

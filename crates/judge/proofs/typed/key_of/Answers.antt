@@ -1,9 +1,8 @@
 -- `judge::typed::key_of`: what the letters from i on add to the sum is what all but the last give.
-use Rattle.std.proofs.Common.{◌≡◌, ◌+◌, ◌-◌, ◌/◌, ◌≤◌, length, ap, ◌∙◌, arith, rules}
+use Rattle.std.proofs.Common.{◌+◌, ◌-◌, ap, ◌∙◌, arith}
 use Rattle.le.specs.Le.{number_at}
 use Rattle.le.proofs.Laws.{number_at_part}
-use Rattle.judge.specs.Typed.{key_from}
-use Rattle.judge.proofs.Typing.{key_left, key_start, key_step, key_done}
+use Rattle.judge.proofs.Typing.{key_start, key_step, key_done}
 use Rattle.judge.proofs.typed.key_of.Goals as goal
 
 pub loop-i-init : goal.loop-i-init

@@ -1,9 +1,7 @@
 -- `judge::typed::key_of`: what the letters from i on add to the sum is what all but the last give.
-use Rattle.std.proofs.Common.{◌≡◌, ◌+◌, ◌-◌, ◌/◌, ◌≤◌, length, ap, ◌∙◌, arith, rules}
-use Rattle.le.specs.Le.{number_at}
-use Rattle.le.proofs.Laws.{number_at_part}
+use Rattle.std.proofs.Common.{◌≡◌, ◌-◌, ◌/◌, ◌≤◌, length}
 use Rattle.judge.specs.Typed.{key_from}
-use Rattle.judge.proofs.Typing.{key_left, key_start, key_step, key_done}
+use Rattle.judge.proofs.Typing.{key_left}
 use Rattle.judge.proofs.typed.key_of.Given as goal
 
 abbrev pub invariant-loop-i : goal.invariant-loop-i

@@ -1,5 +1,5 @@
 -- `judge::typed::last_letters`: what stands before the name is shifted out.
-use Rattle.std.proofs.Common.{◌+◌, ◌-◌, ◌≤◌, length, ap, ◌∙◌, arith, rules}
+use Rattle.std.proofs.Common.{◌+◌, ◌-◌, ◌≤◌, length, ap, ◌∙◌, arith}
 use Rattle.le.specs.Le.{number_at}
 use Rattle.le.proofs.Laws.{number_at_part}
 use Rattle.judge.proofs.Typing.{name_within, no_letters, some_letters, short_letters}

@@ -1,5 +1,5 @@
 -- `judge::typed::slot_of`: sums and products of the key.
-use Rattle.std.proofs.Common.{◌/◌, ◌%◌, ap, arith, rules}
+use Rattle.std.proofs.Common.{◌/◌, ◌%◌, ap, arith}
 use Rattle.judge.specs.Typed.{slot_of}
 use Rattle.judge.proofs.typed.slot_of.Goals as goal
 

@@ -1,5 +1,5 @@
 -- `judge::typed::typed`: what the properties from i on say, after those before, is what all say.
-use Rattle.std.proofs.Common.{◌≡◌, ℕ, ◌+◌, ◌*◌, ◌<◌, ◌≤◌, map, length, take, sym, ap, ◌∙◌, arith, length-take-le, take_all, w64, Fits}
+use Rattle.std.proofs.Common.{◌≡◌, ◌+◌, ◌*◌, ◌<◌, ◌≤◌, map, length, take, sym, ap, ◌∙◌, arith, length-take-le, take_all, w64, Fits}
 use Rattle.le.proofs.Laws.{length_rest}
 use Rattle.props.specs.Step.{header_at, name_at}
 use Rattle.props.proofs.Header.{header_rest, name_rest}

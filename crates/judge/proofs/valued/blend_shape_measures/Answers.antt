@@ -1,6 +1,5 @@
 -- `judge::valued::blend_shape_measures`: the length of vi.
 use Rattle.judge.specs.ByLine.{beside_by_line}
-use Rattle.std.proofs.Common.{rules}
 use Rattle.judge.proofs.valued.blend_shape_measures.Goals as goal
 
 pub returns : goal.returns

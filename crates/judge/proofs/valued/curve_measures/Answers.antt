@@ -1,6 +1,5 @@
 -- `judge::valued::curve_measures`: the length of kb, and the types that kp wants.
 use Rattle.judge.specs.ByLine.{beside_by_line}
-use Rattle.std.proofs.Common.{rules}
 use Rattle.judge.proofs.valued.curve_measures.Goals as goal
 
 pub returns : goal.returns

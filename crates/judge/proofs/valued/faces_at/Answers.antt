@@ -1,5 +1,5 @@
 -- `judge::valued::faces_at`: a length that three does not divide, or what the scan gives.
-use Rattle.std.proofs.Common.{◌≡◌, ap, ◌∙◌, rules}
+use Rattle.std.proofs.Common.{◌≡◌, ap, ◌∙◌}
 use Rattle.faces.specs.declared.Values.{Values}
 use Rattle.judge.specs.declared.valued.Kept.{Kept}
 use Rattle.judge.specs.Valued.{faces_at, face_fault}

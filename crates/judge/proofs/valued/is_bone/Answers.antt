@@ -1,5 +1,5 @@
 -- `judge::valued::is_bone`: the number at the start of the data.
-use Rattle.std.proofs.Common.{ap, ◌∙◌, rules}
+use Rattle.std.proofs.Common.{ap, ◌∙◌}
 use Rattle.le.specs.Le.{number_at}
 use Rattle.judge.specs.Valued.{signed, parent_ok}
 use Rattle.judge.proofs.valued.is_bone.Goals as goal

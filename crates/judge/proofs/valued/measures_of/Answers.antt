@@ -1,5 +1,5 @@
 -- `judge::valued::measures_of`: each kind by its letters.
-use Rattle.std.proofs.Common.{rules, ne_eqb}
+use Rattle.std.proofs.Common.{ne_eqb}
 use Rattle.judge.specs.ByLine.{beside_by_line}
 use Rattle.judge.proofs.valued.measures_of.Goals as goal
 

@@ -1,5 +1,5 @@
 -- `judge::valued::read_by`: the place that the search of a number gives, or none.
-use Rattle.std.proofs.Common.{get_or, refl, ap, ◌∙◌, rules, le-ltb, lt-ltb}
+use Rattle.std.proofs.Common.{get_or, refl, ap, ◌∙◌, le-ltb, lt-ltb}
 use Rattle.le.specs.Le.{number_at}
 use Rattle.faces.specs.Faces.{width_of}
 use Rattle.judge.specs.Properties.{rest_at}
@@ -20,6 +20,6 @@ returns-then-i-numbers c =
 pub returns : goal.returns
 unfolding length_by_line value_by_line
 returns c = record {
-      length = rw (← c.first_number-i.ensures, le-ltb _ _ c.if-i-numbers.false) refl;
-      value = rw (← c.first_number-i.ensures, le-ltb _ _ c.if-i-numbers.false) refl;
-    }
+  length = rw (← c.first_number-i.ensures, le-ltb _ _ c.if-i-numbers.false) refl;
+  value = rw (← c.first_number-i.ensures, le-ltb _ _ c.if-i-numbers.false) refl;
+}

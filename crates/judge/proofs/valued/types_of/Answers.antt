@@ -1,5 +1,5 @@
 -- `judge::valued::types_of`: the string at the place that the search gives, or none.
-use Rattle.std.proofs.Common.{◌≡◌, sym, ap, rules, le-ltb, lt-ltb}
+use Rattle.std.proofs.Common.{◌≡◌, sym, ap, le-ltb, lt-ltb}
 use Rattle.base.specs.Letters.{letters}
 use Rattle.judge.specs.Properties.{wanted_types}
 use Rattle.judge.specs.ByLine.{types_by_line}

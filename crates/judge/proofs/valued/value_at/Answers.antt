@@ -1,6 +1,6 @@
 -- `judge::valued::value_at`: a width of at most four is read whole.
 use native.Mathlib.Nat.{min-eq_left}
-use Rattle.std.proofs.Common.{ap, ◌∙◌, rules}
+use Rattle.std.proofs.Common.{ap, ◌∙◌}
 use Rattle.le.specs.Le.{number_at}
 use Rattle.faces.specs.Faces.{width_of}
 use Rattle.judge.proofs.valued.value_at.Goals as goal

@@ -1,5 +1,5 @@
 -- `judge::valued::valued`: what was counted and what the properties from i on say is what all say.
-use Rattle.std.proofs.Common.{◌≡◌, ℕ, ◌+◌, ◌-◌, ◌<◌, length, get_or, sym, ap, ◌∙◌, arith, w64, Fits}
+use Rattle.std.proofs.Common.{◌≡◌, ℕ, ◌+◌, ◌<◌, length, get_or, sym, ap, ◌∙◌, arith, w64, Fits}
 use Rattle.le.specs.Le.{AreBytes}
 use Rattle.rules.specs.Packing.{line_of, lines_from}
 use Rattle.judge.specs.declared.Judged.{Judged}
@@ -106,7 +106,7 @@ loop-i-preserved c =
     let inv = c.loop-i.invariant in
     let e = c.line_in-e.result in
     elim c.if-e-eq-FACES.branch [
-      then-e-eq-FACES+else-breaks w ↦ rw (w.faces-is, w.degenerate-is, w.links-is)
+      | then-e-eq-FACES+else-breaks w ↦ rw (w.faces-is, w.degenerate-is, w.links-is)
           (faces_counted inv (inside l) e (line l) w.if-e-eq-FACES.true (bytes l) w.faces_at-kept.ensures (sym w.breaks.ensures ∙ w.if-breaks.false))
       | else-e-eq-FACES+then-e-eq-LINK w ↦ rw (w.faces-is, w.degenerate-is, w.links-is)
           (link_counted inv (inside l) e (line l) w.if-e-eq-LINK.true)

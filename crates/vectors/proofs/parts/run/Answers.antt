@@ -1,4 +1,5 @@
 -- `vectors::parts::run`: each function by its number.
+use native.Mathlib.Omega.{arith}
 use mathlib.Core.Path.{ap, ◌∙◌}
 use mathlib.Core.List.{[], ◌∷◌}
 use borrow.Author.Tests.{ne_eqb}
@@ -44,4 +45,7 @@ returns-in-17 c = rw c.in-17.is c.index.ensures
 
 pub returns-in_default : goal.returns-in_default
 unfolding part_line
-returns-in_default c = let h = c.in_default in ?
+returns-in_default c =
+    let f = c.args.f.function in
+    simp (ne_eqb f 10 (omega arith), ne_eqb f 11 (omega arith), ne_eqb f 12 (omega arith), ne_eqb f 13 (omega arith), ne_eqb f 14 (omega arith), ne_eqb f 15 (omega arith), ne_eqb f 16 (omega arith), ne_eqb f 17 (omega arith))
+    (c.truth-in_default.ensures ∙ ap (λ b. answered (bit b ∷ [])) c.exact.ensures)
