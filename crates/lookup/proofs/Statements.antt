@@ -13,7 +13,7 @@ use Rattle.le.proofs.Laws.{bytes_take, bytes_drop}
 use Rattle.base.proofs.Tests.{by_test}
 use Rattle.table.specs.declared.Row.{Row}
 use Rattle.table.specs.Table.{row_from, has_row, row_at}
-use Rattle.body.specs.Body.{properties, exactly}
+use Rattle.body.specs.Body.{exactly}
 use Rattle.format.specs.Rows.{body_of, outside}
 use Rattle.format.specs.Layout.{Property, InBytes}
 use Rattle.format.proofs.Rows.{not_outside, is_inside, length_body}

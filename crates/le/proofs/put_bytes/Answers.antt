@@ -14,7 +14,6 @@ returns-then-out-at c = let a = c.args in sym (sets_past a.out.now a.at a.bytes.
 pub copy_to-requires : goal.copy_to-requires
 copy_to-requires c = elim c.if-bytes-rest.branch [ then-bytes-rest w ↦ (omega arith, omega arith) | else-bytes-rest w ↦ (omega arith, omega arith) ]
 
--- GONE same_length: same_length c = search rules
 pub returns : goal.returns
 returns c =
     let a = c.args in

@@ -3,7 +3,6 @@ use mathlib.Core.Path.{sym, ap, subst, ◌∙◌}
 use Prim.Native.Nat.{◌≤◌}
 use lib.ListN.{length}
 use Rattle.lookup.specs.Lookup.{part_of, FoundWithin}
-use borrow.Author.Rules.{rules}
 use Rattle.lookup.proofs.data.Goals as goal
 use Rattle.lookup.proofs.data.Goals.{In-At}
 

@@ -12,7 +12,6 @@ use Rattle.lookup.specs.declared.Found.TheVariants.{At}
 use Rattle.lookup.specs.Lookup.{in_body, shifted, lookup_of, FoundWithin}
 use Rattle.lookup.proofs.Laws.{body_within}
 use Rattle.lookup.proofs.Rows.{no_row_lem, beyond, inside, told}
-use borrow.Author.Rules.{rules}
 use Rattle.lookup.proofs.find.Goals as goal
 use Rattle.lookup.proofs.find.Goals.{After-in_body-found}
 

@@ -1,9 +1,8 @@
 -- `plan::is_above`: what is left of the path tells what the whole path tells.
 use native.Mathlib.Omega.{arith}
 use mathlib.Core.Path.{refl}
-use borrow.Author.Rules.{rules}
 use Rattle.plan.specs.Private.{path_at}
-use Rattle.plan.proofs.Paths.{height, Climbing, climbing_small, climbing_found, climbing_next, climbing_ended}
+use Rattle.plan.proofs.Paths.{climbing_small, climbing_found, climbing_next, climbing_ended}
 use Rattle.plan.proofs.is_above.Goals as goal
 
 pub loop-at-init : goal.loop-at-init

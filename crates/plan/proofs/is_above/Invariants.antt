@@ -1,9 +1,6 @@
 -- `plan::is_above`: what is left of the path tells what the whole path tells.
-use native.Mathlib.Omega.{arith}
-use mathlib.Core.Path.{refl}
-use borrow.Author.Rules.{rules}
 use Rattle.plan.specs.Private.{path_at}
-use Rattle.plan.proofs.Paths.{height, Climbing, climbing_small, climbing_found, climbing_next, climbing_ended}
+use Rattle.plan.proofs.Paths.{height, Climbing}
 use Rattle.plan.proofs.is_above.Given as goal
 
 abbrev pub invariant-loop-at : goal.invariant-loop-at

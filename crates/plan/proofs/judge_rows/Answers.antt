@@ -1,13 +1,12 @@
 -- `plan::judge_rows`: what the rest gives is what all rows give, and the path is climbed from where the code says.
-use Prim.Native.Nat.{◌-◌, ◌≤◌, ◌<◌}
+use Prim.Native.Nat.{◌<◌}
 use native.Mathlib.Omega.{arith}
 use mathlib.Core.Path.{◌≡◌, refl, sym, ◌∙◌}
-use borrow.Author.Rules.{rules}
 use Rattle.table.specs.Table.{no_parent, rows_at}
-use Rattle.plan.specs.Plan.{naming, plan_refusal}
-use Rattle.plan.specs.Private.{path_at, Climbs}
+use Rattle.plan.specs.Plan.{naming}
+use Rattle.plan.specs.Private.{path_at}
 use Rattle.plan.proofs.Paths.{climbs_below, path_known, path_unknown}
-use Rattle.plan.proofs.Judging.{right, judged_at, judging_begun, judging_refused, judging_passed, judging_ended}
+use Rattle.plan.proofs.Judging.{right, judging_begun, judging_refused, judging_passed, judging_ended}
 use Rattle.plan.proofs.judge_rows.Goals as goal
 use Rattle.plan.proofs.judge_rows.Goals.{After-row_refusal-number, then-known, else-known}
 
@@ -48,7 +47,7 @@ loop-i-preserved c =
     let ok = right _ _ _ _ (sym c.row_refusal-number.ensures ∙ c.if-number-ne0.false) in (
       omega (arith, c.loop-i-test.true),
       elim c.if-known.branch [
-        then-known w ↦ rw w.from-is (path_known _ _ _ (omega (arith, few turn)) c.row_at-row.ensures ok l.1 (sym c.known-known.ensures ∙ w.if-known.true))
+        | then-known w ↦ rw w.from-is (path_known _ _ _ (omega (arith, few turn)) c.row_at-row.ensures ok l.1 (sym c.known-known.ensures ∙ w.if-known.true))
         | else-known w ↦ rw w.from-is (path_unknown _ _ _ (omega (arith, few turn)) c.row_at-row.ensures ok l.1 (sym c.known-known.ensures ∙ w.if-known.false))
       ],
       sym (judging_passed _ _ _ _ c.loop-i-test.true c.row_at-row.ensures (named turn) c.row_refusal-number.ensures c.if-number-ne0.false) ∙ l.2,

@@ -1,14 +1,10 @@
 -- `plan::judge_rows`: what the rest gives is what all rows give, and the path is climbed from where the code says.
-use Prim.Native.Nat.{◌-◌, ◌≤◌, ◌<◌}
-use native.Mathlib.Omega.{arith}
-use mathlib.Core.Path.{◌≡◌, refl, sym, ◌∙◌}
-use mathlib.Core.Logic.{⊎_elim}
-use borrow.Author.Rules.{rules}
-use Rattle.table.specs.Table.{no_parent, rows_at}
-use Rattle.plan.specs.Plan.{naming, plan_refusal}
+use Prim.Native.Nat.{◌-◌, ◌≤◌}
+use mathlib.Core.Path.{◌≡◌}
+use Rattle.table.specs.Table.{rows_at}
+use Rattle.plan.specs.Plan.{plan_refusal}
 use Rattle.plan.specs.Private.{path_at, Climbs}
-use Rattle.plan.proofs.Paths.{climbs_below, path_known, path_unknown}
-use Rattle.plan.proofs.Judging.{right, judged_at, judging_begun, judging_refused, judging_passed, judging_ended}
+use Rattle.plan.proofs.Judging.{judged_at}
 use Rattle.plan.proofs.judge_rows.Given as goal
 
 abbrev pub invariant-loop-i : goal.invariant-loop-i

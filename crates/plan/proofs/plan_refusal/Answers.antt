@@ -15,7 +15,7 @@ use Rattle.plan.proofs.plan_refusal.Goals.{Joined-rows-lt-MOST_ROWS, then-rows-l
 -- this many rows are judged
 many : (c : Joined-rows-lt-MOST_ROWS) → c.if-rows-lt-MOST_ROWS.n ≡ min c.args.rows 1024
 many c = elim c.if-rows-lt-MOST_ROWS.branch [
-  then-rows-lt-MOST_ROWS w ↦ omega (arith, w.if-rows-lt-MOST_ROWS.true, w.n-is)
+  | then-rows-lt-MOST_ROWS w ↦ omega (arith, w.if-rows-lt-MOST_ROWS.true, w.n-is)
   | else-rows-lt-MOST_ROWS w ↦ omega (arith, w.if-rows-lt-MOST_ROWS.false, w.n-is)
 ]
 

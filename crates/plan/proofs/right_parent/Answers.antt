@@ -1,6 +1,5 @@
 -- `plan::right_parent`: a Root's parent by its number, another's by the path.
 use mathlib.Core.Path.{◌∙◌}
-use borrow.Author.Rules.{rules}
 use Rattle.plan.proofs.Judging.{parent_root, parent_other}
 use Rattle.plan.proofs.right_parent.Goals as goal
 

@@ -2,7 +2,6 @@
 use mathlib.Core.Path.{◌≡◌, sym, ap, ◌∙◌}
 use mathlib.Core.Bool.{true, false}
 use lib.ListN.{length}
-use borrow.Author.Rules.{rules}
 use Rattle.kinds.specs.Kinds.{is_known}
 use Rattle.body.specs.Body.{exactly}
 use Rattle.format.specs.Rows.{body_of, outside}

@@ -1,6 +1,5 @@
 -- `rules::has_name`: as it stands, or with a number.
 use mathlib.Core.Path.{sym, ◌∙◌}
-use borrow.Author.Rules.{rules}
 use Rattle.rules.proofs.Names.{lists_numbered, lists_plain}
 use Rattle.rules.proofs.has_name.Goals as goal
 

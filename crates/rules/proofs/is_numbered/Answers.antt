@@ -1,7 +1,6 @@
 -- `rules::is_numbered`: the bytes that are taken are the name of the line, and the variant is the answer.
 use mathlib.Core.Path.{◌≡◌, sym, ap, ◌∙◌}
 use lib.Seq.{length-take-le}
-use borrow.Author.Rules.{rules}
 use Rattle.names.specs.Names.{number_after}
 use Rattle.rules.specs.Packing.{line_of}
 use Rattle.rules.specs.Rules.{is_number}

@@ -1,7 +1,6 @@
 -- `rules::is_plain`: the bytes that are taken are the name of the line.
 use mathlib.Core.Path.{sym, ap, ◌∙◌}
 use lib.Seq.{length-take-le}
-use borrow.Author.Rules.{rules}
 use Rattle.names.specs.Names.{same}
 use Rattle.rules.proofs.Names.{within, taken}
 use Rattle.rules.proofs.is_plain.Goals as goal

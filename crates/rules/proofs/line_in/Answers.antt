@@ -1,5 +1,4 @@
 -- `rules::line_in`: the entry from its row, or the free one.
-use borrow.Author.Rules.{rules}
 use Rattle.le.specs.Le.{val, number_at}
 use Rattle.base.specs.Letters.{letters}
 use Rattle.rules.proofs.Laws.{row_inside, row_past}

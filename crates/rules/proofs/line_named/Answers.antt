@@ -1,13 +1,11 @@
 -- `rules::line_named`: the place that the lines from i on give is what all give.
-use Prim.Native.Nat.{◌+◌, ◌-◌, ◌≤◌, ◌<◌}
+use Prim.Native.Nat.{◌<◌}
 use native.Mathlib.Omega.{arith}
 use native.Mathlib.Nat.{zero-add}
 use mathlib.Core.Path.{◌≡◌, sym, ap, ◌∙◌}
 use mathlib.Core.List.{[]}
-use lib.ListN.{length, drop, get_or, length-map, get_or-map}
-use borrow.Author.Rules.{rules}
+use lib.ListN.{length, get_or, length-map, get_or-map}
 use Rattle.rules.specs.Packing.{line_of, line_from, lines_from}
-use Rattle.rules.specs.Rules.{find_in}
 use Rattle.rules.proofs.Laws.{find_passed, find_hit, find_ended}
 use Rattle.rules.proofs.line_named.Goals as goal
 use Rattle.rules.proofs.line_named.Goals.{After-has_name}

@@ -1,9 +1,6 @@
 -- `rules::lines_of`: the rows of the kind's span, where it lies among them.
 use native.Mathlib.Omega.{arith}
-use mathlib.Core.Path.{◌≡◌, sym, ap, ◌∙◌}
-use lib.Dec.{leb}
-use lib.ListN.{length, take, drop}
-use borrow.Author.Rules.{rules}
+use lib.ListN.{length}
 use borrow.Author.Tests.{le-leb, lt-leb}
 use Rattle.rules.specs.Rules.{rows_of}
 use Rattle.rules.proofs.lines_of.Goals as goal

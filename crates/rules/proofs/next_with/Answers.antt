@@ -1,13 +1,11 @@
 -- `rules::next_with`: a line with another first letter is passed.
-use Prim.Native.Nat.{◌-◌, ◌≤◌, ◌<◌}
+use Prim.Native.Nat.{◌<◌}
 use native.Mathlib.Omega.{arith}
-use mathlib.Core.Path.{◌≡◌, refl, sym, ap, ◌∙◌}
+use mathlib.Core.Path.{refl, sym, ap, ◌∙◌}
 use mathlib.Core.List.{[]}
 use lib.ListN.{length, length-map, get_or-map}
-use borrow.Author.Rules.{rules}
 use borrow.Author.Tests.{eqb-false}
 use Rattle.rules.specs.Packing.{line_of, line_from, lines_from}
-use Rattle.rules.specs.Private.{Passes}
 use Rattle.rules.proofs.Laws.{find_passed}
 use Rattle.rules.proofs.Names.{neither, lists_other}
 use Rattle.rules.proofs.next_with.Goals as goal

@@ -1,7 +1,6 @@
 -- `rules::one_of`: the rows of each set are the definition's strings, each as its numbers.
 use native.Mathlib.Omega.{arith}
 use mathlib.Core.Path.{sym, ap, ◌∙◌}
-use borrow.Author.Rules.{rules}
 use Rattle.base.specs.Letters.{letters}
 use Rattle.le.specs.Le.{le}
 use Rattle.rules.specs.Packing.{unpacked, strings_of}

@@ -1,13 +1,10 @@
 -- `rules::some_stands`: what the strings from i on say is what all say.
 use Prim.Native.Nat.{◌-◌}
-use native.Mathlib.Omega.{arith}
-use mathlib.Core.Path.{◌≡◌, refl, sym, ◌∙◌}
+use mathlib.Core.Path.{◌≡◌}
 use mathlib.Core.List.{map}
 use lib.ListN.{length, drop}
-use borrow.Author.Rules.{rules}
 use Rattle.rules.specs.Rules.{is_one_of}
 use Rattle.rules.specs.Private.{string_from}
-use Rattle.rules.proofs.Laws.{text_passed, text_hit, text_ended}
 use Rattle.rules.proofs.some_stands.Given as goal
 
 abbrev pub invariant-loop-i : goal.invariant-loop-i

@@ -1,7 +1,6 @@
 -- `rules::stands`: the bytes that are taken are the string.
 use mathlib.Core.Path.{sym, ap, ◌∙◌}
 use lib.Seq.{length-take-le}
-use borrow.Author.Rules.{rules}
 use Rattle.rules.specs.Rules.{is_text}
 use Rattle.rules.proofs.Names.{within, taken}
 use Rattle.rules.proofs.stands.Goals as goal

@@ -1,8 +1,5 @@
 -- `rules::unpack`: three numbers of four bytes, stored one after the other.
 use native.Mathlib.Omega.{arith}
-use mathlib.Core.Path.{◌≡◌}
-use borrow.Author.Rules.{rules}
-use Rattle.rules.specs.Packing.{unpacked}
 use Rattle.rules.proofs.Names.{stored, lettered}
 use Rattle.rules.proofs.unpack.Goals as goal
 

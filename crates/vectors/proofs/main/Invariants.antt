@@ -1,5 +1,4 @@
 -- `vectors::main`: the buffer keeps its length; the number of cases left falls.
-use borrow.Author.Rules.{rules}
 use mathlib.Core.Path.{◌≡◌}
 use lib.ListN.{length}
 use Rattle.vectors.proofs.main.Given as goal

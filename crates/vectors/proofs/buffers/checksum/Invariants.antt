@@ -1,11 +1,8 @@
 -- `vectors::buffers::checksum`: the sum so far, taken on over the rest, is that of the whole.
-use mathlib.Core.Path.{refl, sym, ◌≡◌, ◌∙◌}
-use native.Mathlib.Omega.{arith}
+use mathlib.Core.Path.{◌≡◌}
 use lib.ListN.{length, drop}
-use borrow.Author.Rules.{rules}
-use Prim.Native.Nat.{◌-◌, ◌≤◌, ◌<◌}
+use Prim.Native.Nat.{◌-◌, ◌≤◌}
 use Rattle.vectors.specs.Buffers.{checksum, checksum_from}
-use Rattle.vectors.proofs.Lent.{sum_more, sum_all}
 use Rattle.vectors.proofs.buffers.checksum.Given as goal
 
 abbrev pub invariant-loop-i : goal.invariant-loop-i

@@ -3,9 +3,8 @@ use mathlib.Core.Path.{refl, ap, sym, ◌≡◌, ◌∙◌}
 use mathlib.Core.List.{◌++◌}
 use native.Mathlib.Omega.{arith}
 use lib.ListN.{length, take, length-set}
-use borrow.Author.Rules.{rules}
 use Prim.Native.Nat.{◌+◌, ◌-◌, ◌%◌, ◌≤◌, ◌<◌}
-use Rattle.vectors.specs.Buffers.{rising, filling}
+use Rattle.vectors.specs.Buffers.{rising}
 use Rattle.vectors.proofs.Lent.{stored_more, stored_all, rising_more, rising_none}
 use Rattle.vectors.proofs.buffers.fill.Goals as goal
 

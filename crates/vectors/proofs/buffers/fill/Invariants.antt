@@ -1,12 +1,9 @@
 -- `vectors::buffers::fill`: what is filled, and what is left to fill, are the whole.
-use mathlib.Core.Path.{refl, ap, sym, ◌≡◌, ◌∙◌}
+use mathlib.Core.Path.{◌≡◌}
 use mathlib.Core.List.{◌++◌}
-use native.Mathlib.Omega.{arith}
-use lib.ListN.{length, take, length-set}
-use borrow.Author.Rules.{rules}
-use Prim.Native.Nat.{◌+◌, ◌-◌, ◌%◌, ◌≤◌, ◌<◌}
+use lib.ListN.{length, take}
+use Prim.Native.Nat.{◌-◌, ◌≤◌, ◌<◌}
 use Rattle.vectors.specs.Buffers.{rising, filling}
-use Rattle.vectors.proofs.Lent.{stored_more, stored_all, rising_more, rising_none}
 use Rattle.vectors.proofs.buffers.fill.Given as goal
 
 abbrev pub invariant-loop-i : goal.invariant-loop-i

@@ -3,9 +3,8 @@ use mathlib.Core.Path.{refl, ap, sym, ◌≡◌, ◌∙◌}
 use mathlib.Core.List.{◌∷◌, ◌++◌}
 use native.Mathlib.Omega.{arith}
 use lib.ListN.{length, take, length-set}
-use borrow.Author.Rules.{rules}
 use Prim.Native.Nat.{◌+◌, ◌-◌, ◌≤◌, ◌<◌}
-use Rattle.vectors.specs.Buffers.{numbers_in, numbers_read}
+use Rattle.vectors.specs.Buffers.{numbers_read}
 use Rattle.vectors.proofs.Lent.{stored_more, stored_all, numbers_more, numbers_none}
 use Rattle.vectors.proofs.buffers.numbers.Goals as goal
 

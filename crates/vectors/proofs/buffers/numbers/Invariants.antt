@@ -1,12 +1,9 @@
 -- `vectors::buffers::numbers`: the numbers that are read, and those that are left to read, are the whole.
-use mathlib.Core.Path.{refl, ap, sym, ◌≡◌, ◌∙◌}
-use mathlib.Core.List.{◌∷◌, ◌++◌}
-use native.Mathlib.Omega.{arith}
-use lib.ListN.{length, take, length-set}
-use borrow.Author.Rules.{rules}
-use Prim.Native.Nat.{◌+◌, ◌-◌, ◌≤◌, ◌<◌}
+use mathlib.Core.Path.{◌≡◌}
+use mathlib.Core.List.{◌++◌}
+use lib.ListN.{length, take}
+use Prim.Native.Nat.{◌-◌, ◌≤◌}
 use Rattle.vectors.specs.Buffers.{numbers_in, numbers_read}
-use Rattle.vectors.proofs.Lent.{stored_more, stored_all, numbers_more, numbers_none}
 use Rattle.vectors.proofs.buffers.numbers.Given as goal
 
 abbrev pub invariant-loop-i : goal.invariant-loop-i

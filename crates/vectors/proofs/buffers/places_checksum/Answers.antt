@@ -1,10 +1,9 @@
 -- `vectors::buffers::places_checksum`: the sum so far, taken on over the rest, is that of the whole.
-use mathlib.Core.Path.{refl, sym, ◌≡◌, ◌∙◌}
+use mathlib.Core.Path.{refl, sym, ◌∙◌}
 use native.Mathlib.Omega.{arith}
-use lib.ListN.{length, drop}
-use borrow.Author.Rules.{rules}
-use Prim.Native.Nat.{◌-◌, ◌≤◌, ◌<◌}
-use Rattle.vectors.specs.Buffers.{checksum, checksum_from}
+use lib.ListN.{length}
+use Prim.Native.Nat.{◌≤◌, ◌<◌}
+use Rattle.vectors.specs.Buffers.{checksum}
 use Rattle.vectors.proofs.Lent.{sum_more, sum_all}
 use Rattle.vectors.proofs.buffers.places_checksum.Goals as goal
 

@@ -1,6 +1,5 @@
 -- `vectors::cases::run`: each function by its range.
 use borrow.Author.Tests.{lt-ltb, le-ltb}
-use borrow.Author.Rules.{rules}
 use Rattle.vectors.specs.Cases.{answer_line}
 use Rattle.vectors.proofs.cases.run.Goals as goal
 

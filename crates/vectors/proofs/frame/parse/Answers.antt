@@ -1,5 +1,4 @@
 -- `vectors::frame::parse`: six numbers, as the definition has them.
-use borrow.Author.Rules.{rules}
 use Rattle.vectors.proofs.frame.parse.Goals as goal
 
 pub returns : goal.returns

@@ -1,7 +1,6 @@
 -- `vectors::leaves::lent`: what is filled, and then written to.
 use mathlib.Core.Path.{ap, ◌∙◌}
 use mathlib.Core.List.{[], ◌∷◌}
-use borrow.Author.Rules.{rules}
 use Rattle.vectors.specs.Answers.{answered}
 use Rattle.vectors.specs.Buffers.{checksum}
 use Rattle.vectors.specs.Leaves.{stored}

@@ -1,6 +1,5 @@
 -- `vectors::leaves::store`: each width by its function.
 use borrow.Author.Tests.{eq-eqb, ne_eqb}
-use borrow.Author.Rules.{rules}
 use Rattle.vectors.specs.Leaves.{stored}
 use Rattle.vectors.proofs.leaves.store.Goals as goal
 

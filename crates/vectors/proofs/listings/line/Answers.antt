@@ -2,8 +2,6 @@
 use native.Mathlib.Omega.{arith}
 use Rattle.std.proofs.lemmas.Bool.Decides.{nat_tests}
 use mathlib.Core.Path.{ap, sym}
-use borrow.Author.Tests.{ne_eqb}
-use borrow.Author.Rules.{rules}
 use Rattle.vectors.specs.Listings.{line_in}
 use Rattle.vectors.proofs.listings.line.Goals as goal
 

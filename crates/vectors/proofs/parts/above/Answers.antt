@@ -1,6 +1,5 @@
 -- `vectors::parts::above`: both sides of the definition's test.
 use borrow.Author.Tests.{eq-eqb, ne_eqb}
-use borrow.Author.Rules.{rules}
 use Rattle.vectors.specs.Parts.{parent_of}
 use Rattle.vectors.proofs.parts.above.Goals as goal
 

@@ -1,6 +1,5 @@
 -- `vectors::parts::element`: each case of a size.
 use mathlib.Core.Path.{ap, sym, ◌∙◌}
-use borrow.Author.Rules.{rules}
 use Rattle.vectors.specs.Answers.{answered}
 use Rattle.vectors.specs.Parts.{size_line}
 use Rattle.vectors.proofs.parts.element.Goals as goal

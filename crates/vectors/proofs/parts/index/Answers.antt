@@ -1,7 +1,6 @@
 -- `vectors::parts::index`: the index and the walk's end, and the checksum of the places.
 use mathlib.Core.Path.{ap, ◌∙◌}
 use mathlib.Core.List.{[], ◌∷◌}
-use borrow.Author.Rules.{rules}
 use Rattle.body.specs.Body.{properties, index_of}
 use Rattle.body.specs.declared.Index.{Index}
 use Rattle.body.specs.declared.Passed.{Passed}

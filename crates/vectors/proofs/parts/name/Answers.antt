@@ -1,6 +1,5 @@
 -- `vectors::parts::name`: bytes that are too many are not asked about.
 use borrow.Author.Tests.{lt-ltb, le-ltb}
-use borrow.Author.Rules.{rules}
 use Rattle.vectors.specs.Parts.{name_line}
 use Rattle.vectors.proofs.parts.name.Goals as goal
 

@@ -1,6 +1,5 @@
 -- `vectors::parts::numbered`: each case of a numeral.
 use mathlib.Core.Path.{ap, sym, ◌∙◌}
-use borrow.Author.Rules.{rules}
 use Rattle.vectors.specs.Answers.{answered}
 use Rattle.vectors.specs.Parts.{numeral_line}
 use Rattle.vectors.proofs.parts.numbered.Goals as goal

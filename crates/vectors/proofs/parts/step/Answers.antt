@@ -1,6 +1,5 @@
 -- `vectors::parts::step`: each case of a step.
 use mathlib.Core.Path.{ap, sym, ◌∙◌}
-use borrow.Author.Rules.{rules}
 use Rattle.vectors.specs.Answers.{answered}
 use Rattle.vectors.specs.Parts.{step_line}
 use Rattle.vectors.proofs.parts.step.Goals as goal

@@ -1,6 +1,5 @@
 -- `vectors::reads::accepted`: nine numbers.
 use mathlib.Core.List.{[], ◌∷◌}
-use borrow.Author.Rules.{rules}
 use Rattle.vectors.specs.Files.{reading_numbers}
 use Rattle.vectors.proofs.Answers.{put_after}
 use Rattle.vectors.proofs.reads.accepted.Goals as goal

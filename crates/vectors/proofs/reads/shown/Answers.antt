@@ -1,7 +1,6 @@
 -- `vectors::reads::shown`: an account, or a refusal.
 use mathlib.Core.Path.{ap, sym, ◌∙◌}
 use mathlib.Core.List.{[], ◌∷◌}
-use borrow.Author.Rules.{rules}
 use Rattle.vectors.specs.Answers.{answered}
 use Rattle.vectors.specs.Files.{reading_numbers}
 use Rattle.vectors.proofs.Answers.{put_after}

@@ -1,7 +1,6 @@
 -- `vectors::rows::found`: where the data lies, and its checksum.
 use mathlib.Core.Path.{ap, ◌∙◌}
 use mathlib.Core.List.{[], ◌∷◌}
-use borrow.Author.Rules.{rules}
 use Rattle.lookup.specs.Lookup.{lookup_of, part_of}
 use Rattle.vectors.specs.Answers.{answered, extended}
 use Rattle.vectors.specs.Buffers.{checksum}

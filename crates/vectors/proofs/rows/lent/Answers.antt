@@ -2,7 +2,6 @@
 use mathlib.Core.Path.{ap, ◌∙◌}
 use mathlib.Core.List.{[], ◌∷◌}
 use lib.ListN.{length}
-use borrow.Author.Rules.{rules}
 use Rattle.table.specs.Table.{cleared, with_row}
 use Rattle.vectors.specs.Answers.{answered, extended}
 use Rattle.vectors.specs.Buffers.{numbers_in, checksum}

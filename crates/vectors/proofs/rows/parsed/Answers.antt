@@ -1,5 +1,4 @@
 -- `vectors::rows::parsed`: eight numbers, as the definition has them.
-use borrow.Author.Rules.{rules}
 use Rattle.vectors.proofs.rows.parsed.Goals as goal
 
 pub returns : goal.returns

@@ -1,6 +1,5 @@
 -- `vectors::rows::run`: the table, or the lookup.
 use borrow.Author.Tests.{eq-eqb, ne_eqb}
-use borrow.Author.Rules.{rules}
 use Rattle.vectors.specs.Rows.{row_line}
 use Rattle.vectors.proofs.rows.run.Goals as goal
 

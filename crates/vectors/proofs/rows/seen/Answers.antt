@@ -1,7 +1,6 @@
 -- `vectors::rows::seen`: the row's numbers between two truths.
 use mathlib.Core.Path.{ap, ◌∙◌}
 use mathlib.Core.List.{[], ◌∷◌, ◌++◌}
-use borrow.Author.Rules.{rules}
 use Rattle.table.specs.Table.{fields, has_row, row_at}
 use Rattle.vectors.specs.Answers.{answered, bit}
 use Rattle.vectors.specs.Rows.{seen_numbers}

@@ -1,6 +1,5 @@
 -- `vectors::writes::with_written`: three numbers.
 use mathlib.Core.List.{[], ◌∷◌}
-use borrow.Author.Rules.{rules}
 use Rattle.vectors.proofs.Answers.{put_after}
 use Rattle.vectors.proofs.writes.with_written.Goals as goal
 

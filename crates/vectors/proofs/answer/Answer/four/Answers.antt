@@ -1,6 +1,5 @@
 -- `vectors::answer::Answer::four`: after none.
 use mathlib.Core.List.{[], ◌∷◌}
-use borrow.Author.Rules.{rules}
 use Rattle.vectors.proofs.Answers.{put_after}
 use Rattle.vectors.proofs.answer.Answer.four.Goals as goal
 

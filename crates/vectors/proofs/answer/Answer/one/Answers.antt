@@ -1,6 +1,5 @@
 -- `vectors::answer::Answer::one`: after none.
 use mathlib.Core.List.{[], ◌∷◌}
-use borrow.Author.Rules.{rules}
 use Rattle.vectors.proofs.Answers.{put_after}
 use Rattle.vectors.proofs.answer.Answer.one.Goals as goal
 

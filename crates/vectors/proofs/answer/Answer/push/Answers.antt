@@ -1,5 +1,4 @@
 -- `vectors::answer::Answer::push`: there is room, or there is none.
-use borrow.Author.Rules.{rules}
 use Rattle.vectors.proofs.Answers.{pushed_full, pushed_more}
 use Rattle.vectors.proofs.answer.Answer.push.Goals as goal
 

@@ -1,6 +1,5 @@
 -- `vectors::answer::Answer::push_four`: two and two.
 use mathlib.Core.List.{[], ◌∷◌}
-use borrow.Author.Rules.{rules}
 use Rattle.vectors.proofs.Answers.{put_after}
 use Rattle.vectors.proofs.answer.Answer.push_four.Goals as goal
 

@@ -1,6 +1,5 @@
 -- `vectors::answer::Answer::push_two`: one after the other.
 use mathlib.Core.List.{[], ◌∷◌}
-use borrow.Author.Rules.{rules}
 use Rattle.vectors.proofs.Answers.{put_after}
 use Rattle.vectors.proofs.answer.Answer.push_two.Goals as goal
 

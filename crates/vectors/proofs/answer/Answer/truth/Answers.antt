@@ -1,7 +1,6 @@
 -- `vectors::answer::Answer::truth`: one number.
 use mathlib.Core.Path.{ap, ◌∙◌}
 use mathlib.Core.List.{[], ◌∷◌}
-use borrow.Author.Rules.{rules}
 use Rattle.vectors.specs.Answers.{answered}
 use Rattle.vectors.proofs.answer.Answer.truth.Goals as goal
 
