@@ -1,5 +1,4 @@
 -- `walk::header_at`: six numbers, as the definition has them.
-use borrow.Author.Rules.{rules}
 use Rattle.walk.specs.Walk.{header_at}
 use Rattle.walk.proofs.header_at.Goals as goal
 

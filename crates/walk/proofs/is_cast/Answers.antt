@@ -1,5 +1,4 @@
 -- `walk::is_cast`: the test is the definition's, of the number read.
-use borrow.Author.Rules.{rules}
 use Rattle.walk.proofs.is_cast.Goals as goal
 
 pub returns : goal.returns

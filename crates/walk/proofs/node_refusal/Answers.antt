@@ -1,6 +1,5 @@
 -- `walk::node_refusal`: the definition's tests in their order.
 use mathlib.Core.Path.{sym, ◌∙◌}
-use borrow.Author.Rules.{rules}
 use Rattle.walk.proofs.Cases.{ill, misplaced, rowless, deep, right}
 use Rattle.walk.proofs.node_refusal.Goals as goal
 

@@ -1,7 +1,6 @@
 -- `walk::pass_properties`: none, too many, or a walk over them.
 use native.Mathlib.Omega.{arith}
 use mathlib.Core.Path.{ap}
-use borrow.Author.Rules.{rules}
 use Rattle.body.proofs.Places.{properties_end}
 use Rattle.walk.proofs.Nodes.{passed_none, passed_many, passed_few}
 use Rattle.walk.proofs.pass_properties.Goals as goal

@@ -1,7 +1,6 @@
 -- `walk::put_node`: the row of the header, put.
 use mathlib.Core.Path.{ap, ◌∙◌}
 use Rattle.table.specs.Table.{with_row}
-use borrow.Author.Rules.{rules}
 use Rattle.walk.proofs.Nodes.{row_is}
 use Rattle.walk.proofs.put_node.Goals as goal
 
