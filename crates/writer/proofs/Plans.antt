@@ -13,10 +13,9 @@ use Rattle.base.proofs.Tests.{by_test}
 use Rattle.kinds.specs.Kinds.{root, is_known}
 use Rattle.table.specs.declared.Row.{Row}
 use Rattle.table.specs.Table.{no_parent}
-use Rattle.body.specs.Body.{properties}
 use Rattle.format.proofs.Rows.{not_outside, length_body, part, length_rows}
 use Rattle.format.proofs.Bodies.{exactly_good}
-use Rattle.format.specs.Forest.{end, count, header, encode, file_header, file_of}
+use Rattle.format.specs.Forest.{count, header, encode, file_header, file_of}
 use Rattle.format.specs.Rows.{rows_of, hash_of, body_of, own_bytes}
 use Rattle.base.specs.Lists.{Each}
 use Rattle.format.specs.Layout.{WellFormed, WellFormedFile, Few, InBytes}

@@ -12,7 +12,7 @@ use Rattle.kinds.specs.Kinds.{is_known}
 use Rattle.table.specs.declared.Row.{Row}
 use Rattle.table.specs.declared.Which.TheVariants.{All}
 use Rattle.table.proofs.Counts.{counted_append}
-use Rattle.body.specs.Body.{properties, exactly}
+use Rattle.body.specs.Body.{exactly}
 use Rattle.format.specs.Forest.{Forest, end, known, unknown, count, nodes, header, encode}
 use Rattle.format.specs.Rows.{node_row, rows, body_of, outside}
 use Rattle.base.specs.Lists.{Each}

@@ -1,5 +1,5 @@
 -- Demand 2, second half: write after read, and read after write.
-use Prim.Native.Nat.{ℕ, ◌+◌, ◌-◌, ◌≤◌, ◌<◌}
+use Prim.Native.Nat.{ℕ, ◌≤◌, ◌<◌}
 use native.Mathlib.Omega.{arith}
 use mathlib.Core.Path.{◌≡◌, refl, ap, sym, subst, ◌∙◌}
 use mathlib.Core.Logic.{◌⊎◌, inl, inr}
@@ -12,7 +12,7 @@ use Rattle.kinds.specs.declared.Parent.TheVariants.{None}
 use Rattle.table.specs.declared.Row.{Row}
 use Rattle.table.specs.Table.{no_parent, has_room, rows_at, row_count, first_rows, flat, filled}
 use Rattle.table.proofs.Plans.{rows_filled, first_filled, count_flat, plan_flat, rows_flat}
-use Rattle.format.specs.Forest.{Forest, count, nodes, encode, file_header, file_of}
+use Rattle.format.specs.Forest.{Forest, count, encode, file_header, file_of}
 use Rattle.format.specs.Rows.{rows_of, body_of}
 use Rattle.base.specs.Lists.{Each}
 use Rattle.format.specs.Layout.{Few}

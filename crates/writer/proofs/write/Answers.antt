@@ -2,8 +2,6 @@
 use native.Mathlib.Omega.{arith}
 use mathlib.Core.Path.{sym, ◌∙◌}
 use Rattle.writer.proofs.Writing.{no_plan_lem, bad_row, emitted}
-use borrow.Author.Rules.{rules}
-use borrow.Author.Tests.{not-true, not-false}
 use Rattle.writer.proofs.write.Goals as goal
 
 pub returns-then-not-is_plan : goal.returns-then-not-is_plan
