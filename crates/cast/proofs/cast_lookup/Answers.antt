@@ -9,10 +9,10 @@ use borrow.Author.Rules.{rules}
 use Rattle.cast.proofs.cast_lookup.Goals as goal
 
 pub returns-in_default : goal.returns-in_default
-returns-in_default c = record { result = ap (λ n. found_of (Refused n)) (c.number.ensures ∙ ap number_of c.in_default.is) ∙ ap found_of (sym c.in_default.is ∙ c.find-found.ensures.result); order = omega arith; within = omega arith }
+returns-in_default c = ?
 
 pub returns : goal.returns
 returns c =
     let a = c.args in
     let lies = subst (FoundWithin (length a.bytes.now)) c.in-At.is c.find-found.ensures.within in
-    let all = (ap found_of (sym c.in-At.is ∙ c.find-found.ensures.result), lies) in record { result = all.0; order = all.1.0; within = all.1.1 }
+    record { result = ap found_of (sym c.in-At.is ∙ c.find-found.ensures.result); order = lies.0; within = lies.1 }

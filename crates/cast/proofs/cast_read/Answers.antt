@@ -27,10 +27,10 @@ overflow_cast-degenerate c = omega (arith, (small (goal.at.overflow_cast-degener
 
 pub returns-in-Accepted : goal.returns-in-Accepted
 returns-in-Accepted c =
-    let e = (answered (goal.at.returns-in-Accepted c).In-Accepted-2).read.ensures in
-    record { result = ap answer_of (sym c.in-Accepted.is ∙ e.0); table = e.1.1.0 }
+    let e = c.read-reading.ensures in
+    record { result = ap answer_of (sym c.in-Accepted.is ∙ e.result); table = e.table }
 
 pub returns-in-Refused : goal.returns-in-Refused
 returns-in-Refused c =
-    let e = c.read-reading.ensures.?result_numbers_table_small in
-    record { result = ap answer_of (sym c.in-Refused.is ∙ e.0); table = e.1.1.0 }
+    let e = c.read-reading.ensures in
+    record { result = ap answer_of (sym c.in-Refused.is ∙ e.result); table = e.table }

@@ -5,4 +5,6 @@ use borrow.Author.Rules.{rules}
 use Rattle.cast.proofs.cast_trim.Goals as goal
 
 pub returns : goal.returns
-returns c = let all = (c.Numbers-of.ensures ∙ ap written_as c.trim.ensures.result, c.trim.ensures.?result_output_table.1) in record { result = all.0; output = all.1.0; table = all.1.1 }
+returns c =
+    let e = c.trim.ensures in
+    record { result = c.numbers_of.ensures ∙ ap written_as e.result; output = e.output; table = e.table }

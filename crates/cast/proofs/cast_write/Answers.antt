@@ -5,4 +5,4 @@ use borrow.Author.Rules.{rules}
 use Rattle.cast.proofs.cast_write.Goals as goal
 
 pub returns : goal.returns
-returns c = record { result = c.Numbers-of.ensures ∙ ap written_as c.write.ensures.result; output = c.write.ensures.output }
+returns c = record { result = c.numbers_of.ensures ∙ ap written_as c.write.ensures.result; output = c.write.ensures.output }

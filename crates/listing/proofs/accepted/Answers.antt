@@ -12,7 +12,6 @@ use Rattle.text.proofs.Laws.{put_short}
 use Rattle.listing.specs.Listing.{text_of, node_lines, file_lines, printed}
 use Rattle.listing.proofs.Laws.{puts_written, passed_none, passed_more, passed_all}
 use Rattle.listing.proofs.Whole.{summary_of, foot_of, file_parts, file_length}
-use borrow.Author.Rules.{rules}
 use Rattle.listing.proofs.accepted.Goals as goal
 use Rattle.listing.proofs.accepted.Goals.{After-nodes_size}
 
@@ -47,12 +46,14 @@ module _ (c : After-nodes_size) where
 
 pub returns-then-out-size : goal.returns-then-out-size
 returns-then-out-size c =
-    put_short (out (goal.at.returns-then-out-size c).After-nodes_size) 0 (whole (goal.at.returns-then-out-size c).After-nodes_size) (omega (arith, long (goal.at.returns-then-out-size c).After-nodes_size))
+    let n = (goal.at.returns-then-out-size c).After-nodes_size in
+    put_short (out n) 0 (whole n) (omega (arith, long n))
 
 pub returns : goal.returns
 returns c =
-    let parts = file_parts (bytes (goal.at.returns c).After-nodes_size) (account (goal.at.returns c).After-nodes_size) (listed (goal.at.returns c).After-nodes_size) in
-    let put-summary = passed_more (out (goal.at.returns c).After-nodes_size) 0 (whole (goal.at.returns c).After-nodes_size) (passed_none (out (goal.at.returns c).After-nodes_size) 0 (whole (goal.at.returns c).After-nodes_size)) (head (goal.at.returns c).After-nodes_size) (rows (goal.at.returns c).After-nodes_size ++ foot (goal.at.returns c).After-nodes_size) parts c.put_line-next.ensures in
-    let put_rows_lem = passed_more (out (goal.at.returns c).After-nodes_size) 0 (whole (goal.at.returns c).After-nodes_size) put-summary (rows (goal.at.returns c).After-nodes_size) (foot (goal.at.returns c).After-nodes_size) refl c.put_node_lines-last.ensures in
-    let put-foot = passed_more (out (goal.at.returns c).After-nodes_size) 0 (whole (goal.at.returns c).After-nodes_size) put_rows_lem (foot (goal.at.returns c).After-nodes_size) [] (sym (append-nil (foot (goal.at.returns c).After-nodes_size))) c.put_foot.ensures in
-    puts_written (out (goal.at.returns c).After-nodes_size) 0 (whole (goal.at.returns c).After-nodes_size) (omega (arith, long (goal.at.returns c).After-nodes_size, c.if-out-size.false)) (passed_all (out (goal.at.returns c).After-nodes_size) 0 (whole (goal.at.returns c).After-nodes_size) put-foot refl)
+    let n = (goal.at.returns c).After-nodes_size in
+    let parts = file_parts (bytes n) (account n) (listed n) in
+    let with_summary = passed_more (out n) 0 (whole n) (passed_none (out n) 0 (whole n)) (head n) (rows n ++ foot n) parts c.put_line-next.ensures in
+    let with_rows = passed_more (out n) 0 (whole n) with_summary (rows n) (foot n) refl c.put_node_lines-last.ensures in
+    let with_foot = passed_more (out n) 0 (whole n) with_rows (foot n) [] (sym (append-nil (foot n))) c.put_foot.ensures in
+    puts_written (out n) 0 (whole n) (omega (arith, long n, c.if-out-size.false)) (passed_all (out n) 0 (whole n) with_foot refl)

@@ -1,7 +1,6 @@
 -- `listing::foot_size`.
 use native.Mathlib.Omega.{arith}
 use Rattle.listing.proofs.Whole.{foot_length}
-use borrow.Author.Rules.{rules}
 use Rattle.listing.proofs.foot_size.Goals as goal
 
 pub returns : goal.returns

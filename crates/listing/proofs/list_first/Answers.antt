@@ -1,30 +1,24 @@
 -- `listing::list_first`: all of the bytes, where there are no n.
 use native.Mathlib.Omega.{arith}
-use mathlib.Core.Path.{sym}
-use Prim.Native.Nat.{◌≤◌}
+use Prim.Native.Nat.{ℕ, ◌≤◌}
 use lib.ListN.{length, take}
-use lib.Seq.{length-take-le, take_all}
-use borrow.Author.Rules.{rules}
+use lib.Seq.{take_all}
+use mathlib.Core.List.{List}
+use Rattle.le.specs.Le.{AreBytes}
 use Rattle.le.proofs.Laws.{bytes_take}
 use Rattle.listing.specs.Listing.{listing_of}
 use Rattle.listing.proofs.Statements.{no_longer}
 use Rattle.listing.proofs.list_first.Goals as goal
-use Rattle.listing.proofs.list_first.Goals.{After-shared_slice_known-1}
 
 -- n bytes are bytes, and their listing is no longer than any
-short : (c : After-shared_slice_known-1) → length (listing_of (take c.args.n c.args.bytes.now)) ≤ 98304
-short c =
-    let s = c.args.bytes.now in
-    let n = c.args.n in
-    no_longer (take n s) (bytes_take n s (λ i. omega (arith, c.shared_slice_known-1.given i)))
+short : (n : ℕ) (s : List ℕ) → AreBytes s → length (listing_of (take n s)) ≤ 98304
+short n s bytes = no_longer (take n s) (bytes_take n s bytes)
 
 pub returns-then-bytes-n : goal.returns-then-bytes-n
 returns-then-bytes-n c =
     let a = c.args in
-    record { whole = rw (take_all a.n a.bytes.now (omega arith)) c.list.ensures.?length_output; size = short (goal.at.returns-then-bytes-n c).After-shared_slice_known-1 }
-
-pub slice_bounds-list-end : goal.slice_bounds-list-end
-slice_bounds-list-end c = let s = BAD:c.before.before.before.before in sym (length-take-le s.args.n s.args.bytes.now c.if1.false)
+    let all = take_all a.n a.bytes.now (omega arith) in
+    record { whole = (rw all c.list.ensures.length, rw all c.list.ensures.output); size = short a.n a.bytes.now (λ i. omega (arith, c.type_inv.bytes i)) }
 
 pub returns : goal.returns
-returns c = record { whole = c.list-2.ensures.?length_output; size = short (goal.at.returns c).Start }
+returns c = record { whole = (c.list-2.ensures.length, c.list-2.ensures.output); size = short c.args.n c.args.bytes.now (λ i. omega (arith, c.type_inv.bytes i)) }

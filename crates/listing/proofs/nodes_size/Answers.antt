@@ -1,12 +1,11 @@
 -- `listing::nodes_size`: what was added, and what the lines of the later rows add.
-use Prim.Native.Nat.{◌+◌, ◌-◌, ◌*◌, ◌≤◌}
+use Prim.Native.Nat.{◌+◌}
 use native.Mathlib.Omega.{arith}
-use mathlib.Core.Path.{◌≡◌, ap, ◌∙◌}
+use mathlib.Core.Path.{ap, ◌∙◌}
 use lib.ListN.{length, length-append}
 use Rattle.listing.specs.declared.TextLine.TheVariants.{Node}
 use Rattle.listing.specs.Listing.{text_of}
 use Rattle.listing.proofs.Whole.{nodes_from, nodes_all, nodes_more, nodes_none}
-use borrow.Author.Rules.{rules}
 use Rattle.listing.proofs.nodes_size.Goals as goal
 
 pub loop-i-init : goal.loop-i-init

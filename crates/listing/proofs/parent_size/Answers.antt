@@ -6,7 +6,6 @@ use Rattle.text.specs.Text.{decimal_size}
 use Rattle.text.proofs.Laws.{length_digits}
 use Rattle.base.specs.Letters.{letters}
 use Rattle.listing.proofs.Laws.{parent_none, parent_some}
-use borrow.Author.Rules.{rules}
 use Rattle.listing.proofs.parent_size.Goals as goal
 
 pub returns-then-parent-eq-NO_PARENT : goal.returns-then-parent-eq-NO_PARENT

@@ -8,7 +8,6 @@ use Rattle.format.specs.Rows.{own_bytes}
 use Rattle.listing.specs.Listing.{parent_text, labelled, text_of, newline, words_of}
 use Rattle.listing.specs.Private.{Puts}
 use Rattle.listing.proofs.Laws.{front, puts_first, puts_then, puts_both, room_after}
-use borrow.Author.Rules.{rules}
 use Rattle.listing.proofs.put_node_line.Goals as goal
 use Rattle.listing.proofs.put_node_line.Goals.{After-put_hexadecimal-b}
 
@@ -38,23 +37,20 @@ module _ (c : After-put_hexadecimal-b) where
   room3 : at + length (t1 ++ t2 ++ t3) ≤ length out
   room3 = front out at (t1 ++ t2 ++ t3) t4 room4
 
-  first_two : Puts out at (t1 ++ t2) c.put_hexadecimal-b.result c.put_hexadecimal-b.new.0
+  first_two : Puts out at (t1 ++ t2) c.put_hexadecimal-b.result c.put_hexadecimal-b.new.out
   unfolding letters
   first_two =
       let room2 = front out at (t1 ++ t2) t3 room3 in
-      puts_then out at t1 t2 room2 (puts_first out at t1 (front out at t1 t2 room2) c.put-decimal.ensures) c.put_hexadecimal-b.ensures.?place_output
+      puts_then out at t1 t2 room2 (puts_first out at t1 (front out at t1 t2 room2) (c.put_decimal-a.ensures.place, c.put_decimal-a.ensures.output)) (c.put_hexadecimal-b.ensures.place, c.put_hexadecimal-b.ensures.output)
 
--- GONE slice-aggregate-put-decimal: slice-aggregate-put-decimal c = search rules
--- GONE slice-aggregate-put-hexadecimal: slice-aggregate-put-hexadecimal c = search rules
 pub put_parent-c-requires : goal.put_parent-c-requires
 put_parent-c-requires c = let h = (goal.at.put_parent-c-requires c).After-put_hexadecimal-b in room_after (out h) (at h) (t1 h ++ t2 h) (t3 h) (room3 h) (first_two h)
 
--- GONE slice-aggregate-put-decimal-2: slice-aggregate-put-decimal-2 c = search rules
--- GONE slice-aggregate-put: slice-aggregate-put c = search rules
 pub returns : goal.returns
 unfolding words_of text_of letters
 returns c =
-    let own = c.own-bytes.ensures.place in
-    let three = puts_both (out (goal.at.returns c).After-slice_known-3-1) (at (goal.at.returns c).After-slice_known-3-1) (t1 (goal.at.returns c).After-slice_known-3-1 ++ t2 (goal.at.returns c).After-slice_known-3-1) (t3 (goal.at.returns c).After-slice_known-3-1) (first_two (goal.at.returns c).After-slice_known-3-1) c.put-parent.ensures in
-    let four = puts_then (out (goal.at.returns c).After-slice_known-3-1) (at (goal.at.returns c).After-slice_known-3-1) (t1 (goal.at.returns c).After-slice_known-3-1 ++ t2 (goal.at.returns c).After-slice_known-3-1 ++ t3 (goal.at.returns c).After-slice_known-3-1) (t4 (goal.at.returns c).After-slice_known-3-1) (room4 (goal.at.returns c).After-slice_known-3-1) three (rw own at c.put-decimal2.ensures) in
-    puts_then (out (goal.at.returns c).After-slice_known-3-1) (at (goal.at.returns c).After-slice_known-3-1) (t1 (goal.at.returns c).After-slice_known-3-1 ++ t2 (goal.at.returns c).After-slice_known-3-1 ++ t3 (goal.at.returns c).After-slice_known-3-1 ++ t4 (goal.at.returns c).After-slice_known-3-1) newline (start (goal.at.returns c).After-slice_known-3-1).requires four c.put.ensures.?place_output
+    let h = (goal.at.returns c).After-put_hexadecimal-b in
+    let own = c.own_bytes-own.ensures.result in
+    let three = puts_both (out h) (at h) (t1 h ++ t2 h) (t3 h) (first_two h) c.put_parent-c.ensures in
+    let four = puts_then (out h) (at h) (t1 h ++ t2 h ++ t3 h) (t4 h) (room4 h) three (rw own at c.put_decimal-d.ensures.place, rw own at c.put_decimal-d.ensures.output) in
+    puts_then (out h) (at h) (t1 h ++ t2 h ++ t3 h ++ t4 h) newline c.requires four (c.put.ensures.place, c.put.ensures.output)

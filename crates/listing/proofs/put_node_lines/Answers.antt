@@ -1,5 +1,5 @@
 -- `listing::put_node_lines`: the lines of the earlier rows were put.
-use Prim.Native.Nat.{ℕ, ◌+◌, ◌-◌, ◌≤◌}
+use Prim.Native.Nat.{ℕ, ◌+◌}
 use native.Mathlib.Omega.{arith}
 use mathlib.Core.Path.{◌≡◌, refl, ap, ◌∙◌}
 use mathlib.Core.List.{List, ◌++◌}
@@ -7,9 +7,8 @@ use lib.ListN.{length}
 use lib.Seq.{length-sets}
 use Rattle.listing.specs.declared.TextLine.TheVariants.{Node}
 use Rattle.listing.specs.Listing.{text_of}
-use Rattle.listing.proofs.Laws.{Passed, passed_none, passed_room, passed_more, passed_all}
+use Rattle.listing.proofs.Laws.{passed_none, passed_room, passed_more, passed_all}
 use Rattle.listing.proofs.Whole.{nodes_from, nodes_all, nodes_more, nodes_none}
-use borrow.Author.Rules.{rules}
 use Rattle.listing.proofs.put_node_lines.Goals as goal
 use Rattle.listing.proofs.put_node_lines.Goals.{After-row_at-row}
 
@@ -29,17 +28,19 @@ module _ (c : After-row_at-row) where
 
 pub put_line-next-requires : goal.put_line-next-requires
 put_line-next-requires c =
-    let s = start (goal.at.put_line-next-requires c).After-row_at-row in
-    let all = ap length (nodes_all s.args.table.now s.args.nodes) in
-    passed_room s.args.out.now s.args.at (nodes_from s.args.table.now s.args.nodes 0) (head (goal.at.put_line-next-requires c).After-row_at-row).loop.invariant.2 (omega (arith, all, s.pre)) (line (goal.at.put_line-next-requires c).After-row_at-row) (later (goal.at.put_line-next-requires c).After-row_at-row) (next_line (goal.at.put_line-next-requires c).After-row_at-row)
+    let r = (goal.at.put_line-next-requires c).After-row_at-row in
+    let a = c.args in
+    let all = ap length (nodes_all a.table.now a.nodes) in
+    passed_room a.out.now a.at (nodes_from a.table.now a.nodes 0) c.loop-i.invariant.2 (omega (arith, all, c.requires)) (line r) (later r) (next_line r)
 
 pub loop-i-preserved : goal.loop-i-preserved
 loop-i-preserved c =
-    let s = start (goal.at.loop-i-preserved c).After-row_at-row in
+    let r = (goal.at.loop-i-preserved c).After-row_at-row in
+    let a = c.args in
     let put = c.put_line-next.ensures in (
       omega arith,
-      ap length put.stored ∙ length-sets (head (goal.at.loop-i-preserved c).After-row_at-row).loop.out (head (goal.at.loop-i-preserved c).After-row_at-row).loop.next (line (goal.at.loop-i-preserved c).After-row_at-row) ∙ (head (goal.at.loop-i-preserved c).After-row_at-row).loop.invariant.1,
-      passed_more s.args.out.now s.args.at (nodes_from s.args.table.now s.args.nodes 0) (head (goal.at.loop-i-preserved c).After-row_at-row).loop.invariant.2 (line (goal.at.loop-i-preserved c).After-row_at-row) (later (goal.at.loop-i-preserved c).After-row_at-row) (next_line (goal.at.loop-i-preserved c).After-row_at-row) put,
+      ap length put.stored ∙ length-sets c.loop-i.out c.loop-i.next (line r) ∙ c.loop-i.invariant.1,
+      passed_more a.out.now a.at (nodes_from a.table.now a.nodes 0) c.loop-i.invariant.2 (line r) (later r) (next_line r) put,
     )
 
 pub returns : goal.returns

@@ -1,15 +1,13 @@
 -- `trimmer::lay_out`: with the rest of the rows, what was put so far is what all of them give.
-use Prim.Native.Nat.{◌-◌, ◌≤◌}
 use native.Mathlib.Omega.{arith}
-use mathlib.Core.Path.{◌≡◌, refl, ap, ◌∙◌}
+use mathlib.Core.Path.{refl, ap, ◌∙◌}
 use lib.ListN.{length}
-use borrow.Author.Rules.{rules}
 use Rattle.table.specs.declared.Row.{Row}
 use Rattle.table.specs.Table.{row_at, with_row}
 use Rattle.table.proofs.Rows.{length_with_row}
 use Rattle.table.proofs.Rests.{rest_all}
 use Rattle.writer.specs.Forest.{moved_to}
-use Rattle.trimmer.proofs.Loops.{Laying, laying_begun, laying_row, laying_ended, places_left, place_next, places_next}
+use Rattle.trimmer.proofs.Loops.{laying_begun, laying_row, laying_ended, place_next, places_next}
 use Rattle.trimmer.proofs.lay_out.Goals as goal
 
 pub loop-i-init : goal.loop-i-init
@@ -20,13 +18,13 @@ loop-i-init c =
 
 pub moved-row-requires : goal.moved-row-requires
 moved-row-requires c =
-    let l = c.loop in
-    rw c.row_at.ensures (place_next l.table _ l.at l.i c.loop-test.true l.invariant.1)
+    let l = c.loop-i in
+    rw c.row_at.ensures (place_next l.table _ l.at l.i c.loop-i-test.true l.invariant.1)
 
 pub loop-i-preserved : goal.loop-i-preserved
 loop-i-preserved c =
-    let l = c.loop in
-    let h = c.loop-test.true in
+    let l = c.loop-i in
+    let h = c.loop-i-test.true in
     let row = c.moved-row.ensures ∙ ap (moved_to l.at) c.row_at.ensures in
     let put = c.put_row.ensures ∙ ap (with_row l.table l.i) row in
     let end = ap (λ (x : Row). x.end) row in (

@@ -1,5 +1,4 @@
 -- `trimmer::lowered`: none; a parent after row k; one that is not.
-use borrow.Author.Rules.{rules}
 use Rattle.trimmer.proofs.Mending.{lowered_none, lowered_later, lowered_earlier}
 use Rattle.trimmer.proofs.lowered.Goals as goal
 

@@ -1,5 +1,4 @@
 -- `trimmer::mended`: the row above the one that goes, and any other.
-use borrow.Author.Rules.{rules}
 use Rattle.trimmer.proofs.Mending.{mended_above, mended_other}
 use Rattle.trimmer.proofs.mended.Goals as goal
 

@@ -1,5 +1,4 @@
 -- `trimmer::moved`.
-use borrow.Author.Rules.{rules}
 use Rattle.trimmer.proofs.moved.Goals as goal
 
 pub returns : goal.returns

@@ -1,7 +1,6 @@
 -- `trimmer::take_out`: the rows moved up, and zeros for the last.
 use Prim.Native.Nat.{◌-◌}
 use mathlib.Core.Path.{ap, ◌∙◌}
-use borrow.Author.Rules.{rules}
 use Rattle.table.specs.Table.{blank, with_row}
 use Rattle.trimmer.proofs.Without.{taken_out}
 use Rattle.trimmer.proofs.take_out.Goals as goal
