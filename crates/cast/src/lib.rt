@@ -122,12 +122,7 @@ pub fn cast_write(plan: &[u32], source: &[u8], flags: u32, out: &mut [u8]) -> Ca
 }
 
 // Writes a file without the node of a row, whose kind must be unknown, and puts the new file's rows into the table.
-pub fn cast_trim(
-    file: &[u8],
-    row: usize,
-    table: &mut [u32],
-    out: &mut [u8],
-) -> CastWritten
+pub fn cast_trim(file: &[u8], row: usize, table: &mut [u32], out: &mut [u8]) -> CastWritten
     ensures result { result ≡ written_as (trimmed_of file.now row table.old (length out.old)) }
     ensures output { out.new ≡ trimmed_output file.now row table.old out.old }
     ensures table { table.new ≡ trimmed_table file.now row table.old (length out.old) }

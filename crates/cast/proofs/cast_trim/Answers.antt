@@ -1,7 +1,6 @@
 -- `cast::cast_trim`: the answer of `trimmer::trim`, in numbers.
 use mathlib.Core.Path.{ap, ◌∙◌}
 use Rattle.cast.specs.Cast.{written_as}
-use borrow.Author.Rules.{rules}
 use Rattle.cast.proofs.cast_trim.Goals as goal
 
 pub returns : goal.returns

@@ -1,7 +1,6 @@
 -- `cast::cast_write`: the answer of `writer::write`, in numbers.
 use mathlib.Core.Path.{ap, ◌∙◌}
 use Rattle.cast.specs.Cast.{written_as}
-use borrow.Author.Rules.{rules}
 use Rattle.cast.proofs.cast_write.Goals as goal
 
 pub returns : goal.returns

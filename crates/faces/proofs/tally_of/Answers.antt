@@ -17,7 +17,7 @@ width-h : (c : In-104) → width_of c.args.code ≡ 2
 width-h c = width_short c.args.code c.in-104.is
 
 width-i : (c : In_default) → width_of c.args.code ≡ 4
-width-i c = let r = c.in_default.in_default-own.rest in width_other c.args.code r.0.1 r.1
+width-i c = width_other c.args.code (λ e. omega arith) (λ e. omega arith)
 
 -- n faces of it fit
 fits : (n w v l : ℕ) → w ≡ v → n * (3 * w) ≤ l → n * (3 * v) ≤ l

@@ -12,5 +12,4 @@ returns-in-104 c = record { result = sym (width_short c.args.code c.in-104.is); 
 
 pub returns-in_default : goal.returns-in_default
 returns-in_default c =
-    let r = c.in_default.in_default-own.rest in
-    record { result = sym (width_other c.args.code r.0.1 r.1); bound = omega arith }
+    record { result = sym (width_other c.args.code (λ e. omega arith) (λ e. omega arith)); bound = omega arith }
