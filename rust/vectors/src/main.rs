@@ -14,7 +14,7 @@ With options: writes all cases, none left out, to DIR/stdin and DIR/stdout.
   --seed S    a number below 2^32; another one draws other cases; 0 without this option
   --out DIR   a folder, which is made if it is not there
 
-In a copy of the project that has both files in crates/vectors, `rt try vectors` runs them. It allows a program 1 MiB of
+In a copy of the project that has both files in crates/vectors, `rt try < stdin` there runs them. It allows a program 1 MiB of
 output and some seconds, which is enough for --draws 5; for more cases take more seeds.";
 
 /// What the options ask for.
