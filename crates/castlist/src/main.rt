@@ -22,5 +22,5 @@ fn main(rt: HostRuntime) {
 // Whether standard input is at its end. After a read that failed, the next one fails too or finds more.
 fn ended(rt: &HostRuntime) -> bool {
     let mut more = [0u8; 1];
-    matches!(rt.reader().read(&mut more), Ok(0))
+    matches!(rt.stdin().read(&mut more), Ok(0))
 }

@@ -4,7 +4,7 @@ use Rattle.names.specs.declared.Numeral.{Numeral}
 use Rattle.names.specs.declared.Numeral.TheVariants.{Is, Not}
 use Rattle.names.specs.Names.{size_ok, bytes_ok, same, read_digits, number, number_after}
 
--- what bytes are as a name `c_percent_d`
+-- what bytes are as a name `c%d`
 unfoldable c_percent_d : List ℕ → Numeral
 unfolding same read_digits number number_after
 c_percent_d name = number_after name (99 ∷ [])

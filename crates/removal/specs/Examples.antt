@@ -128,19 +128,19 @@ Both list told after =
     (by_run file list ≡ record { answers = told; file = after }) × (by_tally file rows list ≡ record { answers = told; file = after })
 
 -- A and B, under one parent, in either order: the Model has none left, and the Root is smaller by both
-without_aB : List ℕ
-without_aB = cast (head root 74 2 ++ (head model 24 0 ++ (head private 26 0 ++ (3 ∷ 3 ∷ []))))
+without_ab : List ℕ
+without_ab = cast (head root 74 2 ++ (head model 24 0 ++ (head private 26 0 ++ (3 ∷ 3 ∷ []))))
 
-a_and_b : Both (trim 2 ∷ trim 2 ∷ []) (writing_done 115 ∷ writing_done 90 ∷ []) without_aB × Both (trim 3 ∷ trim 2 ∷ []) (writing_done 117 ∷ writing_done 90 ∷ []) without_aB
-unfolding by_run by_tally cast head file rows without_aB
+a_and_b : Both (trim 2 ∷ trim 2 ∷ []) (writing_done 115 ∷ writing_done 90 ∷ []) without_ab × Both (trim 3 ∷ trim 2 ∷ []) (writing_done 117 ∷ writing_done 90 ∷ []) without_ab
+unfolding by_run by_tally cast head file rows without_ab
 a_and_b = ((refl, refl), (refl, refl))
 
 -- A and C, under the Model and under the Root around it, in either order
-without_aC : List ℕ
-without_aC = cast (head root 73 1 ++ (head model 49 1 ++ (head private 25 0 ++ (2 ∷ []))))
+without_ac : List ℕ
+without_ac = cast (head root 73 1 ++ (head model 49 1 ++ (head private 25 0 ++ (2 ∷ []))))
 
-a_and_c : Both (trim 2 ∷ trim 3 ∷ []) (writing_done 115 ∷ writing_done 89 ∷ []) without_aC × Both (trim 4 ∷ trim 2 ∷ []) (writing_done 116 ∷ writing_done 89 ∷ []) without_aC
-unfolding by_run by_tally cast head file rows without_aC
+a_and_c : Both (trim 2 ∷ trim 3 ∷ []) (writing_done 115 ∷ writing_done 89 ∷ []) without_ac × Both (trim 4 ∷ trim 2 ∷ []) (writing_done 116 ∷ writing_done 89 ∷ []) without_ac
+unfolding by_run by_tally cast head file rows without_ac
 a_and_c = ((refl, refl), (refl, refl))
 
 -- the rows that are left of it: B is row 2 and lies where A lay; Root and Model have a child less
@@ -158,8 +158,8 @@ bytes_left_lem = refl
 before : List ℕ
 before = cast (head root 99 2 ++ (head private 26 0 ++ (1 ∷ 1 ∷ head model 49 1 ++ (head private 25 0 ++ (2 ∷ [])))))
 
-renumbers : by_run before (trim 1 ∷ []) ≡ record { answers = writing_done 89 ∷ []; file = without_aC }
-unfolding by_run cast head before without_aC
+renumbers : by_run before (trim 1 ∷ []) ≡ record { answers = writing_done 89 ∷ []; file = without_ac }
+unfolding by_run cast head before without_ac
 renumbers = refl
 
 -- a later row moves up in the table, and its body to where it lies in the new file: A taken out
@@ -211,8 +211,8 @@ told =
     refused_writing 1 0 ∷ refused_writing 30 0 ∷ refused_writing 31 0 ∷ refused_writing 32 0 ∷ writing_done 115 ∷
     refused_writing 1 0 ∷ refused_writing 30 0 ∷ refused_writing 31 0 ∷ refused_writing 32 0 ∷ writing_done 89 ∷ []
 
-with_refusals : Both mixed told without_aC
-unfolding by_run by_tally cast head file rows without_aC
+with_refusals : Both mixed told without_ac
+unfolding by_run by_tally cast head file rows without_ac
 with_refusals = (refl, refl)
 
 -- a file that is refused, with the reader's number and place
