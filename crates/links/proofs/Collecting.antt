@@ -1,6 +1,5 @@
 -- Laws of the hashes of the first rows of a table: one more row; those of all kinds together; those that stand after others.
 use Prim.Native.Nat.{ℕ, zero, suc, ◌+◌, ◌-◌, ◌≤◌, ◌<◌}
-use native.Mathlib.Numerals.{add-one}
 use native.Mathlib.Nat.{zero-add, add-zero}
 use native.Mathlib.Omega.{arith}
 use mathlib.Core.Path.{◌≡◌, refl, ap, sym, ◌∙◌}
@@ -15,7 +14,6 @@ use Rattle.base.proofs.Stores.{sets_next, get_d_sets_other}
 use Rattle.kinds.specs.Kinds.{mesh, bone, material, file}
 use Rattle.table.specs.declared.Row.{Row}
 use Rattle.table.specs.Table.{row_at, rows_at}
-use Rattle.table.proofs.Rests.{length_rows_at}
 use Rattle.format.specs.Rows.{hash_of}
 use Rattle.links.specs.Private.{hashes_of, occurrences, Sorts, between, Collected}
 

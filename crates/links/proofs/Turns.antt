@@ -3,32 +3,24 @@ use Prim.Native.Nat.{ℕ, suc, ◌+◌, ◌-◌, ◌≤◌, ◌<◌}
 use native.Mathlib.Omega.{arith}
 use native.Mathlib.Numerals.{add-one}
 use mathlib.Core.Path.{◌≡◌, ap, ◌∙◌}
-use mathlib.Core.Bool.{true, false}
 use mathlib.Core.List.{List}
-use lib.ListN.{length, get_or, take, drop, length-take, length-drop, drop_of_length-le}
+use lib.ListN.{length, get_or, drop, length-take, length-drop, drop_of_length-le}
 use lib.Seq.{drop-cons}
 use Rattle.base.specs.Refusals.{refused_or}
-use Rattle.base.proofs.Refusals.{goes_on, is_refused}
 use Rattle.le.specs.Le.{number_at}
-use Rattle.kinds.specs.Kinds.{is_known}
 use Rattle.table.specs.declared.Row.{Row}
-use Rattle.table.specs.Table.{row_at, rows_at}
 use Rattle.props.specs.Step.{name_at}
-use Rattle.body.specs.declared.Index.{Index}
-use Rattle.body.specs.Body.{properties, index_of}
-use Rattle.body.proofs.Places.{properties_few, starts_within, starts_taken}
 use Rattle.rules.specs.declared.Entry.{Entry}
 use Rattle.rules.specs.Table.{Line, free}
 use Rattle.rules.specs.Packing.{line_of}
-use Rattle.rules.specs.Rules.{find_in, lines_of}
+use Rattle.rules.specs.Rules.{find_in}
 use Rattle.rules.proofs.Laws.{found}
 use Rattle.rules.proofs.Helds.{no_link}
 use Rattle.judge.specs.Properties.{rule_at, rest_at}
 use Rattle.format.specs.Rows.{body_of}
 use Rattle.links.specs.declared.Linked.{Linked}
 use Rattle.links.specs.Links.{refusal_of, refused_links, accepted_links}
-use Rattle.judge.specs.Private.{StartsWithin}
-use Rattle.links.specs.Private.{Count, node_linked, row_linked, rows_linked}
+use Rattle.links.specs.Private.{Count, node_linked}
 
 -- the line of a property, as it is found
 pub ruled : (ls : List Line) (s : List ℕ) (at : ℕ) {name : List ℕ} {k : ℕ} {l : Line} → name ≡ name_at s at → k ≡ find_in ls name

@@ -1,7 +1,6 @@
 -- `kinds::is_kind`: by whether there is a parent.
 use mathlib.Core.Path.{sym, ap}
 use Rattle.kinds.specs.Private.{is_kind}
-use borrow.Author.Rules.{rules}
 use Rattle.kinds.proofs.is_kind.Goals as goal
 
 pub returns-in-Kind : goal.returns-in-Kind

@@ -1,7 +1,6 @@
 -- `kinds::is_known`: by whether there is a parent.
 use mathlib.Core.Path.{sym, ap, ◌∙◌}
 use Rattle.kinds.specs.Private.{has_known}
-use borrow.Author.Rules.{rules}
 use Rattle.kinds.proofs.is_known.Goals as goal
 
 pub returns-in-Kind : goal.returns-in-Kind

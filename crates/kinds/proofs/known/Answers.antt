@@ -1,7 +1,6 @@
 -- `kinds::known`: by the parents of the kind.
 use mathlib.Core.Path.{ap, ◌∙◌}
 use Rattle.kinds.specs.Kinds.{is_listed, is_known}
-use borrow.Author.Rules.{rules}
 use Rattle.kinds.proofs.known.Goals as goal
 
 pub returns : goal.returns

@@ -2,7 +2,6 @@
 use mathlib.Core.Path.{ap, ◌∙◌}
 use Rattle.kinds.specs.Private.{stands_by}
 use Rattle.kinds.proofs.Standings.{stands_is}
-use borrow.Author.Rules.{rules}
 use Rattle.kinds.proofs.may_stand.Goals as goal
 
 pub returns : goal.returns

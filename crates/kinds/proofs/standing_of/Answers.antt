@@ -1,6 +1,5 @@
 -- `kinds::standing_of`: may stand or not, known or not.
 use Rattle.kinds.proofs.Standings.{standing}
-use borrow.Author.Rules.{rules}
 use Rattle.kinds.proofs.standing_of.Goals as goal
 
 pub returns-then-may : goal.returns-then-may

@@ -1,7 +1,6 @@
 -- `kinds::stands`: by the variant of the parents.
 use mathlib.Core.Path.{sym, ap, ◌∙◌}
 use Rattle.kinds.specs.Private.{stands_by}
-use borrow.Author.Rules.{rules}
 use Rattle.kinds.proofs.Standings.{both}
 use Rattle.kinds.proofs.stands.Goals as goal
 

@@ -1,6 +1,5 @@
 -- `le::copy_to`: few at once; of many, those up to the next multiple of 16, and then the others.
 use native.Mathlib.Omega.{arith}
-use borrow.Author.Rules.{rules}
 use Rattle.le.proofs.Puts.{put_two}
 use Rattle.le.proofs.copy_to.Goals as goal
 

@@ -1,7 +1,6 @@
 -- `le::first_four`: four bytes that are there, weighed by their places.
 use native.Mathlib.Omega.{arith}
 use Rattle.le.proofs.Laws.{number_at_four}
-use borrow.Author.Rules.{rules}
 use Rattle.le.proofs.first_four.Goals as goal
 
 pub returns : goal.returns

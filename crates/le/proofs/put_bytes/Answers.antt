@@ -1,8 +1,7 @@
 -- `le::put_bytes`: nothing past the end, else as many as have room into the part that starts at the place.
 use native.Mathlib.Omega.{arith}
 use mathlib.Core.Path.{sym}
-use mathlib.Core.Logic.{⊎_elim, inl, inr}
-use borrow.Author.Rules.{rules}
+use mathlib.Core.Logic.{inl, inr}
 use Rattle.le.proofs.Puts.{put_part}
 use Rattle.base.proofs.Stores.{sets_past}
 use Rattle.le.proofs.put_bytes.Goals as goal
