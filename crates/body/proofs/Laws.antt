@@ -1,19 +1,24 @@
 -- The walk over properties, a step at a time; and the search for a name.
-use mathlib.Core.Path.{◌≡◌, ap, ◌∙◌}
+use mathlib.Core.Path.{◌≡◌, refl, sym, ap, ◌∙◌}
 use mathlib.Core.Bool.{Bool, true, false, cond}
 use mathlib.Core.List.{List, [], ◌∷◌}
 use Prim.Native.Nat.{ℕ, suc, ◌+◌, ◌-◌, ◌<◌, ◌≤◌}
 use native.Mathlib.Numerals.{add-one}
 use native.Mathlib.Omega.{arith}
-use lib.ListN.{length, get_or, drop, set, replicate, drop_of_length-le}
-use lib.Seq.{drop-cons, sets}
+use Rattle.std.specs.Prelude.{Option}
+use Rattle.std.specs.Option.{unwrap_or}
+use Rattle.std.specs.List.{position}
+use Rattle.std.proofs.lemmas.List.Recursion.{is_position_or_len}
+use lib.ListN.{length, set, replicate}
+use lib.Seq.{sets}
 use borrow.Author.Tests.{lt-ltb, le-ltb}
 use Rattle.names.specs.Names.{same}
 use Rattle.props.specs.declared.Cursor.{Cursor}
 use Rattle.props.specs.declared.Offsets.{Offsets}
-use Rattle.props.specs.declared.Step.TheVariants.{Past, Refused}
+use Rattle.props.specs.Step.{Past, Refused}
 use Rattle.props.specs.Step.{step_at, name_at}
-use Rattle.body.specs.declared.Index.{Index}
+use Rattle.body.specs.Body.{Index}
+use Rattle.body.proofs.Positions.{position_or_length}
 use Rattle.body.specs.Body.{PropertyWalk, stop, after, by_step, pass, properties, places, index_of, first_named}
 
 -- ---- the walk
@@ -42,19 +47,15 @@ module _ (s : List ℕ) where
     refused e = one ∙ ap (by_step at (pass s (k - 1))) e
 
 -- ---- the search
-module _ (s name starts : List ℕ) (i : ℕ) where
-  module _ (h : i < length starts) where
-    pub found : same (name_at s (get_or starts i 0)) name ≡ true → i + first_named s name (drop i starts) ≡ i
-    unfolding first_named
-    found e = rw (drop-cons starts i 0 h, e) (omega arith)
+module _ (s name : List ℕ) where
+  abbrev has_name : ℕ → Bool
+  has_name at = same (name_at s at) name
 
-    pub other : same (name_at s (get_or starts i 0)) name ≡ false → i + first_named s name (drop i starts) ≡ i + 1 + first_named s name (drop (i + 1) starts)
-    unfolding first_named
-    other e = rw (add-one, drop-cons starts i 0 h, e) (omega arith)
-
-  pub nowhere : length starts ≤ i → i + first_named s name (drop i starts) ≡ i
+  pub found_first : (starts : List ℕ) {found : Option ℕ} → found ≡ position has_name starts → unwrap_or found (length starts) ≡ first_named s name starts
   unfolding first_named
-  nowhere h = rw (drop_of_length-le starts h) (omega arith)
+  found_first starts e =
+      position_or_length has_name starts e
+      ∙ sym (is_position_or_len (first_named s name) has_name refl (λ at more. ap (cond (has_name at) 0) (omega arith)) starts)
 
 pub first_most : (s name starts : List ℕ) → first_named s name starts ≤ length starts
 unfolding first_named

@@ -10,11 +10,11 @@ use lib.ListN.{length, get_or, take, drop, replicate, length-append, get_or-appe
 use lib.Seq.{sets-eq, length-sets, take-append-le, take-append_seam, get_or-append_seam}
 use borrow.Author.Tests.{ltb-true, ltb-false}
 use Rattle.base.proofs.Tests.{by_test}
-use Rattle.props.specs.declared.Step.{Step}
-use Rattle.props.specs.declared.Step.TheVariants.{Past, Refused}
+use Rattle.props.specs.Step.{Step}
+use Rattle.props.specs.Step.{Past, Refused}
 use Rattle.props.specs.Step.{step_at, data_at}
 use Rattle.props.proofs.Within.{StepWithin, within}
-use Rattle.body.specs.declared.Index.{Index}
+use Rattle.body.specs.Body.{Index}
 use Rattle.body.specs.Body.{PropertyWalk, stop, by_step, pass, properties, places, index_of}
 
 module _ (s : List ℕ) where

@@ -1,5 +1,6 @@
 -- A property that is passed, and the search for a name, a step at a time.
-use mathlib.Core.Path.{◌≡◌, refl, sym, ap, ◌∙◌}
+use mathlib.Core.Path.{◌≡◌, refl, sym, ap, subst, ◌∙◌}
+use Rattle.std.specs.Prelude.{Result, Ok, Err, MatchResult, IsErrAnd}
 use mathlib.Core.Bool.{Bool, true, false, cond, not, and-eq-true_iff}
 use mathlib.Core.List.{List, []}
 use Prim.Native.Nat.{ℕ, zero, suc, ◌+◌, ◌-◌, ◌<◌, ◌≤◌}
@@ -8,19 +9,23 @@ use lib.Dec.{ltb, leb}
 use lib.ListN.{length, take, drop, length-drop}
 use lib.Seq.{length-take-le}
 use borrow.Author.Tests.{leb-true, not-false}
+use Rattle.base.specs.declared.Reason.{Reason}
+use Rattle.base.specs.declared.Refusal.{Refusal}
+use Rattle.base.specs.Refusals.{reason_number}
 use Rattle.names.specs.Names.{size_ok, bytes_ok, same}
 use Rattle.names.proofs.Laws.{same_length_lem}
 use Rattle.props.specs.declared.Cursor.{Cursor}
 use Rattle.props.specs.declared.Offsets.{Offsets}
-use Rattle.props.specs.declared.Step.{Step}
-use Rattle.props.specs.declared.Step.TheVariants.{Past, Refused}
+use Rattle.props.specs.declared.Passed.{Passed as StepPassed}
+use Rattle.props.specs.Step.{Step, step_told}
+use Rattle.props.specs.Step.{Past, Refused}
 use Rattle.props.specs.Types.{element_size, no_such}
 use Rattle.props.specs.Step.{code_at, size_at, length_at, name_at, start_at, length_ok, data_size, step_at}
 use Rattle.props.proofs.Within.{step_within}
-use Rattle.body.specs.declared.Passed.{Passed}
-use Rattle.body.specs.declared.Sought.{Sought}
-use Rattle.body.specs.declared.Sought.TheVariants.{Found, Nowhere}
-use Rattle.body.specs.declared.Sought.TheVariants.{Refused as refusedAt}
+use Rattle.body.specs.Body.{Passed}
+use Rattle.body.specs.Body.{Sought}
+use Rattle.body.specs.Body.{Found, Nowhere}
+use Rattle.body.specs.Body.{RefusedAt}
 use Rattle.body.specs.Body.{by_step, pass, end_of, sought_by, sought}
 
 -- ---- the tests of a step
@@ -89,6 +94,17 @@ passed_named s at {p} {q} h =
     let long = length-take-le (p.start - p.name) (drop p.name s) (omega (arith, length-drop p.name s, within)) in
     same_length_lem (name_at s at) [] (λ e. omega (arith, e, ap length (passed_name s at h), long, passed_size s at h, places))
 
+-- ---- a step as the code has it, with its place where it is refused
+abbrev pub Stepped : List ℕ → ℕ → Result StepPassed Refusal → Type 0
+Stepped s at (Ok p) = step_at s at ≡ Past p.offsets p.next
+Stepped s at (Err r) = (step_at s at ≡ Refused (reason_number r.reason)) × (r.place ≡ at)
+
+pub stepped_at : (s : List ℕ) (at : ℕ) (w : Result StepPassed Reason) (r : Result StepPassed Refusal) → step_told w ≡ step_at s at
+    → MatchResult w (λ p. r ≡ Ok p) (λ why. IsErrAnd r (λ f. f ≡ record { reason = why; place = at })) → Stepped s at r
+stepped_at s at (Ok p) r e h = subst (Stepped s at) (sym h) (sym e)
+stepped_at s at (Err why) (Ok p) e h = absurd h
+stepped_at s at (Err why) (Err f) e h = (sym e ∙ ap (λ (x : Refusal). Refused (reason_number x.reason)) (sym h), ap (λ (x : Refusal). x.place) h)
+
 -- ---- the search, a step at a time
 module _ (s name : List ℕ) where
   pub sought_done : (k at : ℕ) → k ≤ 0 → Nowhere at ≡ sought s name k at
@@ -100,7 +116,7 @@ module _ (s name : List ℕ) where
     unfolding sought
     one = let next : k ≡ suc (k - 1) = omega arith in ap (λ n. sought s name n at) next
 
-    pub sought_refused : {n : ℕ} → step_at s at ≡ Refused n → refusedAt n at ≡ sought s name k at
+    pub sought_refused : {n : ℕ} → step_at s at ≡ Refused n → RefusedAt n at ≡ sought s name k at
     sought_refused e = sym (one ∙ ap (sought_by s name (k - 1) at (sought s name (k - 1))) e)
 
     module _ {p : Offsets} {q : Cursor} (e : step_at s at ≡ Past p q) where
@@ -114,7 +130,7 @@ module _ (s name : List ℕ) where
 abbrev pub SoughtWithin : ℕ → Sought → Type 0
 SoughtWithin n (Found start end left) = end ≤ n
 SoughtWithin n (Nowhere at) = Unit {0}
-SoughtWithin n (refusedAt number at) = Unit {0}
+SoughtWithin n (RefusedAt number at) = Unit {0}
 
 pub sought_within : (s name : List ℕ) (k at : ℕ) → SoughtWithin (length s) (sought s name k at)
 unfolding sought
@@ -134,7 +150,7 @@ sought_within s name (suc k) at = by (step_at s at) (λ b. sought_within s name 
 abbrev pub sought_end : Sought → Passed
 sought_end (Found start end left) = record { number = 0; at = end }
 sought_end (Nowhere at) = record { number = 0; at = at }
-sought_end (refusedAt number at) = record { number = number; at = at }
+sought_end (RefusedAt number at) = record { number = number; at = at }
 
 pub sought_all : (s : List ℕ) (k at : ℕ) → sought_end (sought s [] k at) ≡ end_of (pass s k at)
 unfolding sought pass

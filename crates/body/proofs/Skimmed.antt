@@ -8,13 +8,13 @@ use lib.Dec.{ltb}
 use lib.ListN.{length, drop, get_or}
 use borrow.Author.Tests.{lt-ltb, le-ltb, ltb-false}
 use Rattle.base.proofs.Tests.{by_test}
-use Rattle.le.proofs.Laws.{rest, rest_drop, drop_rest, length_rest}
+use Rattle.le.proofs.Laws.{rest, drop_rest, length_rest}
 use Rattle.props.specs.declared.PropertyHeader.{PropertyHeader}
 use Rattle.names.specs.Names.{size_ok, bytes_ok}
 use Rattle.props.specs.declared.Cursor.{Cursor}
 use Rattle.props.specs.declared.Offsets.{Offsets}
-use Rattle.props.specs.declared.Step.{Step}
-use Rattle.props.specs.declared.Step.TheVariants.{Past, Refused}
+use Rattle.props.specs.Step.{Step}
+use Rattle.props.specs.Step.{Past, Refused}
 use Rattle.props.specs.Types.{element_size, no_such}
 use Rattle.props.specs.Step.{code_at, size_at, length_at, name_at, start_at, length_ok, data_size, step_at}
 use Rattle.props.proofs.Within.{StepWithin, within, StepEnds, ends}
@@ -47,31 +47,6 @@ module _ (s : List ℕ) where
   next_inside : (at : ℕ) → ended at ≤ length s → ended at ≡ next_at s at
   unfolding next_at
   next_inside at h = omega (arith, h)
-
-  -- by a header, and how many bytes its data takes
-  module _ (at : ℕ) (h : PropertyHeader) where
-    abbrev ended_by : ℕ
-    ended_by = at + 8 + h.size + data_size (element_size h.code) h.length (drop (at + 8 + h.size) s)
-
-    cut : length s ≤ ended_by → (length s ≡ next_by s at h) × (length s ≤ length s)
-    cut l = (omega (arith, l), omega arith)
-
-    pub next_past : length s ≤ at → (length s ≡ next_by s at h) × (length s ≤ length s)
-    next_past l = cut (omega (arith, l))
-
-    module _ {w : ℕ} (q : w ≡ h.size) where
-      pub next_short : length s ≤ at + (8 + w) → (length s ≡ next_by s at h) × (length s ≤ length s)
-      next_short l = cut (omega (arith, l, q))
-
-      module _ {taken : ℕ} (d : taken ≡ data_size (element_size h.code) h.length (rest s (at + (8 + w)))) where
-        is_end : at + (8 + w) + taken ≡ ended_by
-        is_end = let start : at + (8 + w) ≡ at + 8 + h.size = omega (arith, q) in rw (d, rest_drop s (at + (8 + w)), start)
-
-        pub next_long : length s ≤ at + (8 + w) + taken → (length s ≡ next_by s at h) × (length s ≤ length s)
-        next_long l = cut (omega (arith, l, is_end))
-
-        pub next_whole : at + (8 + w) + taken ≤ length s → (at + (8 + w) + taken ≡ next_by s at h) × (at + (8 + w) + taken ≤ length s)
-        next_whole l = (omega (arith, l, is_end), l)
 
   -- ---- the places
   pub length_skim : (k at : ℕ) → length (skim s k at) ≡ k

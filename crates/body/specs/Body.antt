@@ -1,19 +1,20 @@
 -- A given number of properties from the start of some bytes on: for document 01's 9 to 11 in the reader, all that is left of the
 -- node; for its 23 in the writer and its 42 in the lookup, the body.
-use Rattle.std.specs.Prelude.{ℕ, zero, suc, ◌+◌, min, Bool, true, false, cond, ◌&&◌, List, [], ◌∷◌, ◌++◌, eqb, ltb, length, drop, replicate}
+use Rattle.std.specs.Prelude.{ℕ, zero, suc, ◌+◌, min, Bool, true, false, cond, ◌&&◌, List, [], ◌∷◌, ◌++◌, eqb, ltb, length, drop, replicate, Option, Some, None, Result, Ok, Err}
+use Rattle.base.specs.declared.Reason.{Reason}
+use Rattle.base.specs.declared.Refusal.{Refusal}
+use Rattle.base.specs.Refusals.{reason_number}
 use Rattle.std.proofs.lemmas.List.Edits.{sets}
 use Rattle.base.specs.Limits.{most_properties}
 use Rattle.names.specs.Names.{same}
 use Rattle.props.specs.declared.PropertyHeader.{PropertyHeader}
-use Rattle.props.specs.declared.Step.{Step}
-use Rattle.props.specs.declared.Step.TheVariants.{Past, Refused}
+use Rattle.props.specs.Step.{Step}
+use Rattle.props.specs.Step.{Past, Refused}
 use Rattle.props.specs.Types.{element_size}
+use Rattle.body.specs.declared.Index.{Index as CodeIndex}
+use Rattle.body.specs.declared.Sought.{Sought as CodeSought}
+use Rattle.body.specs.declared.Sought.TheVariants.{Found as CodeFound, Nowhere as CodeNowhere}
 use Rattle.props.specs.Step.{header_at, data_size, step_at, name_at}
-use Rattle.body.specs.declared.Passed.{Passed}
-use Rattle.body.specs.declared.Index.{Index}
-use Rattle.body.specs.declared.Sought.{Sought}
-use Rattle.body.specs.declared.Sought.TheVariants.{Found, Nowhere}
-use Rattle.body.specs.declared.Sought.TheVariants.{Refused as refusedAt}
 
 -- how a walk over properties ended: the refusal's number, 0 for none; the place, which is just past the last property,
 -- or the refused property's, and 0 for 9, whose place is the node's; and where the properties start that were passed
@@ -47,6 +48,16 @@ properties s k = cond (ltb most_properties k) (stop 9 0) (pass s k 0)
 unfoldable pub exactly : List ℕ → (k : ℕ) → Bool
 exactly s k = eqb (properties s k).number 0 && eqb (properties s k).at (length s)
 
+-- how a walk over properties ended: the refusal's number, 0 for none, and the place
+pub record Passed : Type 0 where
+  pub number : ℕ
+  pub at : ℕ
+
+-- as the code has it
+abbrev pub passed_told : Result ℕ Refusal → Passed
+passed_told (Ok at) = record { number = 0; at = at }
+passed_told (Err r) = record { number = reason_number r.reason; at = r.place }
+
 -- the walk's end alone
 abbrev pub end_of : PropertyWalk → Passed
 end_of w = record { number = w.number; at = w.at }
@@ -54,6 +65,20 @@ end_of w = record { number = w.number; at = w.at }
 -- where each property starts, and then where the walk ended: one that was passed lies from its place to the next
 abbrev pub places : PropertyWalk → List ℕ
 places w = w.starts ++ (w.at ∷ [])
+
+-- an index of a body: the walk's number, how many properties it passed, and 65 places
+pub record Index : Type 0 where
+  pub number : ℕ
+  pub count : ℕ
+  pub starts : List ℕ
+
+-- as the code has it
+abbrev pub stopped_number : Option Reason → ℕ
+stopped_number None = 0
+stopped_number (Some r) = reason_number r
+
+abbrev pub index_told : CodeIndex → Index
+index_told i = record { number = stopped_number i.stopped; count = i.count; starts = i.starts }
 
 -- the walk's end with the places, in 65 numbers, zeros after them
 abbrev pub index_of : PropertyWalk → Index
@@ -83,9 +108,20 @@ first_named s name (at ∷ more) = cond (same (name_at s at) name) 0 (suc (first
 
 -- ---- the first of k properties from a place on that has the name: where its data starts and ends, and how many come after it; or the
 -- place past the last, where none has it; or the refusal of one before it
+pub data Sought : Type 0 where
+  Found : (start end left : ℕ) → Sought
+  Nowhere : (at : ℕ) → Sought
+  RefusedAt : (number at : ℕ) → Sought
+
+-- as the code has it
+abbrev pub sought_told : Result CodeSought Refusal → Sought
+sought_told (Ok (CodeFound start end left)) = Found start end left
+sought_told (Ok (CodeNowhere at)) = Nowhere at
+sought_told (Err r) = RefusedAt (reason_number r.reason) r.place
+
 abbrev pub sought_by : (s name : List ℕ) → (k at : ℕ) → (on : ℕ → Sought) → Step → Sought
 sought_by s name k at on (Past p next) = cond (same (name_at s at) name) (Found p.start next.at k) (on next.at)
-sought_by s name k at on (Refused n) = refusedAt n at
+sought_by s name k at on (Refused n) = RefusedAt n at
 
 unfoldable pub sought : (s name : List ℕ) → (k at : ℕ) → Sought
 sought s name zero at = Nowhere at
@@ -103,4 +139,4 @@ pub record SoughtNumbers : Type 0 where
 abbrev pub sought_numbers : Sought → SoughtNumbers
 sought_numbers (Found start end left) = record { is_found = true; number = 0; start = start; left = left; at = end }
 sought_numbers (Nowhere at) = record { is_found = false; number = 0; start = 0; left = 0; at = at }
-sought_numbers (refusedAt n at) = record { is_found = false; number = n; start = 0; left = 0; at = at }
+sought_numbers (RefusedAt n at) = record { is_found = false; number = n; start = 0; left = 0; at = at }

@@ -1,10 +1,10 @@
--- The exported answers: document 01's number, place and values for each case of the enums. "A place not named is 0."
-use Rattle.lookup.specs.declared.Found.{Found}
-use Rattle.lookup.specs.declared.Found.TheVariants.{At, Refused}
+-- The exported answers: document 01's number, place and values for each case. "A place not named is 0."
+use Rattle.lookup.specs.Lookup.{Found}
+use Rattle.lookup.specs.Lookup.{At, Refused}
 use Rattle.lookup.specs.Lookup.{number_of}
-use Rattle.reader.specs.declared.Reading.{Reading}
+use Rattle.reader.specs.Reading.{Reading}
 use Rattle.reader.specs.Reading.{Numbers, numbers_of}
-use Rattle.emit.specs.declared.Written.{Written}
+use Rattle.emit.specs.Emission.{Written}
 use Rattle.cast.specs.declared.CastReading.{CastReading}
 use Rattle.cast.specs.declared.CastFound.{CastFound}
 use Rattle.cast.specs.declared.CastWritten.{CastWritten}

@@ -1,13 +1,18 @@
 // The exported functions, which the static library of cast_c exports to C. include/cast.h declares them.
 #![tactic(auto)]
 
-ghost use Rattle.std.specs.Prelude.{◌≡◌, ◌≤◌, length};
+ghost use Rattle.std.specs.Prelude.{◌≡◌, ◌≤◌, ◌<◌, ◌^◌, length};
 ghost use Rattle.cast.specs.Cast.{answer_of, found_of, written_as};
+ghost use Rattle.base.specs.Refusals.{refusal_in};
+ghost use Rattle.emit.specs.Emission.{written_told};
 ghost use Rattle.lookup.specs.Lookup.{lookup_of};
 ghost use Rattle.reader.specs.Reading.{reading_of, table_after};
 ghost use Rattle.removal.specs.Trimmer.{trimmed_of, trimmed_output, trimmed_table};
 ghost use Rattle.writer.specs.Writer.{written_of, output_after};
 
+use base::Refusal;
+
+// The answers as C has them: number 0 and values, or a refusal's number and place.
 #[repr(C)]
 #[derive(Clone, Copy)]
 pub struct CastReading {
@@ -27,15 +32,11 @@ pub fn cast_read(file: &[u8], table: &mut [u32]) -> CastReading
     ensures result { result ≡ answer_of (reading_of file.now table.old) }
     ensures table { table.new ≡ table_after file.now table.old }
 {
-    let reading = reader::read(file, table);
-    match reading {
-        reader::Reading::Accepted(a) => {
-            let known = a.known;
-            let unknown = a.unknown;
-            let faces = a.faces;
-            let own_known = known.0 as u32;
-            let own_unknown = unknown.0 as u32;
-            let all_faces = faces.0 as u32;
+    match reader::read(file, table) {
+        Ok(a) => {
+            let own_known = a.known.0 as u32;
+            let own_unknown = a.unknown.0 as u32;
+            let faces = a.faces.0 as u32;
             let degenerate = a.degenerate as u32;
             CastReading {
                 number: 0,
@@ -44,14 +45,14 @@ pub fn cast_read(file: &[u8], table: &mut [u32]) -> CastReading
                 flags: a.flags,
                 own_known,
                 own_unknown,
-                faces: all_faces,
+                faces,
                 degenerate,
                 links: a.links,
             }
         }
-        reader::Reading::Refused { number, place } => CastReading {
-            number,
-            place,
+        Err(refusal) => CastReading {
+            number: refusal.reason.number(),
+            place: refusal.place as u32,
             nodes: 0,
             flags: 0,
             own_known: 0,
@@ -78,20 +79,19 @@ pub fn cast_lookup(bytes: &[u8], table: &[u32], row: usize, name: &[u8]) -> Cast
     ensures order { result.start ≤ result.end }
     ensures within { result.end ≤ length bytes.now }
 {
-    let found = lookup::find(bytes, table, row, name);
-    let lookup::Found::At { start, end } = found else {
-        return CastFound {
-            number: lookup::number(found),
+    match lookup::find(bytes, table, row, name) {
+        Ok(found) => CastFound {
+            number: 0,
+            place: 0,
+            start: found.start,
+            end: found.end,
+        },
+        Err(why) => CastFound {
+            number: why.number(),
             place: 0,
             start: 0,
             end: 0,
-        };
-    };
-    CastFound {
-        number: 0,
-        place: 0,
-        start,
-        end,
+        },
     }
 }
 
@@ -103,13 +103,18 @@ pub struct CastWritten {
     pub length: u32,
 }
 
-fn numbers_of(written: emit::Written) -> CastWritten
-    ensures { result ≡ written_as written }
+fn numbers_of(written: Result<u32, Refusal>) -> CastWritten
+    requires { (refusal_in written).place < 2 ^ 32 }
+    ensures { result ≡ written_as (written_told written) }
 {
+    let (number, place, length) = match written {
+        Ok(length) => (0, 0, length),
+        Err(refusal) => (refusal.reason.number(), refusal.place as u32, 0),
+    };
     CastWritten {
-        number: written.number,
-        place: written.place,
-        length: written.length,
+        number,
+        place,
+        length,
     }
 }
 

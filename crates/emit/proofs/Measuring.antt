@@ -112,8 +112,8 @@ module _ {s t : List ℕ} {n : ℕ} {zs : List ℕ} {i j : ℕ} {r : Row} {o : �
       get_or-set_other zs j p size 0 (λ q. omega arith) ∙ measured.0 p (omega arith) ∙ rw more (sym (sized_other s p j r later k))
 
   -- no earlier row is its parent
-  pub measuring_top : (r.parent < j → ⊥) → {new : List ℕ} → new ≡ put → (length new ≡ length zs) × Measuring new s t n j
-  measuring_top k g = rw g (length-set zs j size, (λ p a. put_before p a (λ q. k (omega arith)), put_passed))
+  pub measuring_top : (r.parent < j → ⊥) → {new : List ℕ} → new ≡ put → Measuring new s t n j
+  measuring_top k g = rw g (λ p a. put_before p a (λ q. k (omega arith)), put_passed)
 
   -- its parent's number grows
   module _ (k : r.parent < j) where
@@ -133,7 +133,7 @@ module _ {s t : List ℕ} {n : ℕ} {zs : List ℕ} {i j : ℕ} {r : Row} {o : �
     pub sum_fits : sum ≤ owns s (rest t n j)
     sum_fits = omega (arith, sum_is, under_owns s r.parent j (rest t n j) k)
 
-    pub parent_inside : r.parent < length put
+    parent_inside : r.parent < length put
     parent_inside = omega (arith, length-set zs j size)
 
     grown : Measuring (set put r.parent sum) s t n j
@@ -148,5 +148,5 @@ module _ {s t : List ℕ} {n : ℕ} {zs : List ℕ} {i j : ℕ} {r : Row} {o : �
       λ p a d. get_or-set_other put r.parent p sum 0 (λ q. omega arith) ∙ put_passed p a d,
     )
 
-    pub measuring_under : {new : List ℕ} → new ≡ set put r.parent sum → (length new ≡ length zs) × Measuring new s t n j
-    measuring_under g = rw g (simp length-set, grown)
+    pub measuring_under : {new : List ℕ} → new ≡ set put r.parent sum → Measuring new s t n j
+    measuring_under g = rw g grown

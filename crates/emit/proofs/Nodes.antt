@@ -14,7 +14,7 @@ use Rattle.format.specs.Forest.{header}
 use Rattle.format.specs.Rows.{hash_of, body_of}
 use Rattle.format.proofs.Headers.{length_header}
 use Rattle.emit.specs.Emission.{node_size, nodes_bytes}
-use Rattle.table.proofs.Rests.{rest, rest_all, rest_next, rest_none}
+use Rattle.table.proofs.Rests.{rest, rest_next, rest_none}
 
 -- ---- one node
 abbrev pub header_of : Row → (size : ℕ) → List ℕ
@@ -58,9 +58,6 @@ module _ (s out : List ℕ) (at : ℕ) (r : Row) (size : ℕ) {head : List ℕ} 
 module _ (s t : List ℕ) (n : ℕ) where
   abbrev pub nodes_from : ℕ → List ℕ
   nodes_from i = nodes_bytes s i (rest t n i)
-
-  pub nodes_all : nodes_from 0 ≡ nodes_bytes s 0 (rows_at t 0 n)
-  nodes_all = ap (nodes_bytes s 0) (rest_all t n)
 
   pub nodes_none : (i : ℕ) → n ≤ i → nodes_from i ≡ []
   unfolding nodes_bytes

@@ -11,7 +11,7 @@ use Rattle.base.proofs.Stores.{sets_append}
 use Rattle.format.specs.Forest.{file_header}
 use Rattle.format.proofs.Headers.{length_file_header}
 use Rattle.table.specs.declared.Row.{Row}
-use Rattle.emit.specs.declared.Written.{Written}
+use Rattle.emit.specs.Emission.{Written}
 use Rattle.emit.specs.Emission.{nodes_bytes, roots, file_bytes, refused_writing, writing_done, emission, output_left, output_of}
 
 module _ (flags : ℕ) (s : List ℕ) (rows : List Row) where

@@ -1,13 +1,14 @@
 -- The bytes that any rows give over a source. Sizes and the root count are computed; kinds, hashes and the two counts are the
 -- rows'. No row is judged. Document 01's refusals 25 and 26 go by the length of these bytes.
-use Rattle.std.specs.Prelude.{ℕ, suc, ◌+◌, min, cond, List, [], ◌∷◌, ◌++◌, eqb, ltb, length, drop}
+use Rattle.std.specs.Prelude.{ℕ, suc, ◌+◌, min, cond, List, [], ◌∷◌, ◌++◌, eqb, ltb, length, drop, Result, Ok, Err}
+use Rattle.base.specs.declared.Refusal.{Refusal}
+use Rattle.base.specs.Refusals.{reason_number}
 use Rattle.base.specs.Limits.{most_bytes, most_rows}
 use Rattle.kinds.specs.Kinds.{root}
 use Rattle.table.specs.declared.Row.{Row}
 use Rattle.table.specs.Table.{rows_at}
 use Rattle.format.specs.Forest.{header, file_header}
 use Rattle.format.specs.Rows.{hash_of, body_of}
-use Rattle.emit.specs.declared.Written.{Written}
 
 -- ---- rows
 
@@ -47,12 +48,23 @@ file_bytes flags s rows = file_header (roots rows) flags ++ nodes_bytes s 0 rows
 
 -- ---- the answer, and the output
 
+-- number 0 and the length of what is written; or a refusal's number and place, and length 0
+pub record Written : Type 0 where
+  pub number : ℕ
+  pub place : ℕ
+  pub length : ℕ
+
 -- "A refusal answers length 0"
 abbrev pub refused_writing : (number place : ℕ) → Written
 refused_writing n place = record { number = n; place = place; length = 0 }
 
 abbrev pub writing_done : (length : ℕ) → Written
 writing_done n = record { number = 0; place = 0; length = n }
+
+-- as the code has it
+abbrev pub written_told : Result ℕ Refusal → Written
+written_told (Ok n) = writing_done n
+written_told (Err r) = refused_writing (reason_number r.reason) r.place
 
 -- "25 length over 16,777,216, 26 output too short"
 abbrev pub by_length : (n room : ℕ) → Written

@@ -1,5 +1,5 @@
 -- What private functions promise each other; nothing here need be believed.
-use Rattle.std.specs.Prelude.{ℕ, ◌+◌, ◌-◌, ◌≤◌, ◌<◌, ◌≡◌, Bool, true, false, List, ◌++◌, length, get_or}
+use Rattle.std.specs.Prelude.{ℕ, ◌+◌, ◌-◌, ◌≤◌, ◌<◌, ◌≡◌, List, ◌++◌, length, get_or, Option, Some, None}
 use Rattle.base.specs.Limits.{most_bytes}
 use Rattle.table.specs.declared.Row.{Row}
 use Rattle.table.specs.Table.{row_at, rows_at}
@@ -18,10 +18,7 @@ Sized zs s t n = (i : ℕ) → i < n → get_or zs i 0 ≡ node_size s i (row_at
 
 -- what was measured of n rows: their file is over 16,777,216 bytes; or it is not, and this is its length, and its roots, and
 -- its sizes
-abbrev pub MeasuredBy : Bool → Measured → (s t : List ℕ) (n : ℕ) (sizes : List ℕ) → Type 0
-MeasuredBy true m s t n zs = most_bytes < 16 + length (nodes_bytes s 0 (rows_at t 0 n))
-MeasuredBy false m s t n zs =
+abbrev pub MeasuresRows : Option Measured → (s t : List ℕ) (n : ℕ) (sizes : List ℕ) → Type 0
+MeasuresRows None s t n zs = most_bytes < 16 + length (nodes_bytes s 0 (rows_at t 0 n))
+MeasuresRows (Some m) s t n zs =
     (m.length ≡ 16 + length (nodes_bytes s 0 (rows_at t 0 n))) × (m.length ≤ most_bytes) × (m.roots ≡ roots (rows_at t 0 n)) × Sized zs s t n
-
-abbrev pub MeasuresRows : Measured → (s t : List ℕ) (n : ℕ) (sizes : List ℕ) → Type 0
-MeasuresRows m s t n zs = MeasuredBy m.over m s t n zs

@@ -5,38 +5,21 @@
 ghost use Rattle.std.specs.Prelude.{◌≡◌, ℕ, ◌+◌, ◌≤◌, ◌<◌, length, get_or};
 ghost use Rattle.std.proofs.lemmas.List.Edits.{sets};
 ghost use Rattle.base.specs.Limits.{most_rows};
+ghost use Rattle.base.specs.Refusals.{refusal_in};
 ghost use Rattle.table.specs.Table.{rows_at};
 ghost use Rattle.format.specs.Forest.{header, file_header};
 ghost use Rattle.format.specs.Rows.{hash_of, body_of};
-ghost use Rattle.emit.specs.Emission.{emitted_rows, nodes_bytes, refused_writing, emission, output_of};
+ghost use Rattle.emit.specs.Emission.{emitted_rows, nodes_bytes, written_told, emission, output_of};
 ghost use Rattle.emit.specs.Private.{node_bytes, Sized, MeasuresRows};
+
+use base::{Reason, Refusal};
 
 // The largest file, as a length is summed up.
 const MOST_BYTES: u64 = base::MOST_BYTES as u64;
 
-// Number 0 and the file's length, or a refusal's number and place; all other numbers are 0.
-#[derive(Clone, Copy)]
-pub struct Written {
-    pub number: u32,
-    pub place: u32,
-    pub length: u32,
-}
-
-// A refusal: length 0.
-pub fn refused_writing(number: u32, place: u32) -> Written
-    ensures { result ≡ refused_writing number place }
-{
-    Written {
-        number,
-        place,
-        length: 0,
-    }
-}
-
-// The Root rows, and the length of the file; or that it is over 16,777,216.
-#[derive(Clone, Copy)]
+// The Root rows, and the length of the file.
+#[derive(Clone, Copy, Debug, PartialEq, Eq)]
 struct Measured {
-    over: bool,
     roots: u32,
     length: u32,
 }
@@ -45,69 +28,60 @@ struct Measured {
 fn own(source: &[u8], row: table::Row) -> u64
     ensures { (result ≡ 24 + length (body_of source.now row)) × (result < 8589934592) }
 {
-    let body = format::body_of(source, row);
-    24 + body.len() as u64
+    24 + format::body_of(source, row).len() as u64
 }
 
 // Sizes, root count and length in one pass, from the last row to the first: when a row is reached, its place in `sizes`
-// holds the sum of its children's sizes. The length only grows, so that the pass ends as soon as it is over the limit; no
-// size exceeds the length.
-fn measure(plan: &[u32], rows: usize, source: &[u8], sizes: &mut [u32]) -> Measured
+// holds the sum of its children's sizes. The length only grows, so that the pass ends, with none, as soon as it is over the limit;
+// no size exceeds the length.
+fn measure(plan: &[u32], rows: usize, source: &[u8], sizes: &mut [u32]) -> Option<Measured>
     requires { (rows ≤ most_rows) × (length sizes.old ≡ most_rows) × ((p : ℕ) → get_or sizes.old p 0 ≡ 0) }
     ensures { MeasuresRows result source.now plan.now rows sizes.new }
 {
     let mut length: u64 = 16;
     let mut roots: u32 = 0;
-    let mut i = rows;
-    while 0 < i {
-        i -= 1;
+    for i in (0..rows).rev() {
         let row = table::row_at(plan, i);
         let own = own(source, row);
         length += own;
         if MOST_BYTES < length {
-            return Measured {
-                over: true,
-                roots: 0,
-                length: 0,
-            };
+            return None;
         }
         let bytes = own as u32;
         let size = bytes + sizes[i];
         sizes[i] = size;
         let parent = row.parent as usize;
         if parent < i {
-            sizes[parent] = sizes[parent] + size;
+            sizes[parent] += size;
         }
         if row.kind == kinds::ROOT {
             roots += 1;
         }
     }
-    let whole = length as u32;
-    Measured {
-        over: false,
+    Some(Measured {
         roots,
-        length: whole,
-    }
+        length: length as u32,
+    })
 }
 
 fn put_file_header(out: &mut [u8], roots: u32, flags: u32)
     ensures { out.new ≡ sets out.old 0 (file_header roots flags) }
 {
-    le::put_u32(out, 0, format::FIRST_FOUR);
-    le::put_u32(out, 4, 1);
-    le::put_u32(out, 8, roots);
-    le::put_u32(out, 12, flags);
+    le::write(out, 0, format::FIRST_FOUR);
+    le::write(out, 4, 1u32);
+    le::write(out, 8, roots);
+    le::write(out, 12, flags);
 }
 
 fn put_header(out: &mut [u8], row: table::Row, size: u32)
     ensures { out.new ≡ sets out.old 0 (header row.kind size (hash_of row) row.properties row.children) }
 {
-    le::put_u32(out, 0, row.kind);
-    le::put_u32(out, 4, size);
-    le::put_u32(out, 8, row.low);
-    le::put_u32(out, 12, row.high);
-    le::put_u32(out, 16, row.properties);
-    le::put_u32(out, 20, row.children);
+    le::write(out, 0, row.kind);
+    le::write(out, 4, size);
+    le::write(out, 8, row.low);
+    le::write(out, 12, row.high);
+    le::write(out, 16, row.properties);
+    le::write(out, 20, row.children);
 }
 
 // Writes a node's header and body, and answers the place after them.
@@ -132,38 +106,34 @@ fn put_nodes(out: &mut [u8], plan: &[u32], rows: usize, source: &[u8], sizes: &[
     ensures { out.new ≡ sets out.old 16 (nodes_bytes source.now 0 (rows_at plan.now 0 rows)) }
 {
     let mut at: usize = 16;
-    let mut i: usize = 0;
-    while i < rows {
+    for i in 0..rows {
         let row = table::row_at(plan, i);
         at = put_node(out, at, source, row, sizes[i]);
-        i += 1;
     }
 }
 
-// Writes the file that the first rows of a table, at most 1,024, give over the source. The rows are not judged.
-pub fn emit(plan: &[u32], rows: usize, source: &[u8], flags: u32, out: &mut [u8]) -> Written
-    ensures result { result ≡ emission flags source.now (emitted_rows plan.now rows) (length out.old) }
+// Writes the file that the first rows of a table, at most 1,024, give over the source, and answers its length. The rows are not judged.
+pub fn emit(
+    plan: &[u32],
+    rows: usize,
+    source: &[u8],
+    flags: u32,
+    out: &mut [u8],
+) -> Result<u32, Refusal>
+    ensures result { written_told result ≡ emission flags source.now (emitted_rows plan.now rows) (length out.old) }
     ensures output { out.new ≡ output_of flags source.now (emitted_rows plan.now rows) out.old }
+    ensures place { (refusal_in result).place ≡ 0 }
 {
-    let n = if rows < base::MOST_ROWS {
-        rows
-    } else {
-        base::MOST_ROWS
-    };
+    let n = rows.min(base::MOST_ROWS);
     let mut sizes = [0u32; base::MOST_ROWS];
-    let m = measure(plan, n, source, &mut sizes);
-    if m.over {
-        return refused_writing(25, 0);
-    }
+    let Some(m) = measure(plan, n, source, &mut sizes) else {
+        return Err(Reason::NewFileTooLong.at(0));
+    };
     let least = m.length as usize;
     if out.len() < least {
-        return refused_writing(26, 0);
+        return Err(Reason::OutputTooShort.at(0));
     }
     put_file_header(out, m.roots, flags);
     put_nodes(out, plan, n, source, &sizes);
-    Written {
-        number: 0,
-        place: 0,
-        length: m.length,
-    }
+    Ok(m.length)
 }

@@ -1,24 +1,24 @@
 -- Blocks of faces: faces split in two, and what the tally of a block tells of them.
-use Prim.Native.Nat.{ℕ, zero, suc, ◌+◌, ◌-◌, ◌*◌, ◌≤◌}
-use native.Mathlib.Nat.{zero-add, suc-add, add-mul}
+use Prim.Native.Nat.{ℕ, zero, suc, ◌+◌, ◌-◌, ◌*◌, ◌≤◌, ◌<◌}
+use native.Mathlib.Nat.{zero-add, suc-add, add-mul, mul-le-mul}
 use native.Mathlib.Omega.{arith}
 use mathlib.Core.Path.{◌≡◌, refl, sym, ap, ◌∙◌}
 use mathlib.Core.Bool.{Bool, true, false, cond, ◌||◌, or-false, or_assoc, true≢false}
 use mathlib.Core.List.{List, [], ◌∷◌, ◌++◌, append-nil}
 use lib.Dec.{leb}
-use lib.ListN.{length, take, drop, length-take, length-drop}
+use lib.ListN.{length, take, drop}
 use lib.Seq.{drop-drop}
 use borrow.Author.Tests.{leb-true, leb-false}
 use Rattle.base.proofs.Tests.{by_test}
 use Rattle.le.specs.Le.{number_at}
 use Rattle.le.proofs.Laws.{drop_take, take_part}
 use Rattle.faces.specs.declared.Face.{Face}
-use Rattle.faces.specs.declared.Values.{Values}
-use Rattle.faces.specs.declared.Values.TheVariants.{NotBelow}
-use Rattle.faces.specs.declared.Tally.{Tally}
+use Rattle.faces.specs.Faces.{Values}
+use Rattle.faces.specs.Faces.{Below, NotBelow}
+use Rattle.faces.specs.declared.tally.Tally.{Tally}
 use Rattle.faces.specs.Private.{face_at, is_outside, any_outside, tally_of, with_face, scan_from}
 use Rattle.faces.specs.Faces.{faces_in, below, is_degenerate, degenerate, counted_by}
-use Rattle.faces.proofs.Laws.{face_part, first, length_faces_in, past_first, past_second, past_third, passed}
+use Rattle.faces.proofs.Laws.{face_part, first, ended, length_faces_in, past_first, past_second, past_third, passed, below_none, scan_past, scan_below}
 
 -- ---- the first m faces, and the n after them
 pub faces_split : (w m n : ℕ) (bs : List ℕ) → faces_in w (m + n) bs ≡ faces_in w m bs ++ faces_in w n (drop (m * (3 * w)) bs)
@@ -84,8 +84,21 @@ module _ (w v : ℕ) (bs : List ℕ) where
       let g = f ∙ face_part w k bs at h refl ∙ ap (face_at w bs) a in
       r ∙ rw (t, g) (tally_next v (faces_in w i bs) (face_at w bs (i * (3 * w)))) ∙ ap (tally_of v) (sym (one_more i))
 
-  pub tally_ended : (i n : ℕ) {t : Tally} → n ≤ i → i ≤ n → t ≡ tally_of v (faces_in w i bs) → t ≡ tally_of v (faces_in w n bs)
-  tally_ended i n g h t = let e : i ≡ n = omega arith in t ∙ ap (λ m. tally_of v (faces_in w m bs)) e
+  -- the tally of faces, and of those after them in a part of their own
+  pub tally_both : (i m at k : ℕ) {t s r : Tally} → at ≡ i * (3 * w) → m * (3 * w) ≤ k → t ≡ tally_of v (faces_in w i bs)
+      → s ≡ tally_of v (faces_in w m (take k (drop at bs)))
+      → r ≡ record { outside = t.outside || s.outside; degenerate = t.degenerate + s.degenerate } → r ≡ tally_of v (faces_in w (i + m) bs)
+  tally_both i m at k a h t s r =
+      r
+      ∙ rw (
+        t,
+        s,
+        faces_part w m k (drop at bs) h,
+        a,
+        faces_split w i m bs,
+        outside_append v (faces_in w i bs) (faces_in w m (drop (i * (3 * w)) bs)),
+        degenerate_append (faces_in w i bs) (faces_in w m (drop (i * (3 * w)) bs)),
+      )
 
 counted_most : (b : Bool) (m n : ℕ) → m ≤ n → cond b (suc m) m ≤ suc n
 counted_most true m n h = omega arith
@@ -153,58 +166,85 @@ block_stops v k (f ∷ xs) ys us vs e =
     let later : any_outside v xs ≡ true = rw (a, b, c) at e in
     rw (passed v k f xs first second third, passed v k f (xs ++ ys) first second third) (block_stops v (k + 3) xs ys us vs later))))
 
--- ---- one block of the faces that are left: n faces of the width w, in a part of just their bytes, as code lends it
-module _ (v : ℕ) (bs : List ℕ) (at n left : ℕ) (few : n ≤ left) {u w : ℕ} (same : u ≡ w) where
-  pub block_fits : at + left * (3 * w) ≤ length bs → at + n * (3 * u) + (left - n) * (3 * w) ≤ length bs
-  block_fits h =
-      let parts : left ≡ n + (left - n) = omega arith in
-      let sum = ap (λ m. m * (3 * w)) parts ∙ add-mul n (left - n) (3 * w) in
-      rw same (omega (arith, sum))
-
-  pub block_long : at + left * (3 * w) ≤ length bs → n * (3 * w) ≤ length (take (at + n * (3 * u) - at) (drop at bs))
-  block_long h =
-      let fits = rw same at (block_fits h) in
-      rw (same, length-take, length-drop) (omega arith)
-
-  -- the faces of the block, and those after it
-  abbrev block : List Face
-  block = faces_in w n (take (at + n * (3 * u) - at) (drop at bs))
-
-  abbrev later : List Face
-  later = faces_in w (left - n) (drop (at + n * (3 * u)) bs)
-
-  abbrev onward : List Face
-  onward = faces_in w left (drop at bs)
-
-  in_block : onward ≡ block ++ later
-  in_block =
-      let parts : left ≡ n + (left - n) = omega arith in
-      ap (λ m. faces_in w m (drop at bs)) parts
-      ∙ faces_split w n (left - n) (drop at bs)
-      ∙ rw (same, faces_part w n (at + n * (3 * w) - at) (drop at bs) (omega arith), drop-drop (n * (3 * w)) at bs)
-
-  module _ {t : Tally} (e : t ≡ tally_of v block) (done : ℕ) where
-    pub below_block : t.outside ≡ false → below v (done + 3 * n) later ≡ below v done onward
-    below_block o =
-        sym
-        (ap (below v done) in_block
-        ∙ block_passed v done block later (sym (ap (λ t. t.outside) e) ∙ o)
-        ∙ ap (λ m. below v (done + 3 * m) later) (length_faces_in w n (take (at + n * (3 * u) - at) (drop at bs))))
-
-    pub past_block : t.outside ≡ true → (all : List Face) → scan_from v done block ≡ counted_by (below v done onward) all
-    past_block o all =
-        block_stops v done block later block all (sym (ap (λ t. t.outside) e) ∙ o)
-        ∙ ap (λ fs. counted_by (below v done fs) all) (sym in_block)
-
-    pub counted_block : (d : ℕ) → d + t.degenerate + degenerate later ≡ d + degenerate onward
-    counted_block d = omega (arith, ap (λ t. t.degenerate) e, ap degenerate in_block, degenerate_append block later)
-
--- ---- small blocks of a block with a value past the limit
+-- ---- a pass: no value of the first i of n faces is past V
 module _ (w v : ℕ) (bs : List ℕ) where
-  pub clean_none : any_outside v (faces_in w 0 bs) ≡ false
-  unfolding faces_in any_outside
-  clean_none = refl
+  onward : (i n k : ℕ) → i ≤ n → any_outside v (faces_in w i bs) ≡ false
+      → below v k (faces_in w n bs) ≡ below v (k + 3 * i) (faces_in w (n - i) (drop (i * (3 * w)) bs))
+  onward i n k h c =
+      let all : n ≡ i + (n - i) = omega arith in
+      let later = faces_in w (n - i) (drop (i * (3 * w)) bs) in
+      ap (λ m. below v k (faces_in w m bs)) all
+      ∙ ap (below v k) (faces_split w i (n - i) bs)
+      ∙ block_passed v k (faces_in w i bs) later c
+      ∙ ap (λ m. below v (k + 3 * m) later) (length_faces_in w i bs)
 
+  -- a face more
+  pub face_passed : (i : ℕ) {d : ℕ} {f : Face} → record { outside = false; degenerate = d } ≡ tally_of v (faces_in w i bs) → f ≡ face_at w bs (i * (3 * w))
+      → is_outside v f ≡ false → record { outside = false; degenerate = d + cond (is_degenerate f) 1 0 } ≡ tally_of v (faces_in w (i + 1) bs)
+  face_passed i {d} {f} t e o =
+      let more : with_face v (record { outside = false; degenerate = d }) f ≡ tally_of v (faces_in w (i + 1) bs) =
+      ap (λ s. with_face v s f) t ∙ rw e (tally_next v (faces_in w i bs) (face_at w bs (i * (3 * w)))) ∙ ap (tally_of v) (sym (one_more w v bs i)) in
+      ap (λ b. record { outside = b; degenerate = d + cond (is_degenerate f) 1 0 }) (sym o) ∙ more
+
+  -- m faces more, in a part of their own
+  pub part_passed : (i m at k : ℕ) {d : ℕ} {t : Tally} → at ≡ i * (3 * w) → m * (3 * w) ≤ k → record { outside = false; degenerate = d } ≡ tally_of v (faces_in w i bs)
+      → t ≡ tally_of v (faces_in w m (take k (drop at bs))) → t.outside ≡ false → record { outside = false; degenerate = d + t.degenerate } ≡ tally_of v (faces_in w (i + m) bs)
+  part_passed i m at k {d} {t} a h p e o = tally_both w v bs i m at k a h p e (ap (λ b. record { outside = b; degenerate = d + t.degenerate }) (sym o))
+
+  pub part_clean : (i m at k : ℕ) {t : Tally} → at ≡ i * (3 * w) → m * (3 * w) ≤ k → any_outside v (faces_in w i bs) ≡ false
+      → t ≡ tally_of v (faces_in w m (take k (drop at bs))) → t.outside ≡ false → any_outside v (faces_in w (i + m) bs) ≡ false
+  part_clean i m at k a h c e o =
+      let so_far : record { outside = false; degenerate = degenerate (faces_in w i bs) } ≡ tally_of v (faces_in w i bs) =
+      ap (λ b. record { outside = b; degenerate = degenerate (faces_in w i bs) }) (sym c) in
+      sym (ap (λ (t : Tally). t.outside) (part_passed i m at k a h so_far e o))
+
+  -- or the face where the pass stops
+  pub face_stops : (i n k j : ℕ) {f : Face} → i < n → any_outside v (faces_in w i bs) ≡ false → f ≡ face_at w bs (i * (3 * w))
+      → ((fs : List Face) → below v (k + 3 * i) (f ∷ fs) ≡ NotBelow j) → counted_by (NotBelow j) [] ≡ scan_from v k (faces_in w n bs)
+  face_stops i n k j h c e s =
+      scan_past v k (faces_in w n bs)
+      (onward i n k (omega arith) c
+      ∙ ap (below v (k + 3 * i)) (first w (n - i) bs (i * (3 * w)) (omega arith))
+      ∙ rw (← e) (s _))
+
+  -- or m faces, one of which stops it
+  pub some_stop : (i m n k : ℕ) → i + m ≤ n → any_outside v (faces_in w i bs) ≡ false → any_outside v (faces_in w m (drop (i * (3 * w)) bs)) ≡ true
+      → scan_from v (k + 3 * i) (faces_in w m (drop (i * (3 * w)) bs)) ≡ scan_from v k (faces_in w n bs)
+  some_stop i m n k h c o =
+      let all : n - i ≡ m + (n - i - m) = omega arith in
+      let here = faces_in w m (drop (i * (3 * w)) bs) in
+      let later = faces_in w (n - i - m) (drop (m * (3 * w)) (drop (i * (3 * w)) bs)) in
+      let says : below v k (faces_in w n bs) ≡ below v (k + 3 * i) (here ++ later) =
+      onward i n k (omega arith) c
+      ∙ ap (λ a. below v (k + 3 * i) (faces_in w a (drop (i * (3 * w)) bs))) all
+      ∙ ap (below v (k + 3 * i)) (faces_split w m (n - i - m) (drop (i * (3 * w)) bs)) in
+      block_stops v (k + 3 * i) here later here (faces_in w n bs) o ∙ ap {A = Values} (λ r. counted_by r (faces_in w n bs)) (sym says)
+
+  -- one of the others is past V where one of all is
+  pub others_outside : (i n : ℕ) → i ≤ n → any_outside v (faces_in w i bs) ≡ false → any_outside v (faces_in w n bs) ≡ true
+      → any_outside v (faces_in w (n - i) (drop (i * (3 * w)) bs)) ≡ true
+  others_outside i n h c o =
+      let all : i + (n - i) ≡ n = omega arith in
+      let later = faces_in w (n - i) (drop (i * (3 * w)) bs) in
+      let split : any_outside v (faces_in w n bs) ≡ (any_outside v (faces_in w i bs) || any_outside v later) =
+      ap (λ m. any_outside v (faces_in w m bs)) (sym all) ∙ ap (any_outside v) (faces_split w i (n - i) bs) ∙ outside_append v (faces_in w i bs) later in
+      rw c at (sym split ∙ o)
+
+  -- or all faces were passed
+  pub all_passed : (n k : ℕ) {d : ℕ} → record { outside = false; degenerate = d } ≡ tally_of v (faces_in w n bs)
+      → record { values = Below; faces = record { 0 = n }; degenerate = d } ≡ scan_from v k (faces_in w n bs)
+  all_passed n k e =
+      scan_below v k (faces_in w n bs)
+      (onward n n k (omega arith) (sym (ap (λ (t : Tally). t.outside) e)) ∙ below_none v (k + 3 * n) (ended w (n - n) (drop (n * (3 * w)) bs) (omega arith)))
+      (sym (length_faces_in w n bs))
+      (ap (λ (t : Tally). t.degenerate) e)
+
+-- ---- i faces and m after them, of n that are all there, of the width that code has
+pub parts_fit : (i m n : ℕ) {u w l : ℕ} → u ≡ w → i + m ≤ n → n * (3 * w) ≤ l → i * (3 * u) + m * (3 * u) ≤ l
+parts_fit i m n {w = w} same h f = let own : 3 * w ≤ 3 * w = omega arith in rw same (omega (arith, mul-le-mul h own, add-mul i m (3 * w)))
+
+-- ---- some faces that are clean, by small blocks, and what is left of them
+module _ (w v : ℕ) (bs : List ℕ) where
   pub clean_more : (i k at : ℕ) {t : Tally} → at ≡ i * (3 * w) → 64 * (3 * w) ≤ k → t ≡ tally_of v (faces_in w 64 (take k (drop at bs))) → t.outside ≡ false →
       any_outside v (faces_in w i bs) ≡ false → any_outside v (faces_in w (i + 64) bs) ≡ false
   clean_more i k at {t} a h e o c =

@@ -8,15 +8,14 @@ use mathlib.Core.Bool.{Bool, true, false, cond, ◌||◌, ◌&&◌, or-false, or
 use mathlib.Core.List.{List}
 use lib.Arith.{digits_mod}
 use lib.Dec.{eqb, leb, ltb}
-use lib.ListN.{take, drop}
 use borrow.Author.Tests.{leb-true, ltb-true, ltb-false, le-leb, eq-eqb, ne_eqb}
 use Rattle.base.proofs.Tests.{by_test}
 use Rattle.le.specs.Le.{number_at}
 use Rattle.faces.specs.declared.Face.{Face}
-use Rattle.faces.specs.declared.Tally.{Tally}
+use Rattle.faces.specs.declared.tally.Tally.{Tally}
 use Rattle.faces.specs.Private.{face_at, is_outside, any_outside, tally_of, with_face}
 use Rattle.faces.specs.Faces.{faces_in, is_degenerate, degenerate}
-use Rattle.faces.proofs.Blocks.{faces_split, faces_part, outside_append, degenerate_append, tally_next, one_more}
+use Rattle.faces.proofs.Blocks.{tally_next, one_more}
 
 -- one of k values is not below V
 unfoldable pub any_value : (w v k : ℕ) → List ℕ → Bool
@@ -27,6 +26,15 @@ any_value w v (suc k) bs = any_value w v k bs || leb v (number_at w bs (k * w))
 unfoldable pub equal_firsts : (w k : ℕ) → List ℕ → ℕ
 equal_firsts w zero bs = 0
 equal_firsts w (suc k) bs = equal_firsts w k bs + cond (is_degenerate (face_at w bs (k * w)) && eqb (k % 3) 0) 1 0
+
+at_most_one : (b : Bool) → cond b 1 0 ≤ 1
+at_most_one true = omega arith
+at_most_one false = omega arith
+
+pub firsts_most : (w k : ℕ) (bs : List ℕ) → equal_firsts w k bs ≤ k
+unfolding equal_firsts
+firsts_most w zero bs = omega arith
+firsts_most w (suc k) bs = omega (arith, firsts_most w k bs, at_most_one (is_degenerate (face_at w bs (k * w)) && eqb (k % 3) 0))
 
 -- ---- the values of whole faces
 regroup : (x a b c : Bool) → (((x || a) || b) || c) ≡ (x || ((a || b) || c))
@@ -146,19 +154,3 @@ module _ (w v : ℕ) (bs : List ℕ) where
       r
       ∙ rw (h, d, e, some, implied (leb v 0) (any_outside v (faces_in w (suc n) bs)) (zero_outside n))
       (ap (λ k. record { outside = any_outside v (faces_in w (suc n) bs); degenerate = k }) (ap (λ t. t.degenerate) all))
-
-  -- ---- the tally of faces, and of those after them in a part of their own
-  pub tally_both : (i m at k : ℕ) {t s r : Tally} → at ≡ i * (3 * w) → m * (3 * w) ≤ k → t ≡ tally_of v (faces_in w i bs)
-      → s ≡ tally_of v (faces_in w m (take k (drop at bs)))
-      → r ≡ record { outside = t.outside || s.outside; degenerate = t.degenerate + s.degenerate } → r ≡ tally_of v (faces_in w (i + m) bs)
-  tally_both i m at k a h t s r =
-      r
-      ∙ rw (
-        t,
-        s,
-        faces_part w m k (drop at bs) h,
-        a,
-        faces_split w i m bs,
-        outside_append v (faces_in w i bs) (faces_in w m (drop (i * (3 * w)) bs)),
-        degenerate_append (faces_in w i bs) (faces_in w m (drop (i * (3 * w)) bs)),
-      )

@@ -3,19 +3,19 @@ use Prim.Native.Nat.{ℕ, zero, suc, ◌+◌, ◌-◌, ◌*◌, ◌≤◌, ◌<�
 use native.Mathlib.Nat.{min-eq_left}
 use native.Mathlib.Omega.{arith}
 use mathlib.Core.Path.{◌≡◌, refl, sym, ap}
-use mathlib.Core.Bool.{true, false}
+use mathlib.Core.Bool.{false}
 use mathlib.Core.List.{List, [], ◌∷◌}
 use lib.ListN.{length, take, drop}
 use lib.Seq.{drop-drop}
-use borrow.Author.Tests.{lt-ltb, le-ltb, ne_eqb}
+use borrow.Author.Tests.{lt-leb, lt-ltb, le-ltb, ne_eqb}
 use Rattle.le.specs.Le.{number_at}
 use Rattle.le.proofs.Laws.{number_at_part}
 use Rattle.props.specs.Types.{byte, short}
 use Rattle.faces.specs.declared.Face.{Face}
-use Rattle.faces.specs.declared.Values.{Values}
-use Rattle.faces.specs.declared.Values.TheVariants.{Below, NotBelow}
-use Rattle.faces.specs.Private.{face_at, scan_from}
-use Rattle.faces.specs.Faces.{width_of, faces_in, below, is_degenerate, degenerate, counted_by, scan_of}
+use Rattle.faces.specs.Faces.{Values}
+use Rattle.faces.specs.Faces.{Below, NotBelow}
+use Rattle.faces.specs.Private.{face_at, is_outside, scan_from}
+use Rattle.faces.specs.Faces.{width_of, faces_in, below, degenerate, counted_by, scan_of}
 
 -- the numbers read of a width of at most four are a face
 pub face_read : (w : ℕ) (bs : List ℕ) (at : ℕ) {x y z : ℕ} → w ≤ 4 → x ≡ number_at (min w 4) bs at → y ≡ number_at (min w 4) bs (at + w)
@@ -86,23 +86,12 @@ module _ (v k : ℕ) (f : Face) (fs : List Face) where
       unfolding below
       passed h = rw (lt-ltb _ _ a, lt-ltb _ _ b, lt-ltb _ _ h)
 
+pub inside : (v : ℕ) (f : Face) → f.a < v → f.b < v → f.c < v → is_outside v f ≡ false
+inside v f a b c = rw (lt-leb _ _ a, lt-leb _ _ b, lt-leb _ _ c)
+
 pub below_none : (v k : ℕ) {fs : List Face} → fs ≡ [] → below v k fs ≡ Below
 unfolding below
 below_none v k e = rw e
-
--- ---- the count of the degenerate faces
-module _ (d : ℕ) (f : Face) (fs : List Face) {d' : ℕ} where
-  pub counted : is_degenerate f ≡ true → d' ≡ d + 1 → d' + degenerate fs ≡ d + degenerate (f ∷ fs)
-  unfolding degenerate
-  counted e h = rw e (omega (arith, h))
-
-  pub not_counted : is_degenerate f ≡ false → d' ≡ d → d' + degenerate fs ≡ d + degenerate (f ∷ fs)
-  unfolding degenerate
-  not_counted e h = rw (e, h)
-
-pub count_none : (d : ℕ) {fs : List Face} → fs ≡ [] → d ≡ d + degenerate fs
-unfolding degenerate
-count_none d e = rw e (omega arith)
 
 -- ---- what the faces say: from the values that are all below, or from the first that is not
 module _ (v k : ℕ) (fs : List Face) where

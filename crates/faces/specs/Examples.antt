@@ -1,8 +1,8 @@
 -- Faces of document 01's E11 and E12, and others, computed by the definition.
 use Rattle.std.specs.Prelude.{ℕ, ◌≡◌, refl, List, [], ◌∷◌}
 use Rattle.le.specs.Le.{val, number_at}
-use Rattle.faces.specs.declared.Values.TheVariants.{Below, NotBelow}
-use Rattle.faces.specs.declared.Scanned.{Scanned}
+use Rattle.faces.specs.Faces.{Below, NotBelow}
+use Rattle.faces.specs.Faces.{Scanned}
 use Rattle.faces.specs.Faces.{width_of, faces_in, below, degenerate, scan_of}
 
 unfoldable scanned : ℕ → ℕ → ℕ → List ℕ → Scanned

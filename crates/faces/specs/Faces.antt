@@ -1,12 +1,12 @@
 -- Document 01: "f has a length divisible by 3 (three values a face) and each value below V; a face with two equal indices is
 -- allowed and counted as degenerate"; "`N` any of `b h i`, read unsigned".
-use Rattle.std.specs.Prelude.{ℕ, zero, suc, ◌+◌, ◌*◌, Bool, cond, ◌||◌, List, [], ◌∷◌, eqb, ltb, length, drop}
+use Rattle.std.specs.Prelude.{ℕ, zero, suc, ◌+◌, ◌*◌, Bool, cond, ◌||◌, List, [], ◌∷◌, eqb, ltb, length, drop, Result, Ok, Err}
 use Rattle.le.specs.Le.{number_at}
 use Rattle.props.specs.Types.{byte, short}
 use Rattle.faces.specs.declared.Face.{Face}
-use Rattle.faces.specs.declared.Values.{Values}
-use Rattle.faces.specs.declared.Values.TheVariants.{Below, NotBelow}
-use Rattle.faces.specs.declared.Scanned.{Scanned}
+use Rattle.faces.specs.declared.Faces.{Faces}
+use Rattle.faces.specs.declared.Counted.{Counted}
+use Rattle.faces.specs.declared.NotBelow.{NotBelow as CodeNotBelow}
 
 -- the width of a value, the size of b, h, i; any other type is read as i
 unfoldable pub width_of : ℕ → ℕ
@@ -17,7 +17,12 @@ unfoldable pub faces_in : (width count : ℕ) → List ℕ → List Face
 faces_in w zero bs = []
 faces_in w (suc n) bs = record { a = number_at w bs 0; b = number_at w bs w; c = number_at w bs (2 * w) } ∷ faces_in w n (drop (3 * w) bs)
 
--- each value is below V; or the first that is not, the values counted from k on
+-- each value is below V; or the first that is not
+pub data Values : Type 0 where
+  Below : Values
+  NotBelow : (value : ℕ) → Values
+
+-- the values counted from k on
 unfoldable pub below : (vertices k : ℕ) → List Face → Values
 below v k [] = Below
 below v k (f ∷ fs) =
@@ -32,6 +37,17 @@ is_degenerate f = (eqb f.a f.b || eqb f.b f.c) || eqb f.a f.c
 unfoldable pub degenerate : List Face → ℕ
 degenerate [] = 0
 degenerate (f ∷ fs) = cond (is_degenerate f) (suc (degenerate fs)) (degenerate fs)
+
+-- what a pass over faces gives
+pub record Scanned : Type 0 where
+  pub values : Values
+  pub faces : Faces
+  pub degenerate : ℕ
+
+-- as the code has it
+abbrev pub scanned_told : Result Counted CodeNotBelow → Scanned
+scanned_told (Ok c) = record { values = Below; faces = c.faces; degenerate = c.degenerate }
+scanned_told (Err k) = record { values = NotBelow k.0; faces = record { 0 = 0 }; degenerate = 0 }
 
 -- how many faces there are, degenerate ones too, and how many of them are degenerate; none where a value is not below V
 abbrev pub counted_by : Values → List Face → Scanned

@@ -2,8 +2,8 @@
 use Rattle.std.specs.Prelude.{ℕ, ◌+◌, ◌*◌, Bool, false, cond, ◌||◌, List, [], ◌∷◌, leb}
 use Rattle.le.specs.Le.{number_at}
 use Rattle.faces.specs.declared.Face.{Face}
-use Rattle.faces.specs.declared.Scanned.{Scanned}
-use Rattle.faces.specs.declared.Tally.{Tally}
+use Rattle.faces.specs.Faces.{Scanned}
+use Rattle.faces.specs.declared.tally.Tally.{Tally}
 use Rattle.faces.specs.Faces.{below, is_degenerate, degenerate, counted_by}
 
 -- the face at a place of some bytes, of values of a width

@@ -11,8 +11,8 @@ use lib.Seq.{take_at, take-append_seam, take-length}
 use borrow.Author.Tests.{eq-eqb, eqb-true, ltb-true, ltb-false}
 use Rattle.le.specs.Le.{AreBytes}
 use Rattle.base.proofs.Tests.{by_test}
-use Rattle.props.specs.declared.Step.{Step}
-use Rattle.props.specs.declared.Step.TheVariants.{Past, Refused}
+use Rattle.props.specs.Step.{Step}
+use Rattle.props.specs.Step.{Past, Refused}
 use Rattle.props.specs.Step.{step_at}
 use Rattle.body.specs.Body.{by_step, pass, properties, exactly}
 use Rattle.body.proofs.Laws.{few, many}

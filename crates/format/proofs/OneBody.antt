@@ -5,8 +5,8 @@ use mathlib.Core.Path.{◌≡◌, refl, ap, sym, ◌∙◌}
 use mathlib.Core.List.{List, [], ◌∷◌, ◌++◌, append_assoc, flat_map}
 use lib.ListN.{length, take, drop}
 use Rattle.le.specs.Le.{number_at}
-use Rattle.props.specs.declared.Size.{Size}
-use Rattle.props.specs.declared.Size.TheVariants.{Bytes, Text, NoSuch}
+use Rattle.props.specs.Types.{Size}
+use Rattle.props.specs.Types.{Bytes, Text, NoSuch}
 use Rattle.props.specs.Types.{element_size}
 use Rattle.base.specs.Lists.{Each}
 use Rattle.format.specs.Layout.{Property, property_bytes, Content, GoodProperty}

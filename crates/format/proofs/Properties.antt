@@ -11,8 +11,8 @@ use Rattle.le.proofs.Laws.{val_le, number_at_lt, rest, rest_drop, part_front, le
 use Rattle.names.specs.Names.{bytes_ok}
 use Rattle.props.specs.declared.Cursor.{Cursor}
 use Rattle.props.specs.declared.Offsets.{Offsets}
-use Rattle.props.specs.declared.Step.{Step}
-use Rattle.props.specs.declared.Step.TheVariants.{Past, Refused}
+use Rattle.props.specs.Step.{Step}
+use Rattle.props.specs.Step.{Past, Refused}
 use Rattle.props.specs.Types.{element_size}
 use Rattle.props.specs.Step.{header_refusal, code_at, size_at, length_at, name_at, start_at, step_at}
 use Rattle.props.proofs.Cases.{header_right, name_fits, staged, by_stages, by_data}

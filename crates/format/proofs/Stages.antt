@@ -10,12 +10,12 @@ use lib.Seq.{length-take-le}
 use borrow.Author.Tests.{eq-eqb, ne_eqb, eqb-true, eqb-false, leb-true, leb-false, le-leb, lt-leb, ltb-false, not-true}
 use Rattle.base.proofs.Tests.{by_test}
 use Rattle.names.specs.Names.{size_ok, byte_ok, bytes_ok}
-use Rattle.props.specs.declared.Size.{Size}
-use Rattle.props.specs.declared.Size.TheVariants.{Bytes, Text, NoSuch}
+use Rattle.props.specs.Types.{Size}
+use Rattle.props.specs.Types.{Bytes, Text, NoSuch}
 use Rattle.props.specs.declared.Cursor.{Cursor}
 use Rattle.props.specs.declared.Offsets.{Offsets}
-use Rattle.props.specs.declared.Step.{Step}
-use Rattle.props.specs.declared.Step.TheVariants.{Past, Refused}
+use Rattle.props.specs.Step.{Step}
+use Rattle.props.specs.Step.{Past, Refused}
 use Rattle.props.specs.Types.{element_size, no_such}
 use Rattle.props.specs.Step.{header_refusal, data_refusal, to_zero}
 use Rattle.props.specs.Private.{fit, data_of}

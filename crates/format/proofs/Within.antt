@@ -1,14 +1,13 @@
 -- Where the rows of a forest lie: their bodies within its bytes, one after the other; their parents among the rows.
+use Rattle.std.specs.Prelude.{Option, None}
 use Prim.Native.Nat.{ℕ, suc, ◌+◌, ◌≤◌, ◌<◌}
 use native.Mathlib.Omega.{arith}
 use mathlib.Core.Path.{◌≡◌, refl, sym, subst, ◌∙◌}
 use mathlib.Core.Logic.{◌⊎◌, inl, inr}
 use mathlib.Core.Bool.{Bool, true, false, cond}
 use lib.ListN.{length, length-append}
-use Rattle.kinds.specs.declared.Parent.TheVariants.{None}
 use Rattle.kinds.specs.Kinds.{bone, parents_table, parents_in, parents_of, stands_at_top, may_stand}
 use Rattle.table.specs.declared.Row.{Row}
-use Rattle.table.specs.declared.Which.{Which}
 use Rattle.table.specs.Table.{no_parent}
 use Rattle.table.specs.Counts.{is_counted, count_under}
 use Rattle.table.proofs.Counts.{counted_none}
@@ -73,7 +72,7 @@ rows_under (unknown k h p c rest next) parent row at =
     (inl refl, each_map (under_in parent row n (suc row) (nodes next) (omega arith) (omega arith)) (rows next parent (suc row) there) (rows_under next parent (suc row) there))
 
 -- none of some nodes' rows is under a parent that is neither theirs nor one of them
-pub rows_none : (which : Which) (f : Forest) (parent row at p : ℕ) → (parent ≡ p → ⊥) → (row ≤ p → row + nodes f ≤ p)
+pub rows_none : (which : Option ℕ) (f : Forest) (parent row at p : ℕ) → (parent ≡ p → ⊥) → (row ≤ p → row + nodes f ≤ p)
     → count_under which (rows f parent row at) p ≡ 0
 rows_none which f parent row at p n o = counted_none which (rows f parent row at) p (each_map other (rows f parent row at) (rows_under f parent row at))
   where

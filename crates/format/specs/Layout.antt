@@ -1,15 +1,13 @@
 -- Document 01's layout, as propositions: no refusal's number, no place, no order.
-use Rattle.std.specs.Prelude.{ℕ, ◌+◌, ◌*◌, ◌^◌, ◌≤◌, ◌<◌, ◌≡◌, true, false, length}
+use Rattle.std.specs.Prelude.{ℕ, ◌+◌, ◌*◌, ◌^◌, ◌≤◌, ◌<◌, ◌≡◌, true, false, length, Option, Some}
 use mathlib.Core.List.{List, [], ◌∷◌, ◌++◌, flat_map}
 use Rattle.base.specs.Limits.{most_properties, most_rows}
 use Rattle.base.specs.Lists.{Each}
 use Rattle.le.specs.Le.{le, AreBytes}
-use Rattle.kinds.specs.declared.Parent.{Parent}
-use Rattle.kinds.specs.declared.Parent.TheVariants.{Kind}
 use Rattle.kinds.specs.Kinds.{is_known, may_stand}
 use Rattle.table.specs.declared.Row.{Row}
-use Rattle.props.specs.declared.Size.{Size}
-use Rattle.props.specs.declared.Size.TheVariants.{Bytes, Text, NoSuch}
+use Rattle.props.specs.Types.{Size}
+use Rattle.props.specs.Types.{Bytes, Text, NoSuch}
 use Rattle.props.specs.Types.{element_size}
 use Rattle.format.specs.Forest.{Forest, end, known, unknown, count, nodes, encode}
 
@@ -86,9 +84,9 @@ WellFormedFile flags f = (flags < 256 ^ 4) × (count f < 256 ^ 4) × WellFormed 
 -- Of depth (8) nothing: nodes that stand where they may lie at depth 5 at most. The file's length (2) is no matter of nodes.
 
 -- not "kind not allowed there": each may stand under its parent
-abbrev pub Placed : Parent → Forest → Type 0
+abbrev pub Placed : Option ℕ → Forest → Type 0
 Placed parent end = Unit {0}
-Placed parent (known k h p body kids next) = (may_stand parent k ≡ true) × Placed (Kind k) kids × Placed parent next
+Placed parent (known k h p body kids next) = (may_stand parent k ≡ true) × Placed (Some k) kids × Placed parent next
 Placed parent (unknown k h p c rest next) = (may_stand parent k ≡ true) × Placed parent next
 
 -- not "a 1,025th node"

@@ -9,7 +9,7 @@ ghost use Rattle.format.specs.Rows.{own_bytes, body_of, outside};
 pub const FIRST_FOUR: u32 = 0x74736163;
 
 // A node's own bytes. They have a type of their own, so that faces are never added to them.
-#[derive(Clone, Copy)]
+#[derive(Clone, Copy, Debug, PartialEq, Eq)]
 pub struct OwnBytes(pub u64);
 
 // The own bytes of the node in a row. A body that ends before its start has none.

@@ -1,7 +1,7 @@
 -- Of the lines of the node's kind, the judgement by lines is the one by names.
 use Rattle.std.proofs.Common.{◌≡◌, ℕ, zero, suc, ◌<◌, false, eqb, List, [], map, length, get_or, sym, refl, arith, eqb-true}
 use lib.ListN.{length-map}
-use Rattle.base.specs.declared.Refusal.{Refusal}
+use Rattle.base.specs.Refusals.{Refusal}
 use Rattle.base.specs.Refusals.{refused_or}
 use Rattle.base.specs.Letters.{letters}
 use Rattle.base.proofs.Tests.{by_test}
@@ -9,9 +9,7 @@ use Rattle.names.specs.Names.{same, read_digits, number, number_after}
 use Rattle.kinds.specs.Kinds.{mesh, blend_shape, curve}
 use Rattle.body.specs.Body.{first_named}
 use Rattle.rules.specs.Table.{lines, free}
-use Rattle.rules.specs.Packing.{columns_of}
 use Rattle.rules.specs.Rules.{lists, find_in, of_kind, lines_of, required_in}
-use Rattle.rules.proofs.Together.{lines_packed}
 use Rattle.judge.specs.Properties.{line_number, has, length_of, value_of, types_of, beside_of}
 use Rattle.judge.specs.Typed.{typed}
 use Rattle.judge.specs.Missing.{unpartnered, lacks}
@@ -100,21 +98,19 @@ module _ (s starts : List ℕ) where
   -- ---- 13, then 14, then 15
   module _ (kind bones : ℕ) where
     lacks_by : (typed (lines_of kind) s [] starts).number ≡ 0 →
-        lacks_by_line kind (required_in (lines_of kind)) (required_among (map columns_of (lines_of kind)) (of kind)) (of kind) ≡ lacks kind (lines_of kind) s starts
+        lacks_by_line kind (required_in (lines_of kind)) (required_among (lines_of kind) (of kind)) (of kind) ≡ lacks kind (lines_of kind) s starts
     unfolding lacks_by_line lacks
     lacks_by e = rw (by_count kind s starts e, unpartnered_by kind)
 
-    verdict_by : verdict_by_line kind (required_in (lines_of kind)) (map columns_of (lines_of kind)) s starts bones ≡ verdict_at kind (lines_of kind) s starts bones
+    verdict_by : verdict_by_line kind (required_in (lines_of kind)) (lines_of kind) s starts bones ≡ verdict_at kind (lines_of kind) s starts bones
     unfolding verdict_by_line verdict_at
     verdict_by =
-        rw (lines_packed kind)
-        (by_number (typed (lines_of kind) s [] starts).number (typed (lines_of kind) s [] starts)
-        (λ e. rw (lacks_by e, beside_by kind bones)))
+        by_number (typed (lines_of kind) s [] starts).number (typed (lines_of kind) s [] starts) (λ e. rw (lacks_by e, beside_by kind bones))
       where
         by_number : (n : ℕ) (v : Refusal) {a b : Refusal} → (n ≡ 0 → a ≡ b) → refused_or n v a ≡ refused_or n v b
         by_number zero v e = e refl
         by_number (suc n) v e = refl
 
-    pub by_line : judged_by_line kind (required_in (lines_of kind)) (map columns_of (lines_of kind)) s starts bones ≡ judged_at kind (lines_of kind) s starts bones
+    pub by_line : judged_by_line kind (required_in (lines_of kind)) (lines_of kind) s starts bones ≡ judged_at kind (lines_of kind) s starts bones
     unfolding judged_by_line judged_at
-    by_line = rw (verdict_by, lines_packed kind)
+    by_line = rw verdict_by

@@ -1,13 +1,13 @@
 -- What a node that is judged right counts.
 use Rattle.std.proofs.Common.{◌≡◌, ℕ, ◌+◌, List, [], ◌∷◌, ◌++◌, length, refl, arith}
-use Rattle.base.specs.declared.Refusal.{Refusal}
+use Rattle.base.specs.Refusals.{Refusal}
 use Rattle.base.proofs.Refusals.{by_refusal}
 use Rattle.base.proofs.Tests.{by_test}
 use Rattle.body.specs.Body.{properties}
 use Rattle.faces.specs.declared.Face.{Face}
 use Rattle.faces.specs.Faces.{is_degenerate, degenerate}
 use Rattle.rules.specs.Rules.{lines_of}
-use Rattle.judge.specs.declared.Judged.{Judged}
+use Rattle.judge.specs.Judge.{Judged}
 use Rattle.judge.specs.Valued.{node_faces, node_links}
 use Rattle.judge.specs.Judge.{verdict_at, refused_node, accepted_node, judged_by, judged_at, judged}
 

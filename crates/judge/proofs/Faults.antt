@@ -1,25 +1,30 @@
 -- What one property breaks: the number of a bone by comparisons of the unsigned number, and the faces that count.
 use Rattle.std.proofs.Common.{◌≡◌, ℕ, zero, suc, ◌+◌, ◌-◌, ◌/◌, ◌%◌, ◌<◌, ◌≤◌, Bool, true, false, cond, ◌&&◌, ◌||◌, eqb, ltb, List, [], ◌∷◌, length, negsuc, sym, refl, ap, ◌∙◌, arith, ltb-true, eq-eqb, ne_eqb, eqb-true}
 use borrow.Author.Tests.{eqb-false}
+use Rattle.std.specs.Prelude.{Result, Ok, Err, IfOk}
 use Rattle.le.specs.Le.{AreBytes}
 use Rattle.le.proofs.Laws.{number_at_lt}
 use Rattle.base.proofs.Tests.{by_test}
 use Rattle.props.specs.Step.{code_at, length_at}
 use Rattle.faces.specs.declared.Face.{Face}
-use Rattle.faces.specs.declared.Values.{Values}
-use Rattle.faces.specs.declared.Values.TheVariants.{Below, NotBelow}
-use Rattle.faces.specs.declared.Scanned.{Scanned}
+use Rattle.faces.specs.Faces.{Values}
+use Rattle.faces.specs.Faces.{Below, NotBelow}
+use Rattle.faces.specs.Faces.{Scanned, scanned_told}
+use Rattle.faces.specs.declared.Counted.{Counted}
+use Rattle.faces.specs.declared.NotBelow.{NotBelow as CodeNotBelow}
 use Rattle.faces.specs.Faces.{width_of, faces_in, below, is_degenerate, degenerate, counted_by, scan_of}
 use Rattle.faces.proofs.Laws.{length_faces_in}
-use Rattle.rules.specs.declared.Entry.{Entry}
-use Rattle.rules.specs.Packing.{line_of}
-use Rattle.rules.proofs.Helds.{by_held}
-use Rattle.judge.specs.declared.valued.Fault.{Fault}
-use Rattle.judge.specs.declared.valued.Fault.TheVariants.{Right, Whole, Element}
-use Rattle.judge.specs.declared.valued.Kept.{Kept}
+use Rattle.rules.specs.declared.Held.{Held as CodeHeld}
+use Rattle.rules.specs.declared.Held.TheVariants as H
+use Rattle.rules.specs.Packing.{held_from}
+use Rattle.judge.specs.Valued.{Fault}
+use Rattle.judge.specs.Valued.{Right, Whole, Element}
+use Rattle.judge.specs.Private.{Kept}
 use Rattle.judge.specs.Properties.{rest_at, Beside}
 use Rattle.judge.specs.Valued.{signed, parent_ok, by_values, faces_at, face_fault, fault_of, held_faces}
-use Rattle.judge.specs.Private.{kept_by, kept_at}
+use Rattle.judge.specs.Private.{kept_by, kept_at, kept_told}
+use Rattle.judge.specs.declared.valued.Fault.{Fault as CodeFault}
+use Rattle.judge.specs.declared.valued.Fault.TheVariants.{Element as CodeElement}
 
 -- ---- the number of a bone
 below_none : (n bones : ℕ) → (n ≡ 0 → ⊥) → false ≡ parent_ok (negsuc n) bones
@@ -56,6 +61,12 @@ scan_kept limit fs e =
     ∙ ap (λ v. kept_of v (counted_by (below limit 0 fs) fs)) (counted_values (below limit 0 fs) fs)
     ∙ counted_kept (below limit 0 fs) fs
 
+-- what is kept of a scan's result, where its faces are passed on and its first bad element is the fault
+pub told_kept : (r : Result Counted CodeNotBelow) {q : Result Counted CodeFault} → ((x : Counted) → r ≡ Ok x → q ≡ Ok x) →
+    ((k : CodeNotBelow) → r ≡ Err k → q ≡ Err (CodeElement k.0)) → kept_told q ≡ kept_of (scanned_told r).values (scanned_told r)
+told_kept (Ok x) f g = ap kept_told (f x refl)
+told_kept (Err k) f g = ap kept_told (g k refl)
+
 module _ (s : List ℕ) (at limit : ℕ) {n : ℕ} (e : n ≡ length_at s at) where
   pub faces_cut : (n % 3 ≡ 0 → ⊥) → record { fault = Whole; faces = 0; degenerate = 0 } ≡ kept_by (face_fault s at limit) (faces_at s at)
   faces_cut m = rw (← e, ne_eqb _ _ m)
@@ -86,47 +97,41 @@ faces_few s at h =
     omega (arith, n, number_at_lt 4 s (at + 4) h)
 
 -- a property that is held to be faces, and any other
-module _ (e : Entry) (s : List ℕ) (at : ℕ) (b : Beside) where
-  pub held_faces_lem : e.held ≡ 5 → AreBytes s → {r : Kept} → r ≡ kept_by (face_fault s at b.vertices) (faces_at s at) →
-      (r ≡ kept_at (line_of e).held s at b) × (r.faces < 4294967296) × (r.degenerate < 4294967296)
+no_faces : (f : Fault) → record { fault = f; faces = 0; degenerate = 0 } ≡ kept_by f []
+unfolding degenerate
+no_faces Right = refl
+no_faces Whole = refl
+no_faces (Element k) = refl
+
+other_faces : (held : CodeHeld) (s : List ℕ) (at : ℕ) → (held ≡ H.Faces → ⊥) → held_faces (held_from held) s at ≡ []
+other_faces H.Nothing s at n = refl
+other_faces H.Flag s at n = refl
+other_faces (H.OneOf set) s at n = refl
+other_faces H.Vertices s at n = refl
+other_faces H.Weights s at n = refl
+other_faces H.Faces s at n = absurd (n refl)
+other_faces H.Indices s at n = refl
+other_faces H.Keys s at n = refl
+other_faces H.BoneNumber s at n = refl
+other_faces (H.Link kind) s at n = refl
+
+few_kept : (s : List ℕ) (at : ℕ) → AreBytes s → (f : Fault) {r : Kept} → r ≡ kept_by f (faces_at s at) → (r.faces < 4294967296) × (r.degenerate < 4294967296)
+few_kept s at h f k =
+    let few = kept_few f (faces_at s at) in
+    let less = faces_few s at h in
+    (rw k (omega (arith, few, less)), rw k (omega (arith, few, less)))
+
+pub few_told : (s : List ℕ) (at : ℕ) → AreBytes s → (f : Fault) (q : Result Counted CodeFault) → kept_told q ≡ kept_by f (faces_at s at) →
+    IfOk q (λ c. (c.faces.0 < 4294967296) × (c.degenerate < 4294967296))
+few_told s at h f (Ok x) k = few_kept s at h f k
+few_told s at h f (Err e) k = tt
+
+module _ (held : CodeHeld) (s : List ℕ) (at : ℕ) (b : Beside) where
+  pub held_faces_lem : held ≡ H.Faces → {r : Kept} → r ≡ kept_by (face_fault s at b.vertices) (faces_at s at) → r ≡ kept_at (held_from held) s at b
   unfolding kept_at fault_of
-  held_faces_lem five h k =
-      let few = kept_few (face_fault s at b.vertices) (faces_at s at) in
-      let less = faces_few s at h in
-      (rw five k, rw k (omega (arith, few, less)), rw k (omega (arith, few, less)))
+  held_faces_lem f k = rw f k
 
-  no_faces : (f : Fault) → record { fault = f; faces = 0; degenerate = 0 } ≡ kept_by f []
-  unfolding degenerate
-  no_faces Right = refl
-  no_faces Whole = refl
-  no_faces (Element k) = refl
-
-  other_faces : (e.held ≡ 5 → ⊥) → held_faces (line_of e).held s at ≡ []
-  other_faces =
-      by_held e.set e.target (λ n held. (n ≡ 5 → ⊥) → held_faces held s at ≡ [])
-      (λ h. refl) (λ h. refl) (λ h. refl) (λ h. refl) (λ h. refl) (λ h. absurd (h refl)) (λ h. refl) (λ h. refl) (λ h. refl) (λ h. refl)
-      (λ n h. refl) e.held
-
-  pub held_other : (e.held ≡ 5 → ⊥) → {f : Fault} → f ≡ fault_of (line_of e).held s at b → {r : Kept} → r ≡ record { fault = f; faces = 0; degenerate = 0 } →
-      (r ≡ kept_at (line_of e).held s at b) × (r.faces < 4294967296) × (r.degenerate < 4294967296)
+  pub held_other : (held ≡ H.Faces → ⊥) → {f : Fault} → f ≡ fault_of (held_from held) s at b → {r : Kept} → r ≡ record { fault = f; faces = 0; degenerate = 0 } →
+      (r ≡ kept_at (held_from held) s at b) × (r.faces < 4294967296) × (r.degenerate < 4294967296)
   unfolding kept_at
-  held_other n q k = (k ∙ rw (q, other_faces n) (no_faces (fault_of (line_of e).held s at b)), rw k (omega arith), rw k (omega arith))
-
-  -- a property that is held to nothing, or to be a link, breaks nothing
-  pub idle : (eqb e.held 0 || eqb e.held 9) ≡ true → Right ≡ fault_of (line_of e).held s at b
-  unfolding fault_of
-  idle h =
-      by_test (eqb e.held 0)
-      (λ t. rw (eqb-true e.held 0 t))
-      (λ t. let nine : eqb e.held 9 ≡ true = rw t at h in rw (eqb-true e.held 9 nine))
-
-  -- and so does one that is held to none of these
-  pub unheld : (e.held ≡ 1 → ⊥) → (e.held ≡ 2 → ⊥) → (e.held ≡ 3 → ⊥) → (e.held ≡ 4 → ⊥) → (e.held ≡ 5 → ⊥) → (e.held ≡ 6 → ⊥) →
-      (e.held ≡ 7 → ⊥) → (e.held ≡ 8 → ⊥) → fault_of (line_of e).held s at b ≡ Right
-  unfolding fault_of
-  unheld =
-      by_held e.set e.target
-      (λ n held. (n ≡ 1 → ⊥) → (n ≡ 2 → ⊥) → (n ≡ 3 → ⊥) → (n ≡ 4 → ⊥) → (n ≡ 5 → ⊥) → (n ≡ 6 → ⊥) → (n ≡ 7 → ⊥) → (n ≡ 8 → ⊥) → fault_of held s at b ≡ Right)
-      (λ a b c d f g h i. refl) (λ a b c d f g h i. absurd (a refl)) (λ a b c d f g h i. absurd (b refl)) (λ a b c d f g h i. absurd (c refl))
-      (λ a b c d f g h i. absurd (d refl)) (λ a b c d f g h i. absurd (f refl)) (λ a b c d f g h i. absurd (g refl))
-      (λ a b c d f g h i. absurd (h refl)) (λ a b c d f g h i. absurd (i refl)) (λ a b c d f g h i. refl) (λ n a b c d f g h i. refl) e.held
+  held_other n q k = (k ∙ rw (q, other_faces held s at n) (no_faces (fault_of (held_from held) s at b)), rw k (omega arith), rw k (omega arith))

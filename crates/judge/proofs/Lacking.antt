@@ -1,7 +1,6 @@
 -- As many required properties as a kind has required lines are all of them, as no name comes twice; fewer are not.
-use Rattle.std.proofs.Common.{◌≡◌, ℕ, suc, ◌+◌, ◌<◌, ◌≤◌, Bool, true, false, cond, not, ◌&&◌, ◌||◌, eqb, List, [], ◌∷◌, ◌++◌, map, get_or, sym, refl, ap, ◌∙◌, true≢false, append_assoc, append-nil, arith, eq-eqb, ne_eqb}
+use Rattle.std.proofs.Common.{◌≡◌, ℕ, suc, ◌+◌, ◌<◌, ◌≤◌, Bool, true, false, cond, not, ◌&&◌, ◌||◌, eqb, List, [], ◌∷◌, ◌++◌, map, sym, refl, ap, ◌∙◌, true≢false, append_assoc, append-nil, arith, eq-eqb, ne_eqb}
 use mathlib.Core.Bool.{and-false, or-false, and-eq-true_iff}
-use lib.ListN.{get_or-map}
 use borrow.Author.Tests.{not-true}
 use Rattle.base.proofs.Tests.{by_test}
 use Rattle.base.specs.Letters.{letters}
@@ -9,8 +8,7 @@ use Rattle.names.specs.Names.{same, read_digits, number, number_after}
 use Rattle.names.proofs.Laws.{same_refl, same_eq}
 use Rattle.props.specs.Step.{name_at}
 use Rattle.body.specs.Body.{first_named}
-use Rattle.rules.specs.Table.{Line, lines, free}
-use Rattle.rules.specs.Packing.{bit_of, entry_from, columns_of}
+use Rattle.rules.specs.Table.{Line, lines}
 use Rattle.rules.specs.Rules.{lists, rule_in, of_kind, lines_of, required_in}
 use Rattle.rules.proofs.Laws.{all, found}
 use Rattle.rules.proofs.Spans.{of_all_kinds}
@@ -20,6 +18,9 @@ use Rattle.judge.specs.Typed.{is_mistyped, typed}
 use Rattle.judge.specs.Missing.{is_missing, misses}
 use Rattle.judge.specs.ByLine.{required_among}
 use Rattle.judge.proofs.Presence.{has_snoc}
+
+abbrev bit_of : Bool → ℕ
+bit_of b = cond b 1 0
 
 -- ---- what holds of the lines of a kind: a required one has one name, and no line before it has that
 
@@ -104,13 +105,12 @@ unfoldable required_of : List Line → (s starts : List ℕ) → ℕ
 required_of ls s [] = 0
 required_of ls s (at ∷ more) = bit_of (rule_at ls s at).required + required_of ls s more
 
-among_lines : (ls : List Line) (s starts : List ℕ) → required_among (map columns_of ls) (map (line_number ls s) starts) ≡ required_of ls s starts
+among_lines : (ls : List Line) (s starts : List ℕ) → required_among ls (map (line_number ls s) starts) ≡ required_of ls s starts
 unfolding required_among required_of
 among_lines ls s [] = refl
 among_lines ls s (at ∷ more) =
-    let row : get_or (map columns_of ls) (line_number ls s at) (columns_of free) ≡ columns_of (rule_at ls s at) =
-    get_or-map columns_of ls (line_number ls s at) free ∙ ap columns_of (found ls (name_at s at)) in
-    ap (λ r. (entry_from r).required + required_among (map columns_of ls) (map (line_number ls s) more)) row ∙ ap (λ n. bit_of (rule_at ls s at).required + n) (among_lines ls s more)
+    ap (λ (l : Line). bit_of l.required + required_among ls (map (line_number ls s) more)) (found ls (name_at s at))
+    ∙ ap (λ n. bit_of (rule_at ls s at).required + n) (among_lines ls s more)
 
 module _ (ls : List Line) (in_order : ordered ls ≡ true) (s : List ℕ) where
   -- each that has a required line is one more of the lines that are there
@@ -171,10 +171,10 @@ module _ (s starts : List ℕ) where
 
 -- for callers: of the lines of a kind as many are required as properties have required lines, or one is missing
 pub by_count : (kind : ℕ) (s starts : List ℕ) → (typed (lines_of kind) s [] starts).number ≡ 0 →
-    not (eqb (required_among (map columns_of (lines_of kind)) (map (line_number (lines_of kind) s) starts)) (required_in (lines_of kind))) ≡ misses (lines_of kind) s starts
+    not (eqb (required_among (lines_of kind) (map (line_number (lines_of kind) s) starts)) (required_in (lines_of kind))) ≡ misses (lines_of kind) s starts
 by_count kind s starts e =
     let ls = lines_of kind in
-    let n = required_among (map columns_of ls) (map (line_number ls s) starts) in
+    let n = required_among ls (map (line_number ls s) starts) in
     let all : present ls (has s starts) ≡ n =
     counted ls (in_order kind) s [] starts e ∙ ap (λ n. n + required_of ls s starts) (none_present ls s) ∙ omega (arith, among_lines ls s starts) in
     by_test (misses ls s starts)

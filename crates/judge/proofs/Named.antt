@@ -1,5 +1,10 @@
 -- Where a name is found by the numbers of lines: a line that no number follows is the line of one name.
-use Rattle.std.proofs.Common.{◌≡◌, ℕ, ◌+◌, ◌<◌, ◌≤◌, true, false, eqb, List, [], ◌∷◌, map, length, get_or, drop, sym, refl, ap, ◌∙◌, true≢false, add-one, arith, drop_of_length-le, drop-cons, eq-eqb, ne_eqb}
+use Rattle.std.proofs.Common.{◌≡◌, ℕ, ◌<◌, suc, true, false, cond, eqb, List, [], ◌∷◌, map, length, get_or, sym, refl, ap, ◌∙◌, true≢false, arith, eq-eqb, ne_eqb, lt-ltb, rules}
+use Rattle.std.specs.Prelude.{Option, None, Some}
+use Rattle.std.specs.Option.{option_map}
+use Rattle.std.specs.List.{position, position_or_len, list_any}
+use Rattle.std.proofs.lemmas.List.Recursion.{is_position_or_len}
+use lib.Dec.{leb-suc-suc}
 use Rattle.base.proofs.Tests.{by_test}
 use Rattle.names.specs.Names.{same}
 use Rattle.names.proofs.Laws.{same_refl, same_eq}
@@ -8,22 +13,35 @@ use Rattle.body.specs.Body.{first_named}
 use Rattle.rules.specs.Table.{Line, free}
 use Rattle.rules.specs.Rules.{lists, find_in}
 use Rattle.judge.specs.Properties.{line_number}
-use Rattle.judge.specs.ByLine.{first_number}
+use Rattle.judge.specs.ByLine.{first_number, has_number, place_by_line}
+use Rattle.judge.specs.Private.{place_found}
 
 -- ---- a number among some
-module _ (ns : List ℕ) (k i : ℕ) where
-  module _ (h : i < length ns) where
-    pub number_found : get_or ns i 0 ≡ k → i + first_number (drop i ns) k ≡ i
-    unfolding first_number
-    number_found e = rw (drop-cons ns i 0 h, eq-eqb _ _ e) (omega arith)
-
-    pub number_other : (get_or ns i 0 ≡ k → ⊥) → i + first_number (drop i ns) k ≡ i + 1 + first_number (drop (i + 1) ns) k
-    unfolding first_number
-    number_other e = rw (add-one, drop-cons ns i 0 h, ne_eqb _ _ e) (omega arith)
-
-  pub number_nowhere : length ns ≤ i → i + first_number (drop i ns) k ≡ i
+module _ (k : ℕ) where
+  is_first : (ns : List ℕ) → position_or_len (λ n. eqb n k) ns ≡ first_number ns k
   unfolding first_number
-  number_nowhere h = rw (drop_of_length-le ns {i = i} h) (omega arith)
+  is_first ns = sym (is_position_or_len (λ l. first_number l k) (λ n. eqb n k) refl (λ n more. ap (cond (eqb n k) 0) (omega arith)) ns)
+
+  -- where its first place is, another list has what stands there
+  pub at_first : (ps ns : List ℕ) {found : Option ℕ} → found ≡ position (λ n. eqb n k) ns → option_map (λ i. get_or ps i 0) found ≡ place_found ps ns k
+  at_first ps ns e =
+      rw (e, is_first ns)
+      (by_test (has_number ns k) (λ t. rw t) (λ t. rw t))
+
+  module _ (ps ns : List ℕ) where
+    pub not_found : None ≡ place_found ps ns k → has_number ns k ≡ false
+    not_found = by_test (has_number ns k) (λ t e. absurd (search (rules, rw t at e))) (λ t e. t)
+
+    pub found_at : {at : ℕ} → Some at ≡ place_found ps ns k → (has_number ns k ≡ true) × (at ≡ place_by_line ps ns k)
+    found_at = by_test (has_number ns k) (λ t e. (t, search (rules, rw t at e))) (λ t e. absurd (search (rules, rw t at e)))
+
+  pub among : (ns : List ℕ) → list_any (λ n. eqb n k) ns ≡ has_number ns k
+  unfolding first_number
+  among [] = refl
+  among (n ∷ ns) =
+      by_test (eqb n k)
+      (λ t. rw t (sym (lt-ltb 0 (suc (length ns)) (omega arith))))
+      (λ t. rw t (among ns ∙ sym (leb-suc-suc (suc (first_number ns k)) (length ns))))
 
 -- ---- a line and its names
 -- the line that is found for a name has it

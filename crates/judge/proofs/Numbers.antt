@@ -1,6 +1,6 @@
 -- The numbers of a node's refusal: 13 to 15.
 use Rattle.std.proofs.Common.{◌≡◌, ℕ, ◌+◌, ◌≤◌, List, [], ◌∷◌, ◌++◌, length, refl, arith}
-use Rattle.base.specs.declared.Refusal.{Refusal}
+use Rattle.base.specs.Refusals.{Refusal}
 use Rattle.base.specs.Refusals.{refusal}
 use Rattle.base.proofs.Refusals.{by_refusal}
 use Rattle.base.proofs.Tests.{by_test}

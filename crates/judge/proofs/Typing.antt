@@ -1,9 +1,10 @@
 -- 13: a name whose slot is not marked is a new name; a property that is right is passed; and what is noted of those passed.
 use Rattle.std.proofs.Common.{◌≡◌, ℕ, zero, suc, ◌+◌, ◌-◌, ◌*◌, ◌/◌, ◌%◌, ◌^◌, ◌<◌, ◌≤◌, Bool, true, false, cond, ◌||◌, eqb, ltb, List, [], ◌∷◌, ◌++◌, map, length, get_or, take, drop, set, sym, refl, ap, ◌∙◌, subst, true≢false, append_assoc, append-nil, add-one, arith, length-drop, length-set, drop_of_length-le, length-take, length-take-le, take_all, drop-cons, get_or-set_other, take-suc, get_or-set_same, take-take, drop-drop, pow-add, ltb-false, le-ltb, eq-eqb, eqb-true}
 use native.Mathlib.Nat.{pow-succ'}
+use Rattle.std.proofs.Math.Nat.{mod-add-mod}
 use mathlib.Core.List.{map-append}
 use lib.ListN.{length-map}
-use lib.Seq.{take-length, take-append_seam, sets, sets-eq, length-sets}
+use lib.Seq.{take-length, take-append_seam, sets, sets-eq}
 use borrow.Author.Tests.{eqb-false}
 use Rattle.le.specs.Le.{val, number_at, AreBytes}
 use Rattle.le.proofs.Laws.{number_at_past, number_at_high}
@@ -19,7 +20,7 @@ use Rattle.rules.specs.Table.{Line, free}
 use Rattle.rules.specs.Rules.{misfits, find_in}
 use Rattle.rules.proofs.Laws.{found}
 use Rattle.rules.proofs.Names.{neither}
-use Rattle.base.specs.declared.Refusal.{Refusal}
+use Rattle.base.specs.Refusals.{Refusal}
 use Rattle.judge.specs.Properties.{line_number, has}
 use Rattle.judge.specs.Typed.{is_mistyped, typed, rightly_typed, last_letters, summed, key_from, key_of, key_at, slot_of, slot_at, marked}
 use Rattle.base.specs.Refusals.{refusal, no_refusal}
@@ -52,11 +53,6 @@ module _ (keys : List ℕ) (key i : ℕ) (any : Bool) where
 
 -- slots that are marked
 module _ (m : ℕ) where
-  pub marked_length : (marks slots : List ℕ) → length (marked m marks slots) ≡ length marks
-  unfolding marked
-  marked_length marks [] = refl
-  marked_length marks (k ∷ ks) = marked_length (set marks k m) ks ∙ length-set marks k m
-
   marked_kept : (marks slots : List ℕ) (k : ℕ) → k < length marks → get_or marks k 0 ≡ m → get_or (marked m marks slots) k 0 ≡ m
   unfolding marked
   marked_kept marks [] k h e = e
@@ -136,27 +132,27 @@ module _ (name : List ℕ) where
   abbrev pub key_left : (sum i : ℕ) → ℕ
   key_left sum i = key_from ((length name - 1 - i) / 8) sum (drop i name)
 
-  module _ (sum i : ℕ) (h : 8 < length name - i) where
-    pub key_step : {eight thrice next : ℕ} → eight ≡ number_at 8 name i → thrice ≡ ((sum + sum) % 2 ^ 64 + sum) % 2 ^ 64 → next ≡ (thrice + eight) % 2 ^ 64 →
-        key_left next (i + 8) ≡ key_left sum i
+  thrice : (sum : ℕ) → ((sum + sum) % 2 ^ 64 + sum) % 2 ^ 64 ≡ sum * 3 % 2 ^ 64
+  thrice sum = mod-add-mod (sum + sum) (2 ^ 64) sum ∙ ap (λ n. n % 2 ^ 64) (omega arith)
+
+  module _ (sum i : ℕ) where
+    pub key_step : 8 < length name - i → {eight : ℕ} → eight ≡ number_at 8 name i → key_left ((sum * 3 % 2 ^ 64 + eight) % 2 ^ 64) (i + 8) ≡ key_left sum i
     unfolding key_from number_at
-    key_step {eight} {thrice} {next} e t n =
+    key_step h {eight} e =
         let left = (length name - 1 - (i + 8)) / 8 in
         let more : (length name - 1 - i) / 8 ≡ suc left = omega (arith, h) in
         let letters : number_at 8 (drop i name) 0 ≡ eight = sym e in
-        let added : summed sum (number_at 8 (drop i name) 0) ≡ next = ap (summed sum) letters ∙ ap (λ m. (m + eight) % 2 ^ 64) (sym t) ∙ sym n in
+        let next = (sum * 3 % 2 ^ 64 + eight) % 2 ^ 64 in
+        let added : summed sum (number_at 8 (drop i name) 0) ≡ next = ap (summed sum) letters ∙ ap (λ m. (m + eight) % 2 ^ 64) (thrice sum) in
         sym (ap (λ k. key_from k sum (drop i name)) more ∙ ap (λ m. key_from left m (drop 8 (drop i name))) added ∙ ap (key_from left next) (drop-drop 8 i name))
 
-  pub key_start : key_left 0 0 ≡ key_from ((length name - 1) / 8) 0 name
-  key_start = let whole : length name - 1 - 0 ≡ length name - 1 = omega arith in ap (λ n. key_from (n / 8) 0 name) whole
-
-  pub key_done : (sum i : ℕ) → length name - i ≤ 8 → key_left sum i ≡ key_from ((length name - 1) / 8) 0 name → {last thrice key : ℕ} →
-      last ≡ last_letters name → thrice ≡ ((sum + sum) % 2 ^ 64 + sum) % 2 ^ 64 → key ≡ (thrice + last) % 2 ^ 64 → key ≡ key_of name
-  unfolding key_from key_of
-  key_done sum i h left {last} {thrice} {key} e t k =
-      let none : (length name - 1 - i) / 8 ≡ 0 = omega (arith, h) in
-      let all : sum ≡ key_from ((length name - 1) / 8) 0 name = sym (ap (λ k. key_from k sum (drop i name)) none) ∙ left in
-      k ∙ ap (λ m. (m + last) % 2 ^ 64) t ∙ ap (λ m. summed m last) all ∙ ap (summed (key_from ((length name - 1) / 8) 0 name)) e
+    pub key_done : length name - i ≤ 8 → key_left sum i ≡ key_from ((length name - 1) / 8) 0 name → {last : ℕ} → last ≡ last_letters name →
+        (sum * 3 % 2 ^ 64 + last) % 2 ^ 64 ≡ key_of name
+    unfolding key_from key_of
+    key_done h left {last} e =
+        let none : (length name - 1 - i) / 8 ≡ 0 = omega (arith, h) in
+        let all : sum ≡ key_from ((length name - 1) / 8) 0 name = sym (ap (λ k. key_from k sum (drop i name)) none) ∙ left in
+        ap (λ m. (m + last) % 2 ^ 64) (sym (thrice sum)) ∙ ap (λ m. summed m last) all ∙ ap (summed (key_from ((length name - 1) / 8) 0 name)) e
 
 -- ---- properties
 
@@ -209,19 +205,6 @@ module _ {ls : List Line} {s : List ℕ} {m count : ℕ} {starts₀ numbers₀ k
 
   abbrev done : List ℕ
   done = take i all
-
-  -- the buffers keep their lengths
-  pub starts_long : length starts₁ ≡ length starts₀
-  starts_long = ap length o.starts ∙ length-sets starts₀ 0 (map (λ x. x) done)
-
-  pub numbers_long : length numbers₁ ≡ length numbers₀
-  numbers_long = ap length o.numbers ∙ length-sets numbers₀ 0 (map (line_number ls s) done)
-
-  pub keys_long : length keys₁ ≡ length keys₀
-  keys_long = ap length o.keys ∙ length-sets keys₀ 0 (map (key_at s) done)
-
-  pub marks_long : length marks₁ ≡ length marks₀
-  marks_long = ap length o.marks ∙ marked_length m marks₀ (map (slot_at s) done)
 
   many : length done ≡ i
   many = length-take-le i all (omega (arith, o.within, length_skim s count 0))

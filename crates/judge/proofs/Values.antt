@@ -1,29 +1,33 @@
 -- What some properties say: a right one adds what it counts to what the others say, the first other one is what all say.
-use Rattle.std.proofs.Common.{◌≡◌, ℕ, zero, suc, ◌+◌, ◌*◌, ◌<◌, ◌≤◌, true, false, List, [], ◌∷◌, ◌++◌, map, length, get_or, drop, sym, refl, ap, ◌∙◌, subst, true≢false, add-zero, zero-add, add-one, arith, length-append, drop_of_length-le, drop-cons}
+use Rattle.std.proofs.Common.{◌≡◌, ℕ, zero, suc, ◌+◌, ◌*◌, ◌<◌, ◌≤◌, true, false, List, [], ◌∷◌, ◌++◌, map, length, get_or, drop, sym, refl, ap, ◌∙◌, true≢false, add-zero, zero-add, add-one, arith, length-append, drop_of_length-le, drop-cons}
 use lib.ListN.{length-map}
-use Rattle.base.specs.declared.Refusal.{Refusal}
+use Rattle.std.specs.Prelude.{Result, Ok, Err, is_ok}
+use Rattle.base.specs.Refusals.{Refusal}
 use Rattle.base.specs.Refusals.{refused_or}
-use Rattle.le.specs.Le.{AreBytes}
 use Rattle.faces.specs.declared.Face.{Face}
 use Rattle.faces.specs.Faces.{degenerate}
-use Rattle.rules.specs.declared.Entry.{Entry}
+use Rattle.rules.specs.declared.Held.TheVariants as H
+use Rattle.rules.specs.declared.Line.{Line as CodeLine}
 use Rattle.rules.specs.Table.{Held, Line, free}
-use Rattle.rules.specs.Packing.{line_of, lines_from}
+use Rattle.rules.specs.Packing.{line_of}
 use Rattle.rules.proofs.Laws.{found}
 use Rattle.rules.proofs.Helds.{no_link}
 use Rattle.props.specs.Step.{name_at}
-use Rattle.judge.specs.declared.valued.Fault.{Fault}
-use Rattle.judge.specs.declared.valued.Fault.TheVariants.{Right, Whole, Element}
-use Rattle.judge.specs.declared.valued.Kept.{Kept}
-use Rattle.judge.specs.declared.Judged.{Judged}
+use Rattle.judge.specs.Valued.{Fault}
+use Rattle.judge.specs.Valued.{Right, Whole, Element}
+use Rattle.judge.specs.Private.{Kept, kept_told}
+use Rattle.faces.specs.declared.Counted.{Counted}
+use Rattle.judge.specs.declared.valued.Fault.{Fault as CodeFault}
+use Rattle.judge.specs.declared.valued.Fault.TheVariants.{Whole as CodeWhole, Element as CodeElement}
+use Rattle.judge.specs.Judge.{Judged}
 use Rattle.judge.specs.Properties.{rule_at, line_number, Beside}
 use Rattle.judge.specs.Typed.{typed}
-use Rattle.judge.specs.Valued.{faces_at, face_fault, fault_of, fault_number, valued, held_faces, node_faces, link_count, node_links}
-use Rattle.judge.specs.Judge.{refused_node, accepted_node, judged_by, Bounded}
+use Rattle.judge.specs.Valued.{fault_named, fault_told, faces_at, face_fault, fault_of, fault_number, valued, held_faces, node_faces, link_count, node_links}
+use Rattle.judge.specs.Judge.{refused_node, accepted_node, judged_by}
 use Rattle.judge.specs.ByLine.{required_among, lacks_by_line, beside_by_line, verdict_by_line, judged_by_line}
 use Rattle.judge.specs.Private.{breaks, kept_by, kept_at, valued_to}
 use Rattle.judge.proofs.Counted.{degenerate_append}
-use Rattle.judge.proofs.Faults.{held_faces_lem, held_other, idle}
+use Rattle.judge.proofs.Faults.{held_faces_lem, held_other}
 
 -- ---- the lines of some properties, by their numbers
 map_at : (f : ℕ → ℕ) (l : List ℕ) (i : ℕ) → i < length l → get_or (map f l) i 0 ≡ f (get_or l i 0)
@@ -102,7 +106,6 @@ module _ (ls : List Line) (s : List ℕ) (b : Beside) where
 
 -- what was counted of the properties before i, and what those from i on say on top of it
 pub record Counting (ls : List Line) (s : List ℕ) (b : Beside) (starts : List ℕ) (all : Judged) (faces degenerate links i : ℕ) : Type 0 where
-  pub within : i ≤ length starts
   pub faces_most : faces ≤ i * 4294967296
   pub degenerate_most : degenerate ≤ i * 4294967296
   pub links_most : links ≤ i
@@ -118,39 +121,57 @@ wrong Right e = absurd (true≢false (sym e))
 wrong Whole e = refl
 wrong (Element k) e = refl
 
+faces_no_link : {kind : ℕ} → H.Faces ≡ H.Link kind → ⊥
+faces_no_link e = cc
+
+-- a result that is right breaks nothing, and any other does
+named_wrong : (f : CodeFault) → breaks (fault_named f) ≡ true
+named_wrong CodeWhole = refl
+named_wrong (CodeElement k) = refl
+
+pub told_right : {A : Type 0} (r : Result A CodeFault) → is_ok r ≡ true → breaks (fault_told r) ≡ false
+told_right (Ok x) e = refl
+told_right (Err f) e = absurd (true≢false (sym e))
+
+pub told_wrong : {A : Type 0} (r : Result A CodeFault) → is_ok r ≡ false → breaks (fault_told r) ≡ true
+told_wrong (Ok x) e = absurd (true≢false e)
+told_wrong (Err f) e = named_wrong f
+
+pub kept_wrong : (r : Result Counted CodeFault) → is_ok r ≡ false → breaks (kept_told r).fault ≡ true
+kept_wrong (Ok x) e = absurd (true≢false e)
+kept_wrong (Err f) e = named_wrong f
+
 module _ {ls : List Line} {s : List ℕ} {b : Beside} {starts : List ℕ} {all : Judged} {f d n i : ℕ} (o : Counting ls s b starts all f d n i)
-    (h : i < length starts) (e : Entry) (m : line_of e ≡ rule_at ls s (get_or starts i 0)) where
+    (h : i < length starts) (c : CodeLine) (m : line_of c ≡ rule_at ls s (get_or starts i 0)) where
   abbrev at : ℕ
   at = get_or starts i 0
 
   -- a property that is held to be faces
-  module _ (five : e.held ≡ 5) (bytes : AreBytes s) {k : Kept} (q : k ≡ kept_by (face_fault s at b.vertices) (faces_at s at)) where
-    pub faces_counted : breaks k.fault ≡ false → Counting ls s b starts all (f + k.faces) (d + k.degenerate) n (i + 1)
-    faces_counted r =
-        let kept = held_faces_lem e s at b five bytes q in
-        let none : link_count (line_of e).held ≡ 0 = no_link e _ 0 (λ nine. absurd (omega (arith, five, nine))) in
-        let same-links : n ≡ n + link_count (line_of e).held = omega (arith, none) in
+  module _ (is : c.held ≡ H.Faces) {k : Kept} (q : k ≡ kept_by (face_fault s at b.vertices) (faces_at s at)) where
+    pub faces_counted : breaks k.fault ≡ false → (k.faces < 4294967296) × (k.degenerate < 4294967296) →
+        Counting ls s b starts all (f + k.faces) (d + k.degenerate) n (i + 1)
+    faces_counted r few =
+        let none : link_count (line_of c).held ≡ 0 = no_link c.held _ 0 (λ kind q. faces_no_link (sym is ∙ q)) in
+        let same-links : n ≡ n + link_count (line_of c).held = omega (arith, none) in
         record {
-          within = omega arith;
-          faces_most = omega (arith, o.faces_most, kept.1);
-          degenerate_most = omega (arith, o.degenerate_most, kept.2);
+          faces_most = omega (arith, o.faces_most, few.0);
+          degenerate_most = omega (arith, o.degenerate_most, few.1);
           links_most = omega (arith, o.links_most);
           says = ap (λ t. on_top (f + k.faces) (d + k.degenerate) t ls s b (drop (i + 1) starts)) same-links
-              ∙ sym (passed ls s b f d n starts i h m kept.0 (right k.fault r)) ∙ o.says;
+              ∙ sym (passed ls s b f d n starts i h m (held_faces_lem c.held s at b is q) (right k.fault r)) ∙ o.says;
         }
 
     pub faces_wrong : breaks k.fault ≡ true → refused_node 15 (24 + at) ≡ all
-    faces_wrong r = sym (stopped ls s b f d n starts i h m (held_faces_lem e s at b five bytes q).0 refl (wrong k.fault r)) ∙ o.says
+    faces_wrong r = sym (stopped ls s b f d n starts i h m (held_faces_lem c.held s at b is q) refl (wrong k.fault r)) ∙ o.says
 
   -- any other counts no faces
-  module _ (x : e.held ≡ 5 → ⊥) where
-    none_counted : Right ≡ fault_of (line_of e).held s at b → (t : ℕ) → link_count (line_of e).held ≡ t → t ≤ 1 →
+  module _ (x : c.held ≡ H.Faces → ⊥) where
+    none_counted : Right ≡ fault_of (line_of c).held s at b → (t : ℕ) → link_count (line_of c).held ≡ t → t ≤ 1 →
         Counting ls s b starts all f d (n + t) (i + 1)
     none_counted q t u w =
         let rest = drop (i + 1) starts in
-        let kept = held_other e s at b x q {r = record { fault = Right; faces = 0; degenerate = 0 }} refl in
+        let kept = held_other c.held s at b x q {r = record { fault = Right; faces = 0; degenerate = 0 }} refl in
         record {
-          within = omega arith;
           faces_most = omega (arith, o.faces_most);
           degenerate_most = omega (arith, o.degenerate_most);
           links_most = omega (arith, o.links_most, w);
@@ -160,25 +181,22 @@ module _ {ls : List Line} {s : List ℕ} {b : Beside} {starts : List ℕ} {all :
               ∙ sym (passed ls s b f d n starts i h m kept.0 refl) ∙ o.says;
         }
 
-    pub other_counted : (e.held ≡ 9 → ⊥) → {q : Fault} → q ≡ fault_of (line_of e).held s at b → breaks q ≡ false →
+    pub other_counted : ((kind : ℕ) → c.held ≡ H.Link kind → ⊥) → {q : Fault} → q ≡ fault_of (line_of c).held s at b → breaks q ≡ false →
         Counting ls s b starts all f d n (i + 1)
     other_counted y {q} v r =
-        rw (add-zero n) at (none_counted (sym (right q r) ∙ v) 0 (no_link e _ 0 y) (omega arith))
+        rw (add-zero n) at (none_counted (sym (right q r) ∙ v) 0 (no_link c.held _ 0 y) (omega arith))
 
-    pub other_wrong : {q : Fault} → q ≡ fault_of (line_of e).held s at b → breaks q ≡ true → refused_node 15 (24 + at) ≡ all
+    pub other_wrong : {q : Fault} → q ≡ fault_of (line_of c).held s at b → breaks q ≡ true → refused_node 15 (24 + at) ≡ all
     other_wrong {q} v r =
-        let kept = held_other e s at b x v {r = record { fault = q; faces = 0; degenerate = 0 }} refl in
+        let kept = held_other c.held s at b x v {r = record { fault = q; faces = 0; degenerate = 0 }} refl in
         sym (stopped ls s b f d n starts i h m kept.0 refl (wrong q r)) ∙ o.says
 
-  pub link_counted : e.held ≡ 9 → Counting ls s b starts all f d (n + 1) (i + 1)
-  link_counted nine =
-      none_counted (λ five. absurd (omega (arith, five, nine))) (idle e s at b (rw nine)) 1 (rw nine) (omega arith)
+  pub link_counted : {kind : ℕ} → c.held ≡ H.Link kind → Counting ls s b starts all f d (n + 1) (i + 1)
+  unfolding fault_of
+  link_counted is = none_counted (λ q. faces_no_link (sym q ∙ is)) (rw is) 1 (rw is) (omega arith)
 
 -- ---- 13, then 14, then 15
-module _ (kind wanted : ℕ) (rows : List (List ℕ)) (s starts : List ℕ) (bones : ℕ) where
-  abbrev ls : List Line
-  ls = lines_from rows
-
+module _ (kind wanted : ℕ) (ls : List Line) (s starts : List ℕ) (bones : ℕ) where
   abbrev ns : List ℕ
   ns = map (line_number ls s) starts
 
@@ -188,21 +206,16 @@ module _ (kind wanted : ℕ) (rows : List (List ℕ)) (s starts : List ℕ) (bon
   by_typed (suc k) v w fs n h e = rw e
 
   module _ {v : Refusal} (e : v ≡ typed ls s [] starts) where
-    pub mistyped : (v.number ≡ 0 → ⊥) → refused_node v.number v.place ≡ judged_by_line kind wanted rows s starts bones
+    pub mistyped : (v.number ≡ 0 → ⊥) → refused_node v.number v.place ≡ judged_by_line kind wanted ls s starts bones
     unfolding judged_by_line verdict_by_line
     mistyped h = rw (← e) (by_typed v.number v _ (node_faces ls s starts) (node_links ls s starts) h refl)
 
     module _ (t : v.number ≡ 0) where
-      pub lacking : lacks_by_line kind wanted (required_among rows ns) ns ≡ true → refused_node 14 0 ≡ judged_by_line kind wanted rows s starts bones
+      pub lacking : lacks_by_line kind wanted (required_among ls ns) ns ≡ true → refused_node 14 0 ≡ judged_by_line kind wanted ls s starts bones
       unfolding judged_by_line verdict_by_line
       lacking h = rw (← e, t, h)
 
-      pub by_values_lem : lacks_by_line kind wanted (required_among rows ns) ns ≡ false →
-          valued_to ls s (beside_by_line kind s starts ns bones) starts ≡ judged_by_line kind wanted rows s starts bones
+      pub by_values_lem : lacks_by_line kind wanted (required_among ls ns) ns ≡ false →
+          valued_to ls s (beside_by_line kind s starts ns bones) starts ≡ judged_by_line kind wanted ls s starts bones
       unfolding judged_by_line verdict_by_line valued_to
       by_values_lem h = rw (← e, t, h)
-
--- ---- a refusal counts nothing
-pub refused_bounded : (n at size : ℕ) → at ≤ 24 + size → {r : Judged} → r ≡ refused_node n at → Bounded r size
-refused_bounded n at size h e =
-    subst (λ r. Bounded r size) (sym e) (record { place = h; faces = omega arith; degenerates = omega arith; links = omega arith })

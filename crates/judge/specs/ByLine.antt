@@ -1,14 +1,13 @@
 -- The judgement as it is made: by where the line of each property stands among some lines (its number), and by how many of these are
 -- required. Where they are the lines of the node's kind, it is the judgement by names: `by_line` in proofs/ByLine.antt.
 use Rattle.std.specs.Prelude.{ℕ, suc, ◌+◌, ◌*◌, Bool, cond, not, ◌&&◌, ◌||◌, List, [], ◌∷◌, map, length, ◌==◌, nat_lt, slice_index, slice_index_or}
-use Rattle.base.specs.declared.Refusal.{Refusal}
+use Rattle.base.specs.Refusals.{Refusal}
 use Rattle.base.specs.Refusals.{refusal, refused_or}
 use Rattle.kinds.specs.Kinds.{mesh, blend_shape, curve}
 use Rattle.props.specs.Types.{float}
 use Rattle.props.specs.Step.{length_at}
-use Rattle.rules.specs.Table.{Types, only, any_type, free}
-use Rattle.rules.specs.Packing.{entry_from, lines_from, columns_of}
-use Rattle.judge.specs.declared.Judged.{Judged}
+use Rattle.rules.specs.Table.{Types, only, any_type, Line, free}
+use Rattle.judge.specs.Judge.{Judged}
 use Rattle.judge.specs.Properties.{line_number, rest_at, value_at, wanted_types, Beside}
 use Rattle.judge.specs.Typed.{typed}
 use Rattle.judge.specs.Missing.{partnered}
@@ -51,10 +50,10 @@ first_number (n ∷ ns) k = cond (n == k) 0 (suc (first_number ns k))
 abbrev pub has_number : List ℕ → (k : ℕ) → Bool
 has_number ns k = nat_lt (first_number ns k) (length ns)
 
--- how many of some numbers are those of required lines, whose column is 1, and of another 0
-unfoldable pub required_among : (rows : List (List ℕ)) (numbers : List ℕ) → ℕ
-required_among rows [] = 0
-required_among rows (n ∷ ns) = (entry_from (slice_index_or rows n (columns_of free))).required + required_among rows ns
+-- how many of some numbers are those of required lines
+unfoldable pub required_among : List Line → (numbers : List ℕ) → ℕ
+required_among ls [] = 0
+required_among ls (n ∷ ns) = cond (slice_index_or ls n free).required 1 0 + required_among ls ns
 
 -- ---- 14: fewer properties have required lines than are wanted; a mesh's partner has none
 abbrev pub unpartnered_by_line : (kind : ℕ) (numbers : List ℕ) → Bool
@@ -89,15 +88,14 @@ beside_by_line kind s starts ns bones =
     (record { vertices = 0; weights = 0; indices = 0; keys = 0; types = any_type; bones = bones })))
 
 -- ---- 13, then 14, then 15
-unfoldable pub verdict_by_line : (kind wanted : ℕ) (rows : List (List ℕ)) (s starts : List ℕ) (bones : ℕ) → Refusal
-verdict_by_line kind wanted rows s starts bones =
-    let ls = lines_from rows in
+unfoldable pub verdict_by_line : (kind wanted : ℕ) (ls : List Line) (s starts : List ℕ) (bones : ℕ) → Refusal
+verdict_by_line kind wanted ls s starts bones =
     let v = typed ls s [] starts in
     let ns = map (line_number ls s) starts in
     refused_or v.number v
-    (cond (lacks_by_line kind wanted (required_among rows ns) ns) (refusal 14 0)
+    (cond (lacks_by_line kind wanted (required_among ls ns) ns) (refusal 14 0)
     (valued ls s (beside_by_line kind s starts ns bones) starts))
 
-unfoldable pub judged_by_line : (kind wanted : ℕ) (rows : List (List ℕ)) (s starts : List ℕ) (bones : ℕ) → Judged
-judged_by_line kind wanted rows s starts bones =
-    judged_by (verdict_by_line kind wanted rows s starts bones) (node_faces (lines_from rows) s starts) (node_links (lines_from rows) s starts)
+unfoldable pub judged_by_line : (kind wanted : ℕ) (ls : List Line) (s starts : List ℕ) (bones : ℕ) → Judged
+judged_by_line kind wanted ls s starts bones =
+    judged_by (verdict_by_line kind wanted ls s starts bones) (node_faces ls s starts) (node_links ls s starts)

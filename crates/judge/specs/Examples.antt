@@ -11,7 +11,7 @@ use Rattle.base.specs.Letters.{letters}
 use Rattle.props.specs.Types.{byte, short, int, long, float, string, v3, v4}
 use Rattle.rules.specs.Table.{lines}
 use Rattle.rules.specs.Rules.{lists, rule_in, of_kind, lines_of, is_text, is_one_of}
-use Rattle.judge.specs.declared.Judged.{Judged}
+use Rattle.judge.specs.Judge.{Judged}
 use Rattle.judge.specs.Properties.{length_of, value_of, types_of, beside_of}
 use Rattle.judge.specs.Typed.{typed}
 use Rattle.judge.specs.Missing.{misses, lacks}

@@ -1,16 +1,17 @@
 -- Document 01's refusals 13, 14 and 15 of one node, from its kind, its property count, its body and the number of Bones
 -- beside it: "all 13, then 14, then all 15". The lines of its kind are ls. The place is an offset from the node's header: 0 is the
 -- node, 24 the first byte of its body.
-use Rattle.std.specs.Prelude.{ℕ, ◌+◌, ◌*◌, ◌^◌, ◌≤◌, cond, List, [], length}
-use Rattle.base.specs.declared.Refusal.{Refusal}
+use Rattle.std.specs.Prelude.{ℕ, ◌+◌, ◌*◌, ◌^◌, ◌≤◌, cond, List, [], length, Result, Ok, Err}
 use Rattle.base.specs.Limits.{most_properties}
-use Rattle.base.specs.Refusals.{refusal, refused_or}
+use Rattle.base.specs.declared.Refusal.{Refusal as CodeRefusal}
+use Rattle.base.specs.Refusals.{Refusal, refusal, refused_or, reason_number}
 use Rattle.body.specs.Body.{properties}
 use Rattle.faces.specs.declared.Face.{Face}
+use Rattle.faces.specs.declared.Faces.{Faces}
 use Rattle.faces.specs.Faces.{degenerate}
+use Rattle.judge.specs.declared.Judged.{Judged as CodeJudged}
 use Rattle.rules.specs.Table.{Line}
 use Rattle.rules.specs.Rules.{lines_of}
-use Rattle.judge.specs.declared.Judged.{Judged}
 use Rattle.judge.specs.Properties.{beside_of}
 use Rattle.judge.specs.Typed.{typed}
 use Rattle.judge.specs.Missing.{lacks}
@@ -24,11 +25,24 @@ verdict_at kind ls s starts bones =
     (cond (lacks kind ls s starts) (refusal 14 0)
     (valued ls s (beside_of kind s starts bones) starts))
 
+-- what a node's rules give: a refusal's number, 0 for none, and its place; its faces, how many of them are degenerate, and its links
+pub record Judged : Type 0 where
+  pub number : ℕ
+  pub place : ℕ
+  pub faces : Faces
+  pub degenerate : ℕ
+  pub links : ℕ
+
 abbrev pub refused_node : (number place : ℕ) → Judged
 refused_node n place = record { number = n; place = place; faces = record { 0 = 0 }; degenerate = 0; links = 0 }
 
 abbrev pub accepted_node : (faces degenerate links : ℕ) → Judged
 accepted_node faces degenerate links = record { number = 0; place = 0; faces = record { 0 = faces }; degenerate = degenerate; links = links }
+
+-- as the code has it
+abbrev pub judged_told : Result CodeJudged CodeRefusal → Judged
+judged_told (Ok j) = record { number = 0; place = 0; faces = j.faces; degenerate = j.degenerate; links = j.links }
+judged_told (Err r) = refused_node (reason_number r.reason) r.place
 
 -- what a node counts where nothing is refused
 abbrev pub judged_by : Refusal → List Face → (links : ℕ) → Judged

@@ -1,7 +1,7 @@
 -- 13: "name twice on a node; listed name with another type or length", at the property. The lines of the node's kind are ls, its body
 -- is s. A place is an offset from the node's header: 24 is the first byte of its body.
 use Rattle.std.specs.Prelude.{ℕ, zero, suc, ◌+◌, ◌-◌, ◌*◌, ◌/◌, ◌%◌, ◌^◌, Bool, cond, ◌||◌, List, [], ◌∷◌, ◌++◌, length, drop, slice_set}
-use Rattle.base.specs.declared.Refusal.{Refusal}
+use Rattle.base.specs.Refusals.{Refusal}
 use Rattle.le.specs.Le.{number_at}
 use Rattle.base.specs.Refusals.{refusal, no_refusal}
 use Rattle.props.specs.Step.{code_at, length_at, name_at}

@@ -1,19 +1,34 @@
 -- 15: "any other property rule above broken", at the property; and the faces and links of a node. The lines of the node's kind are ls,
 -- its body is s. A place is an offset from the node's header: 24 is the first byte of its body.
-use Rattle.std.specs.Prelude.{ℕ, zero, suc, ◌+◌, ◌-◌, ◌/◌, ◌%◌, Bool, true, false, cond, ◌&&◌, List, [], ◌∷◌, ◌++◌, ℤ, pos, negsuc, ◌==◌, nat_le, nat_lt}
-use Rattle.base.specs.declared.Refusal.{Refusal}
+use Rattle.std.specs.Prelude.{ℕ, zero, suc, ◌+◌, ◌-◌, ◌/◌, ◌%◌, Bool, true, false, cond, ◌&&◌, List, [], ◌∷◌, ◌++◌, ℤ, pos, negsuc, ◌==◌, nat_le, nat_lt, Result, Ok, Err}
+use Rattle.base.specs.Refusals.{Refusal}
 use Rattle.base.specs.Refusals.{refusal, no_refusal, refused_or}
 use Rattle.le.specs.Le.{number_at}
 use Rattle.props.specs.Step.{code_at, length_at}
 use Rattle.faces.specs.declared.Face.{Face}
-use Rattle.faces.specs.declared.Values.{Values}
-use Rattle.faces.specs.declared.Values.TheVariants.{Below, NotBelow}
+use Rattle.faces.specs.Faces.{Values}
+use Rattle.faces.specs.Faces.{Below, NotBelow}
 use Rattle.faces.specs.Faces.{width_of, faces_in, below}
 use Rattle.rules.specs.Table.{Held, nothing, flag, one_of, vertices, weights, faces, indices, keys, bone_number, link_to, Line}
 use Rattle.rules.specs.Rules.{takes, is_one_of, if_link}
-use Rattle.judge.specs.declared.valued.Fault.{Fault}
-use Rattle.judge.specs.declared.valued.Fault.TheVariants.{Right, Whole, Element}
+use Rattle.judge.specs.declared.valued.Fault.{Fault as CodeFault}
+use Rattle.judge.specs.declared.valued.Fault.TheVariants.{Whole as CodeWhole, Element as CodeElement}
 use Rattle.judge.specs.Properties.{rule_at, rest_at, value_at, Beside}
+
+-- what a property breaks: nothing; a rule of its length, its string or its type; or its first bad element
+pub data Fault : Type 0 where
+  Right : Fault
+  Whole : Fault
+  Element : (element : ℕ) → Fault
+
+-- as the code has it
+abbrev pub fault_named : CodeFault → Fault
+fault_named CodeWhole = Whole
+fault_named (CodeElement k) = Element k
+
+abbrev pub fault_told : {A : Type 0} → Result A CodeFault → Fault
+fault_told (Ok x) = Right
+fault_told (Err f) = fault_named f
 
 -- a fault of the property whole: its length, its string, its type
 abbrev pub whole : Bool → Fault

@@ -8,12 +8,15 @@ ghost use Rattle.body.specs.Body.{skim, skimmed};
 ghost use Rattle.rules.specs.Packing.{lines_from};
 ghost use Rattle.judge.specs.Properties.{has, line_number};
 ghost use Rattle.judge.specs.Typed.{key_at, slot_at, marked, rightly_typed};
-ghost use Rattle.judge.specs.Judge.{refused_node, Bounded};
+ghost use Rattle.judge.specs.Judge.{judged_told, Bounded};
 ghost use Rattle.judge.specs.ByLine.{judged_by_line};
 ghost use Rattle.judge.specs.Private.{Noted};
 
+use base::{Reason, Refusal};
+use properties::Properties;
+
 mod missing;
-mod places;
+mod properties;
 mod typed;
 pub mod valued;
 
@@ -24,33 +27,18 @@ fn has(body: &[u8], starts: &[usize], name: &[u8]) -> bool
     body::first_named(body, starts, name) < starts.len()
 }
 
-// What a node's rules give: number 0, its faces, how many of them are degenerate, and its links; or a refusal's number and
-// its place as an offset from the node's header.
-#[derive(Clone, Copy)]
+// What a node's rules give where it breaks none: its faces, how many of them are degenerate, and its links.
+#[derive(Clone, Copy, Debug, PartialEq, Eq)]
 pub struct Judged {
-    pub number: u32,
-    pub place: usize,
     pub faces: faces::Faces,
     pub degenerate: u64,
     pub links: u32,
 }
 
-fn refused_node(number: u32, place: usize) -> Judged
-    ensures { result ≡ refused_node number place }
-{
-    Judged {
-        number,
-        place,
-        faces: faces::Faces(0),
-        degenerate: 0,
-        links: 0,
-    }
-}
-
 // 13, then 14, then 15 of `count` properties.
 fn judge_first(
     kind: u32,
-    lines: &[rules::Columns],
+    lines: &[rules::Line],
     wanted: usize,
     count: usize,
     body: &[u8],
@@ -60,41 +48,35 @@ fn judge_first(
     keys: &mut [u64],
     marks: &mut [u16],
     mark: u16,
-) -> Judged
+) -> Result<Judged, Refusal>
     requires { (count ≤ most_properties) × (length starts.old ≡ most_properties) × (length numbers.old ≡ most_properties) × (length keys.old ≡ most_properties) × (length marks.old ≡ 1024) }
-    ensures result { result
-        ≡ judged_by_line kind wanted lines.now body.now (skim body.now count 0) bones }
+    ensures result { judged_told result
+        ≡ judged_by_line kind wanted (lines_from lines.now) body.now (skim body.now count 0) bones }
     ensures noted { Noted (lines_from lines.now) body.now mark (skim body.now count 0)
         starts.old numbers.old keys.old marks.old
         starts.new numbers.new keys.new marks.new }
-    ensures bounds { Bounded result (length body.now) }
+    ensures bounds { Bounded (judged_told result) (length body.now) }
 {
-    let t = typed::typed(lines, body, count, starts, numbers, keys, marks, mark);
-    let v = t.refusal;
-    if v.number != 0 {
-        return refused_node(v.number, v.place);
-    }
-    if missing::lacks(kind, wanted, t.required, &numbers[..count]) {
-        return refused_node(14, 0);
-    }
-    valued::valued(
-        kind,
-        lines,
+    let required = typed::typed(lines, body, count, starts, numbers, keys, marks, mark)?;
+    let properties = Properties {
         body,
-        &starts[..count],
-        &numbers[..count],
-        bones,
-    )
+        starts: &starts[..count],
+        numbers: &numbers[..count],
+    };
+    if missing::lacks(kind, wanted, required, &properties) {
+        return Err(Reason::Missing.at(0));
+    }
+    valued::valued(kind, lines, &properties, bones)
 }
 
-// Judges a node by its kind, the lines of its kind and how many of them are required, its property count, its body and the number of
-// Bones beside it. Its properties
-// are found by their headers alone, as the walk has judged these: at most 64, none where the count is over that. Noted are, of
-// those before the first that 13 refuses, where each starts, where its line stands among the lines and the key of its name; and the slots of their names
-// are marked. Any mark gives the same answer; one that no slot has yet spares the most comparisons of names.
+// Judges a node: a refusal's place is an offset from the node's header. It goes by its kind, the lines of its kind and how many of
+// them are required, its property count, its body and the number of Bones beside it. Its properties are found by their headers
+// alone, as the walk has judged these: at most 64, none where the count is over that. Noted are, of those before the first that 13
+// refuses, where each starts, where its line stands among the lines and the key of its name; and the slots of their names are
+// marked. Any mark gives the same answer; one that no slot has yet spares the most comparisons of names.
 pub fn judge(
     kind: u32,
-    lines: &[rules::Columns],
+    lines: &[rules::Line],
     wanted: usize,
     count: u32,
     body: &[u8],
@@ -104,9 +86,9 @@ pub fn judge(
     keys: &mut [u64; 64],
     marks: &mut [u16; 1024],
     mark: u16,
-) -> Judged
-    ensures result { result
-        ≡ judged_by_line kind wanted lines.now body.now (skimmed body.now count) bones }
+) -> Result<Judged, Refusal>
+    ensures result { judged_told result
+        ≡ judged_by_line kind wanted (lines_from lines.now) body.now (skimmed body.now count) bones }
     ensures starts { starts.new
         ≡ sets starts.old 0 (rightly_typed (lines_from lines.now) body.now [] (skimmed body.now count)) }
     ensures numbers { numbers.new
@@ -118,7 +100,7 @@ pub fn judge(
     ensures marks { marks.new
         ≡ marked mark marks.old (map (slot_at body.now)
         (rightly_typed (lines_from lines.now) body.now [] (skimmed body.now count))) }
-    ensures bounds { Bounded result (length body.now) }
+    ensures bounds { Bounded (judged_told result) (length body.now) }
 {
     let n = if base::MOST_PROPERTIES < count {
         0

@@ -1,6 +1,7 @@
 // 13: a name twice on a node, a listed name with another type or length.
-ghost use Rattle.std.specs.Prelude.{◌≡◌, ◌+◌, ◌%◌, ◌^◌, ◌<◌, ◌≤◌, true, false, [], map, length};
+ghost use Rattle.std.specs.Prelude.{◌≡◌, ◌+◌, ◌<◌, ◌≤◌, true, false, [], map, length, IfOk};
 ghost use Rattle.base.specs.Limits.{most_properties};
+ghost use Rattle.base.specs.Refusals.{refusal_in};
 ghost use Rattle.props.specs.Step.{name_at};
 ghost use Rattle.body.specs.Body.{skim, next_by};
 ghost use Rattle.rules.specs.Packing.{lines_from};
@@ -8,6 +9,8 @@ ghost use Rattle.judge.specs.Properties.{line_number, has};
 ghost use Rattle.judge.specs.Typed.{typed, last_letters, key_of, slot_of};
 ghost use Rattle.judge.specs.ByLine.{required_among};
 ghost use Rattle.judge.specs.Private.{has_key, Noted};
+
+use base::{Reason, Refusal};
 
 // The last eight letters of a property's name, as a number; of a shorter name, all of them. As the header stands before the
 // name, there are eight bytes that end with it, and those that are none of it are shifted out.
@@ -20,17 +23,11 @@ fn last_letters(body: &[u8], at: usize, name: &[u8]) -> u64
         return 0;
     }
     if 8 < n {
-        return le::u64_at(name, n - 8);
+        return le::read::<u64>(name, n - 8);
     }
     let from = at + n;
     let end = from + 8;
-    le::u64_at(&body[from..end], 0) >> (64 - 8 * n)
-}
-
-fn thrice(key: u64) -> u64
-    ensures { result ≡ ((key + key) % 2 ^ 64 + key) % 2 ^ 64 }
-{
-    std::num::wrapping_add_u64(std::num::wrapping_add_u64(key, key), key)
+    le::read::<u64>(&body[from..end], 0) >> (64 - 8 * n)
 }
 
 // Whether a key is among some. It has no early way out, so that it is compiled to wide comparisons.
@@ -38,10 +35,8 @@ fn has_key(keys: &[u64], key: u64) -> bool
     ensures { result ≡ has_key keys.now key }
 {
     let mut any = false;
-    let mut i: usize = 0;
-    while i < keys.len() {
-        any = any | (keys[i] == key);
-        i += 1;
+    for k in keys {
+        any |= *k == key;
     }
     any
 }
@@ -52,27 +47,24 @@ fn key_of(name: &[u8], last: u64) -> u64
     requires { last ≡ last_letters name.now }
     ensures { result ≡ key_of name.now }
 {
-    let n = name.len();
     let mut key: u64 = 0;
-    let mut i: usize = 0;
-    while 8 < n - i {
-        let end = i + 8;
-        let eight = le::u64_at(&name[i..end], 0);
-        key = std::num::wrapping_add_u64(thrice(key), eight);
-        i = end;
+    for i in 0..name.len().saturating_sub(1) / 8 {
+        let start = 8 * i;
+        let eight: u64 = le::read(&name[start..start + 8], 0);
+        key = key.wrapping_mul(3).wrapping_add(eight);
     }
-    std::num::wrapping_add_u64(thrice(key), last)
+    key.wrapping_mul(3).wrapping_add(last)
 }
 
 // One of 1,024 slots, the same for equal names.
+#[tactic(auto, unfolding(crate::specs::Typed::slot_of))]
 fn slot_of(key: u64) -> usize
     ensures result { result ≡ slot_of key }
     ensures bound { result < 1024 }
 {
     let low = key % 4294967296 * 0x9E37_79B1;
     let high = key / 4294967296 * 0x85EB_CA77;
-    let mixed = std::num::wrapping_add_u64(low, high);
-    (mixed / 134217728 % 1024) as usize
+    (low.wrapping_add(high) / 134217728 % 1024) as usize
 }
 
 // Whether one of some properties has a name. Where none was seen in its slot, or none has its key, none has.
@@ -102,23 +94,11 @@ fn place_after(body: &[u8], at: usize, h: props::PropertyHeader, more: bool) -> 
     body::next_by(body, at, h)
 }
 
-fn wide(x: u32) -> usize
-    ensures { (result ≡ x) × (result < 4294967296) }
-{
-    x as usize
-}
-
-// What 13 says of some properties, and how many of those before have required lines.
-#[derive(Clone, Copy)]
-pub(crate) struct Verdict {
-    pub refusal: base::Refusal,
-    pub required: usize,
-}
-
-// The first of `count` properties whose name came before, or which has another type or length than its line says. Noted are,
-// of those before it, where each starts, where its line stands among the lines of the kind and its name's key; and its slot is marked.
+// How many of `count` properties have required lines; or the first whose name came before, or which has another type or length than
+// its line says. Noted are, of those before it, where each starts, where its line stands among the lines of the kind and its name's
+// key; and its slot is marked.
 pub(crate) fn typed(
-    lines: &[rules::Columns],
+    lines: &[rules::Line],
     body: &[u8],
     count: usize,
     starts: &mut [usize],
@@ -126,20 +106,19 @@ pub(crate) fn typed(
     keys: &mut [u64],
     marks: &mut [u16],
     mark: u16,
-) -> Verdict
+) -> Result<usize, Refusal>
     requires { (count ≤ most_properties) × (most_properties ≤ length starts.old) × (most_properties ≤ length numbers.old) × (most_properties ≤ length keys.old) × (1024 ≤ length marks.old) }
-    ensures result { result.refusal ≡ typed (lines_from lines.now) body.now [] (skim body.now count 0) }
+    ensures result { refusal_in result ≡ typed (lines_from lines.now) body.now [] (skim body.now count 0) }
     ensures noted { Noted (lines_from lines.now) body.now mark (skim body.now count 0)
         starts.old numbers.old keys.old marks.old
         starts.new numbers.new keys.new marks.new }
-    ensures required { result.refusal.number ≡ 0 → result.required
-        ≡ required_among lines.now (map (line_number (lines_from lines.now) body.now) (skim body.now count 0)) }
-    ensures place { result.refusal.place ≤ 24 + length body.now }
+    ensures required { IfOk result (λ required. required
+        ≡ required_among (lines_from lines.now) (map (line_number (lines_from lines.now) body.now) (skim body.now count 0))) }
+    ensures place { (refusal_in result).place ≤ 24 + length body.now }
 {
     let mut at: usize = 0;
-    let mut i: usize = 0;
     let mut required: usize = 0;
-    while i < count {
+    for i in 0..count {
         let rest = &body[at..];
         let h = props::header_at(rest, 0);
         let name = props::name_at(rest, 0);
@@ -154,28 +133,17 @@ pub(crate) fn typed(
             name,
             marks[slot] == mark,
         );
-        let e = rules::line_in(lines, k);
-        let misfits = rules::misfits(e, h.code, h.length);
+        let line = rules::line_in(lines, k);
+        let misfits = rules::misfits(line, h.code, h.length);
         if repeats | misfits {
-            let place = 24 + at;
-            return Verdict {
-                refusal: base::Refusal { number: 13, place },
-                required,
-            };
+            return Err(Reason::Mistyped.at(24 + at));
         }
         starts[i] = at;
         numbers[i] = k;
         keys[i] = key;
         marks[slot] = mark;
-        required += wide(e.required);
-        i += 1;
-        at += place_after(rest, 0, h, i < count);
+        required += usize::from(line.required);
+        at += place_after(rest, 0, h, i + 1 < count);
     }
-    Verdict {
-        refusal: base::Refusal {
-            number: 0,
-            place: 0,
-        },
-        required,
-    }
+    Ok(required)
 }

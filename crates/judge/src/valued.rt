@@ -1,22 +1,21 @@
 // 15: any other property rule broken; and what the properties count.
-ghost use Rattle.std.specs.Prelude.{◌≡◌, ◌≤◌, map, length, ◌≢◌};
+ghost use Rattle.std.specs.Prelude.{◌≡◌, ◌≤◌, ◌<◌, ◌^◌, map, length, ◌≢◌, IfOk};
 ghost use Rattle.base.specs.Limits.{most_properties};
 ghost use Rattle.le.specs.Le.{number_at};
 ghost use Rattle.faces.specs.Faces.{width_of};
 ghost use Rattle.kinds.specs.Kinds.{mesh, blend_shape, curve};
-ghost use Rattle.rules.specs.Packing.{types_from, line_of, lines_from};
+ghost use Rattle.rules.specs.Packing.{types_from, held_from, lines_from};
 ghost use Rattle.judge.specs.Properties.{line_number, rest_at};
-ghost use Rattle.judge.specs.ByLine.{length_by_line, value_by_line, types_by_line, beside_by_line};
-ghost use Rattle.judge.specs.Valued.{whole, sole, signed, parent_ok, fault_of, faces_at, face_fault};
-ghost use Rattle.judge.specs.Judge.{Bounded};
-ghost use Rattle.judge.specs.Private.{StartsWithin, beside_from, breaks, kept_by, valued_to};
+ghost use Rattle.judge.specs.ByLine.{types_by_line, beside_by_line};
+ghost use Rattle.judge.specs.Valued.{whole, sole, signed, parent_ok, fault_of, fault_told, faces_at, face_fault};
+ghost use Rattle.judge.specs.Judge.{judged_told, Bounded};
+ghost use Rattle.judge.specs.Private.{StartsWithin, beside_from, measures_none, kept_by, kept_told, valued_to};
 
-use crate::{Judged, places};
-
-// Types, as a line has them.
-const FLOAT: u32 = props::FLOAT as u32;
-
-const V4: u32 = props::V4 as u32;
+use crate::Judged;
+use crate::properties::{Properties, value_at};
+use base::{Reason, Refusal};
+use faces::Counted;
+use rules::{Held, Line, Types};
 
 // What a property is held against, in numbers: a mesh's number of vertices, and mi times that; the lengths of vi and of kb, and
 // the types that kp wants; and the number of Bones beside the node.
@@ -26,165 +25,107 @@ struct Measures {
     weights: u64,
     indices: u32,
     keys: u32,
-    types: u32,
+    types: Types,
     bones: u32,
 }
 
-// The first value of the property at a place, whose type is known.
-fn value_at(body: &[u8], at: usize, code: u16) -> u32
-    ensures { result ≡ number_at (width_of code) (rest_at body.now at) 0 }
-{
-    let width = faces::width_of(code);
-    le::number_at(props::rest_at(body, at), 0, width)
-}
-
-// The length and the first value of the property of a line; 0 where there is none.
-#[derive(Clone, Copy)]
-struct Read {
-    length: u32,
-    value: u32,
-}
-
-fn read_by(body: &[u8], starts: &[usize], numbers: &[usize], k: usize) -> Read
-    requires { length numbers.now ≡ length starts.now }
-    ensures length { result.length ≡ length_by_line body.now starts.now numbers.now k }
-    ensures value { result.value ≡ value_by_line body.now starts.now numbers.now k }
-{
-    let i = places::first_number(numbers, k);
-    if i < numbers.len() {
-        let at = starts[i];
-        let header = props::header_at(body, at);
-        return Read {
-            length: header.length,
-            value: value_at(body, at, header.code),
-        };
-    }
-    Read {
-        length: 0,
-        value: 0,
+impl Measures {
+    // At a kind whose properties are held against the Bones alone.
+    fn none(bones: u32) -> Measures
+        ensures { result ≡ measures_none bones }
+    {
+        Measures {
+            vertices: 0,
+            weights: 0,
+            indices: 0,
+            keys: 0,
+            types: Types::Any,
+            bones,
+        }
     }
 }
 
 // The types that kp wants of kv: v4 for rq, N for vb, else f.
-fn types_of(body: &[u8], starts: &[usize], numbers: &[usize]) -> u32
-    requires { length numbers.now ≡ length starts.now }
-    ensures { types_from result ≡ types_by_line body.now starts.now numbers.now }
+fn types_of(properties: &Properties<'_>) -> Types
+    ensures { types_from result ≡ types_by_line properties.now.body.now properties.now.starts.now properties.now.numbers.now }
 {
-    let i = places::first_number(numbers, rules::columns::CURVE_KP);
-    if numbers.len() <= i {
-        return FLOAT;
-    }
-    let string = props::rest_at(body, starts[i]);
+    let Some(at) = properties.place(rules::places::CURVE_KP) else {
+        return Types::Only(props::FLOAT);
+    };
+    let string = props::rest_at(properties.body, at);
     if rules::is_text(string, b"rq") {
-        return V4;
+        return Types::Only(props::V4);
     }
     if rules::is_text(string, b"vb") {
-        return rules::columns::N;
+        return Types::N;
     }
-    FLOAT
+    Types::Only(props::FLOAT)
 }
 
-fn mesh_measures(body: &[u8], starts: &[usize], numbers: &[usize], bones: u32) -> Measures
-    requires { length numbers.now ≡ length starts.now }
-    ensures { beside_from result ≡ beside_by_line mesh body.now starts.now numbers.now bones }
+fn mesh_measures(properties: &Properties<'_>, bones: u32) -> Measures
+    ensures { beside_from result ≡ beside_by_line mesh properties.now.body.now properties.now.starts.now properties.now.numbers.now bones }
 {
-    let vertices = read_by(body, starts, numbers, rules::columns::MESH_VP).length;
-    let weights = read_by(body, starts, numbers, rules::columns::MESH_MI).value as u64
-        * vertices as u64;
+    let vertices = properties.read(rules::places::MESH_VP).length;
+    let weights = properties.read(rules::places::MESH_MI).value as u64 * vertices as u64;
     Measures {
         vertices,
         weights,
-        indices: 0,
-        keys: 0,
-        types: rules::columns::ANY_TYPE,
-        bones,
+        ..Measures::none(bones)
     }
 }
 
-fn blend_shape_measures(body: &[u8], starts: &[usize], numbers: &[usize], bones: u32) -> Measures
-    requires { length numbers.now ≡ length starts.now }
-    ensures { beside_from result ≡ beside_by_line blend_shape body.now starts.now numbers.now bones }
+fn blend_shape_measures(properties: &Properties<'_>, bones: u32) -> Measures
+    ensures { beside_from result ≡ beside_by_line blend_shape properties.now.body.now properties.now.starts.now properties.now.numbers.now bones }
 {
-    let indices = read_by(body, starts, numbers, rules::columns::BLEND_SHAPE_VI).length;
     Measures {
-        vertices: 0,
-        weights: 0,
-        indices,
-        keys: 0,
-        types: rules::columns::ANY_TYPE,
-        bones,
+        indices: properties.read(rules::places::BLEND_SHAPE_VI).length,
+        ..Measures::none(bones)
     }
 }
 
-fn curve_measures(body: &[u8], starts: &[usize], numbers: &[usize], bones: u32) -> Measures
-    requires { length numbers.now ≡ length starts.now }
-    ensures { beside_from result ≡ beside_by_line curve body.now starts.now numbers.now bones }
+fn curve_measures(properties: &Properties<'_>, bones: u32) -> Measures
+    ensures { beside_from result ≡ beside_by_line curve properties.now.body.now properties.now.starts.now properties.now.numbers.now bones }
 {
-    let keys = read_by(body, starts, numbers, rules::columns::CURVE_KB).length;
-    let types = types_of(body, starts, numbers);
     Measures {
-        vertices: 0,
-        weights: 0,
-        indices: 0,
-        keys,
-        types,
-        bones,
+        keys: properties.read(rules::places::CURVE_KB).length,
+        types: types_of(properties),
+        ..Measures::none(bones)
     }
 }
 
 // What the properties of a node are held against. What is of one kind stands apart, so that nothing is stored for it at another.
-fn measures_of(kind: u32, body: &[u8], starts: &[usize], numbers: &[usize], bones: u32) -> Measures
-    requires { length numbers.now ≡ length starts.now }
-    ensures { beside_from result ≡ beside_by_line kind body.now starts.now numbers.now bones }
+fn measures_of(kind: u32, properties: &Properties<'_>, bones: u32) -> Measures
+    ensures { beside_from result ≡ beside_by_line kind properties.now.body.now properties.now.starts.now properties.now.numbers.now bones }
 {
     if kind == kinds::MESH {
-        return mesh_measures(body, starts, numbers, bones);
+        return mesh_measures(properties, bones);
     }
     if kind == kinds::BLEND_SHAPE {
-        return blend_shape_measures(body, starts, numbers, bones);
+        return blend_shape_measures(properties, bones);
     }
     if kind == kinds::CURVE {
-        return curve_measures(body, starts, numbers, bones);
+        return curve_measures(properties, bones);
     }
-    Measures {
-        vertices: 0,
-        weights: 0,
-        indices: 0,
-        keys: 0,
-        types: rules::columns::ANY_TYPE,
-        bones,
-    }
+    Measures::none(bones)
 }
 
-// What a property breaks: nothing; a rule of its length, its string or its type; or its first bad element.
-#[derive(Clone, Copy)]
+// What a property breaks: a rule of its length, its string or its type; or its first bad element.
+#[derive(Clone, Copy, Debug, PartialEq, Eq)]
 pub enum Fault {
-    Right,
     Whole,
     Element(u64),
 }
 
-// Whether it is anything.
-fn breaks(fault: Fault) -> bool
-    ensures { result ≡ breaks fault }
+fn whole(ok: bool) -> Result<(), Fault>
+    ensures { fault_told result ≡ whole ok }
 {
-    match fault {
-        Fault::Right => false,
-        Fault::Whole => true,
-        Fault::Element(_) => true,
-    }
+    if ok { Ok(()) } else { Err(Fault::Whole) }
 }
 
-fn whole(ok: bool) -> Fault
-    ensures { result ≡ whole ok }
+fn sole(ok: bool) -> Result<(), Fault>
+    ensures { fault_told result ≡ sole ok }
 {
-    if ok { Fault::Right } else { Fault::Whole }
-}
-
-fn sole(ok: bool) -> Fault
-    ensures { result ≡ sole ok }
-{
-    if ok { Fault::Right } else { Fault::Element(0) }
+    if ok { Ok(()) } else { Err(Fault::Element(0)) }
 }
 
 // Whether p, read as signed, is -1 or the number of a Bone.
@@ -197,123 +138,93 @@ fn is_parent(p: u32, bones: u32) -> bool
 fn is_bone(body: &[u8], at: usize, bones: u32) -> bool
     ensures { result ≡ parent_ok (signed (number_at 4 (rest_at body.now at) 0)) bones }
 {
-    is_parent(le::u32_at(props::rest_at(body, at), 0), bones)
+    is_parent(le::read::<u32>(props::rest_at(body, at), 0), bones)
 }
 
 // What the property breaks of what its line holds it to; faces are judged apart. Nothing is read where the line holds it to
 // nothing, or to a link.
-fn fault_of(e: rules::Entry, body: &[u8], at: usize, m: Measures) -> Fault
-    requires { e.held ≢ 5 }
-    ensures { result ≡ fault_of (line_of e).held body.now at (beside_from m) }
+#[tactic(auto, unfolding(crate::specs::Valued::fault_of))]
+fn check(held: Held, body: &[u8], at: usize, m: Measures) -> Result<(), Fault>
+    requires { held ≢ Held.Faces }
+    ensures { fault_told result ≡ fault_of (held_from held) body.now at (beside_from m) }
 {
-    let held = e.held;
-    if (held == 0) | (held == rules::columns::LINK) {
-        return Fault::Right;
+    if let Held::Nothing | Held::Link(_) = held {
+        return Ok(());
     }
     let header = props::header_at(body, at);
     let elements = header.length;
     match held {
-        rules::columns::FLAG => sole(value_at(body, at, header.code) <= 1),
-        rules::columns::ONE_OF => whole(rules::one_of(e.set, props::rest_at(body, at))),
-        rules::columns::VERTICES => whole(elements == m.vertices),
-        rules::columns::WEIGHTS => whole(elements as u64 == m.weights),
-        rules::columns::INDICES => whole(elements == m.indices),
-        rules::columns::KEYS => whole((elements == m.keys) & rules::takes(m.types, header.code)),
-        rules::columns::BONE_NUMBER => sole(is_bone(body, at, m.bones)),
-        _ => Fault::Right,
+        Held::Flag => sole(value_at(body, at, header.code) <= 1),
+        Held::OneOf(set) => whole(rules::one_of(set, props::rest_at(body, at))),
+        Held::Vertices => whole(elements == m.vertices),
+        Held::Weights => whole(elements as u64 == m.weights),
+        Held::Indices => whole(elements == m.indices),
+        Held::Keys => whole((elements == m.keys) & rules::takes(m.types, header.code)),
+        Held::BoneNumber => sole(is_bone(body, at, m.bones)),
+        Held::Nothing | Held::Link(_) | Held::Faces => Ok(()),
     }
 }
 
-// What a property breaks, and where it breaks nothing how many faces and degenerate ones it counts.
-#[derive(Clone, Copy)]
-struct Kept {
-    fault: Fault,
-    faces: u64,
-    degenerate: u64,
-}
-
-fn broken(fault: Fault) -> Kept
-    ensures { result ≡ record { fault = fault; faces = 0; degenerate = 0 } }
-{
-    Kept {
-        fault,
-        faces: 0,
-        degenerate: 0,
-    }
-}
-
-fn faces_at(body: &[u8], at: usize, vertices: u32) -> Kept
-    ensures { result ≡ kept_by (face_fault body.now at vertices) (faces_at body.now at) }
+// The faces of the property at a place, which is held to be faces.
+fn faces_at(body: &[u8], at: usize, vertices: u32) -> Result<Counted, Fault>
+    ensures kept { kept_told result ≡ kept_by (face_fault body.now at vertices) (faces_at body.now at) }
+    ensures few { IfOk result (λ counted. (counted.faces.0 < 2 ^ 32) × (counted.degenerate < 2 ^ 32)) }
 {
     let header = props::header_at(body, at);
     let elements = header.length;
     if elements % 3 != 0 {
-        return broken(Fault::Whole);
+        return Err(Fault::Whole);
     }
-    let s = faces::scan(
+    faces::scan(
         props::rest_at(body, at),
         header.code,
         elements / 3,
         vertices,
-    );
-    let faces = s.faces;
-    let degenerate = s.degenerate;
-    let values = s.values;
-    match values {
-        faces::Values::Below => Kept {
-            fault: Fault::Right,
-            faces: faces.0,
-            degenerate,
-        },
-        faces::Values::NotBelow(k) => broken(Fault::Element(k)),
-    }
+    )
+    .map_err(|first| Fault::Element(first.0))
 }
 
 // The first property that breaks what its line holds it to, or what they count.
 pub(crate) fn valued(
     kind: u32,
-    lines: &[rules::Columns],
-    body: &[u8],
-    starts: &[usize],
-    numbers: &[usize],
+    lines: &[Line],
+    properties: &Properties<'_>,
     bones: u32,
-) -> Judged
-    requires count { length starts.now ≤ most_properties }
-    requires numbers { numbers.now ≡ map (line_number (lines_from lines.now) body.now) starts.now }
-    requires places { StartsWithin body.now starts.now }
-    ensures result { result
-        ≡ valued_to (lines_from lines.now) body.now
-        (beside_by_line kind body.now starts.now numbers.now bones) starts.now }
-    ensures bounds { Bounded result (length body.now) }
+) -> Result<Judged, Refusal>
+    requires count { length properties.now.starts.now ≤ most_properties }
+    requires numbers { properties.now.numbers.now ≡ map (line_number (lines_from lines.now) properties.now.body.now) properties.now.starts.now }
+    requires places { StartsWithin properties.now.body.now properties.now.starts.now }
+    ensures result { judged_told result
+        ≡ valued_to (lines_from lines.now) properties.now.body.now
+        (beside_by_line kind properties.now.body.now properties.now.starts.now properties.now.numbers.now bones) properties.now.starts.now }
+    ensures bounds { Bounded (judged_told result) (length properties.now.body.now) }
 {
-    let m = measures_of(kind, body, starts, numbers, bones);
+    let Properties {
+        body,
+        starts,
+        numbers,
+    } = *properties;
+    let m = measures_of(kind, properties, bones);
     let mut faces: u64 = 0;
     let mut degenerate: u64 = 0;
     let mut links: u32 = 0;
-    let mut i: usize = 0;
-    while i < starts.len() {
-        let at = starts[i];
-        let e = rules::line_in(lines, numbers[i]);
-        if e.held == rules::columns::FACES {
-            let kept = faces_at(body, at, m.vertices);
-            let fault = kept.fault;
-            if breaks(fault) {
-                return crate::refused_node(15, 24 + at);
+    for (i, at) in starts.iter().enumerate() {
+        let at = *at;
+        let line = rules::line_in(lines, numbers[i]);
+        let broken = Reason::BadValue.at(24 + at);
+        match line.held {
+            Held::Faces => {
+                let counted = faces_at(body, at, m.vertices).map_err(|_| broken)?;
+                faces += counted.faces.0;
+                degenerate += counted.degenerate;
             }
-            faces += kept.faces;
-            degenerate += kept.degenerate;
-        } else if e.held == rules::columns::LINK {
-            links += 1;
-        } else if breaks(fault_of(e, body, at, m)) {
-            return crate::refused_node(15, 24 + at);
+            Held::Link(_) => links += 1,
+            held => check(held, body, at, m).map_err(|_| broken)?,
         }
-        i += 1;
     }
-    Judged {
-        number: 0,
-        place: 0,
+    Ok(Judged {
         faces: faces::Faces(faces),
         degenerate,
         links,
-    }
+    })
 }

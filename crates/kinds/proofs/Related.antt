@@ -5,8 +5,8 @@ use mathlib.Core.Bool.{Bool, true, false, cond, ◌&&◌, ◌||◌, true≢false
 use mathlib.Core.List.{List, [], ◌∷◌}
 use lib.Dec.{eqb}
 use borrow.Author.Tests.{eqb-true}
-use Rattle.kinds.specs.declared.Parents.{Parents}
-use Rattle.kinds.specs.declared.Parents.TheVariants.{Top, Under, UnderEither, Unknown}
+use Rattle.kinds.specs.Kinds.{Parents}
+use Rattle.kinds.specs.Kinds.{Top, Under, UnderEither, Unknown}
 use Rattle.kinds.specs.Kinds.{parents_table, parents_in, parents_of, is_listed, is_known, under_by, stands_under}
 
 either : {P : Type 0} (a b : Bool) → (a || b) ≡ true → (a ≡ true → P) → (b ≡ true → P) → P

@@ -1,5 +1,7 @@
 -- The search through the table agrees with document 01's lists. The table and the pairs are looked at once, by computation; no proof
 -- goes by cases over the kinds.
+use Rattle.std.specs.Prelude.{Some}
+use Rattle.std.specs.Prelude.{None}
 use Prim.Native.Nat.{ℕ}
 use mathlib.Core.Path.{◌≡◌, refl, sym, ◌∙◌, subst}
 use mathlib.Core.Logic.{◌↔◌, ◌⊎◌, inl, inr, ⊎_elim}
@@ -7,11 +9,10 @@ use mathlib.Core.Bool.{Bool, true, false, cond, ◌&&◌, ◌||◌, true≢false
 use mathlib.Core.List.{List, [], ◌∷◌, map}
 use lib.Dec.{eqb}
 use borrow.Author.Tests.{eqb-true, eq-eqb}
-use Rattle.kinds.specs.declared.Parents.{Parents}
-use Rattle.kinds.specs.declared.Parents.TheVariants.{Top, Under, UnderEither, Unknown}
-use Rattle.kinds.specs.declared.Parent.TheVariants.{None, Kind}
+use Rattle.kinds.specs.Kinds.{Parents}
+use Rattle.kinds.specs.Kinds.{Top, Under, UnderEither, Unknown}
 use Rattle.kinds.specs.Kinds.{root, parents_table, parents_in, parents_of, is_listed, is_known, under_by, stands_at_top, stands_under, may_stand}
-use Rattle.base.specs.Lists.{Each, Some}
+use Rattle.base.specs.Lists.{Each, Some as SomeOf}
 use Rattle.kinds.specs.Statements.{sixteen, IsOneOfSixteen, KnownExactly, UnknownExactly, parents, IsParent, StandsExactly}
 use Rattle.kinds.proofs.Related.{right, all_right, related}
 use Rattle.kinds.proofs.Tops.{top_root}
@@ -29,13 +30,13 @@ the_sixteen = refl
 abbrev AllListed : List (ℕ × Parents) → Type 0
 AllListed xs = Each (λ x. is_listed x.1 ≡ true) xs
 
-listed : (xs : List (ℕ × Parents)) → AllListed xs → (k : ℕ) → (is_listed (parents_in xs k) ≡ true) ↔ Some (λ x. k ≡ x) (kinds xs)
+listed : (xs : List (ℕ × Parents)) → AllListed xs → (k : ℕ) → (is_listed (parents_in xs k) ≡ true) ↔ SomeOf (λ x. k ≡ x) (kinds xs)
 unfolding parents_in kinds
 listed [] a k = (λ e. false≢true e, λ x. absurd x)
 listed (x ∷ xs) a k = by (eqb x.0 k) refl (listed xs a.1 k)
   where
-    by : (b : Bool) → eqb x.0 k ≡ b → (is_listed (parents_in xs k) ≡ true) ↔ Some (λ y. k ≡ y) (kinds xs)
-        → (is_listed (cond b x.1 (parents_in xs k)) ≡ true) ↔ (k ≡ x.0) ⊎ Some (λ y. k ≡ y) (kinds xs)
+    by : (b : Bool) → eqb x.0 k ≡ b → (is_listed (parents_in xs k) ≡ true) ↔ SomeOf (λ y. k ≡ y) (kinds xs)
+        → (is_listed (cond b x.1 (parents_in xs k)) ≡ true) ↔ (k ≡ x.0) ⊎ SomeOf (λ y. k ≡ y) (kinds xs)
     by true h ih = (λ e. inl (sym (eqb-true _ _ h)), λ s. a.0)
     by false h ih = (λ e. inr (ih.0 e), ⊎_elim (λ e. absurd (true≢false (sym (eq-eqb _ _ (sym e)) ∙ h))) ih.1)
 
@@ -45,7 +46,7 @@ all_listed = (refl, (refl, (refl, (refl, (refl, (refl, (refl, (refl, (refl, (ref
 
 pub known_exactly : KnownExactly
 unfolding is_known parents_of
-known_exactly k = subst (λ xs. (is_listed (parents_in parents_table k) ≡ true) ↔ Some (λ x. k ≡ x) xs) the_sixteen (listed parents_table all_listed k)
+known_exactly k = subst (λ xs. (is_listed (parents_in parents_table k) ≡ true) ↔ SomeOf (λ x. k ≡ x) xs) the_sixteen (listed parents_table all_listed k)
 
 pub unknown_exactly : UnknownExactly
 unknown_exactly k = by (is_known k) (known_exactly k)
@@ -61,13 +62,13 @@ unfoldable is_pair : List (ℕ × ℕ) → (parent k : ℕ) → Bool
 is_pair [] p k = false
 is_pair (x ∷ xs) p k = (eqb x.1 k && eqb p x.0) || is_pair xs p k
 
-pairs : (xs : List (ℕ × ℕ)) (p k : ℕ) → (is_pair xs p k ≡ true) ↔ Some (λ pair. (p ≡ pair.0) × (k ≡ pair.1)) xs
+pairs : (xs : List (ℕ × ℕ)) (p k : ℕ) → (is_pair xs p k ≡ true) ↔ SomeOf (λ pair. (p ≡ pair.0) × (k ≡ pair.1)) xs
 unfolding is_pair
 pairs [] p k = (λ e. false≢true e, λ x. absurd x)
 pairs (x ∷ xs) p k = by (eqb x.1 k) (eqb p x.0) refl refl (pairs xs p k)
   where
-    by : (b c : Bool) → eqb x.1 k ≡ b → eqb p x.0 ≡ c → (is_pair xs p k ≡ true) ↔ Some (λ pair. (p ≡ pair.0) × (k ≡ pair.1)) xs
-        → (((b && c) || is_pair xs p k) ≡ true) ↔ ((p ≡ x.0) × (k ≡ x.1)) ⊎ Some (λ pair. (p ≡ pair.0) × (k ≡ pair.1)) xs
+    by : (b c : Bool) → eqb x.1 k ≡ b → eqb p x.0 ≡ c → (is_pair xs p k ≡ true) ↔ SomeOf (λ pair. (p ≡ pair.0) × (k ≡ pair.1)) xs
+        → (((b && c) || is_pair xs p k) ≡ true) ↔ ((p ≡ x.0) × (k ≡ x.1)) ⊎ SomeOf (λ pair. (p ≡ pair.0) × (k ≡ pair.1)) xs
     by true true f g ih = (λ e. inl (eqb-true _ _ g, sym (eqb-true _ _ f)), λ s. refl)
     by true false f g ih = (λ e. inr (ih.0 e), ⊎_elim (λ e. absurd (true≢false (sym (eq-eqb _ _ e.0) ∙ g))) ih.1)
     by false c f g ih = (λ e. inr (ih.0 e), ⊎_elim (λ e. absurd (true≢false (sym (eq-eqb _ _ (sym e.1)) ∙ f))) ih.1)
@@ -86,7 +87,7 @@ all_stand_lem : all_stand parents ≡ true
 unfolding all_stand is_known stands_under parents_of parents_in parents_table
 all_stand_lem = refl
 
-pair_stands : (xs : List (ℕ × ℕ)) → all_stand xs ≡ true → (p k : ℕ) → Some (λ pair. (p ≡ pair.0) × (k ≡ pair.1)) xs
+pair_stands : (xs : List (ℕ × ℕ)) → all_stand xs ≡ true → (p k : ℕ) → SomeOf (λ pair. (p ≡ pair.0) × (k ≡ pair.1)) xs
     → (is_known k && stands_under p k) ≡ true
 unfolding all_stand
 pair_stands [] h p k s = absurd s
@@ -113,7 +114,7 @@ root_stands = refl
 pub stands_exactly : StandsExactly
 unfolding may_stand
 stands_exactly None k = (top_root k, λ e. subst (λ k. may_stand None k ≡ true) (sym e) root_stands)
-stands_exactly (Kind p) k = by (is_known k) refl
+stands_exactly (Some p) k = by (is_known k) refl
   where
     by : (b : Bool) → is_known k ≡ b → (stands_under p k ≡ true) ↔ IsParent p k ⊎ ((IsOneOfSixteen k → ⊥) × IsOneOfSixteen p)
     by true h = (

@@ -1,9 +1,7 @@
 -- Which kinds are known and where each may stand, said anew in document 01's words and order, as propositions over plain lists.
 -- None of it looks into `parents_table`, by which the program goes; that the two agree is proved.
-use Rattle.std.specs.Prelude.{ℕ, ◌≡◌, ◌↔◌, ◌⊎◌, true, false, List, [], ◌∷◌}
-use Rattle.base.specs.Lists.{Some}
-use Rattle.kinds.specs.declared.Parent.{Parent}
-use Rattle.kinds.specs.declared.Parent.TheVariants.{None, Kind}
+use Rattle.std.specs.Prelude.{ℕ, ◌≡◌, ◌↔◌, ◌⊎◌, true, false, List, [], ◌∷◌, None, Option, Some}
+use Rattle.base.specs.Lists.{Some as SomeOf}
 use Rattle.kinds.specs.Kinds.{root, model, mesh, blend_shape, skeleton, bone, ik_handle, constraint, animation, curve, curve_mode_override, notification_track, material, file, instance, metadata, is_known, may_stand}
 
 -- ---- "Kinds"
@@ -18,7 +16,7 @@ sixteen =
     notification_track ∷ material ∷ file ∷ instance ∷ metadata ∷ []
 
 abbrev pub IsOneOfSixteen : ℕ → Type 0
-IsOneOfSixteen k = Some (λ listed. k ≡ listed) sixteen
+IsOneOfSixteen k = SomeOf (λ listed. k ≡ listed) sixteen
 
 abbrev pub KnownExactly : Type 0
 KnownExactly = (k : ℕ) → (is_known k ≡ true) ↔ IsOneOfSixteen k
@@ -41,13 +39,13 @@ parents =
     (material, file) ∷ (instance, file) ∷ []
 
 abbrev pub IsParent : (parent k : ℕ) → Type 0
-IsParent parent k = Some (λ pair. (parent ≡ pair.0) × (k ≡ pair.1)) parents
+IsParent parent k = SomeOf (λ pair. (parent ≡ pair.0) × (k ≡ pair.1)) parents
 
 -- "Root stands only at the top", and nothing else stands there; under a kind stand those that "Parents" names; and of any other
 -- kind, "it may stand below any known node"
-abbrev pub Stands : Parent → ℕ → Type 0
+abbrev pub Stands : Option ℕ → ℕ → Type 0
 Stands None k = k ≡ root
-Stands (Kind parent) k = IsParent parent k ⊎ ((IsOneOfSixteen k → ⊥) × IsOneOfSixteen parent)
+Stands (Some parent) k = IsParent parent k ⊎ ((IsOneOfSixteen k → ⊥) × IsOneOfSixteen parent)
 
 abbrev pub StandsExactly : Type 0
-StandsExactly = (parent : Parent) (k : ℕ) → (may_stand parent k ≡ true) ↔ Stands parent k
+StandsExactly = (parent : Option ℕ) (k : ℕ) → (may_stand parent k ≡ true) ↔ Stands parent k

@@ -1,11 +1,16 @@
 -- Laws of numbers in bytes, each over the width.
 use Prim.Native.Nat.{ℕ, zero, suc, ◌+◌, ◌-◌, ◌*◌, ◌/◌, ◌%◌, ◌^◌, ◌≤◌, ◌<◌}
 use native.Mathlib.Omega.{arith}
-use native.Mathlib.Nat.{zero-add, add-zero, suc-add, mul_assoc, pow-succ', div-one, div-div-eq-div-mul, mod-add-div, one-le-pow, mod-eq_of_lt, add-mul-mod_self_left, div-eq_of_lt, add-mul-div_left}
+use native.Mathlib.Numerals.{add-one}
+use native.Mathlib.Nat.{zero-add, add-zero, suc-add, mul_assoc, mul_comm, pow-succ', div-one, div-div-eq-div-mul, mod-add-div, one-le-pow, mod-eq_of_lt, add-mul-mod_self_left, div-eq_of_lt, add-mul-div_left}
 use mathlib.Core.Path.{◌≡◌, refl, ap, sym, ◌∙◌}
 use mathlib.Core.List.{List, [], ◌∷◌, ◌++◌}
-use lib.ListN.{length, take, drop, get_or, drop_of_length-le, length-drop, take-append-drop}
+use lib.ListN.{length, take, drop, get_or, replicate, drop_of_length-le, length-drop, take-append-drop}
 use lib.Seq.{take-nil, take_all, take-take, get_or-drop, drop-drop}
+use Rattle.std.proofs.Math.Nat.{pow-suc}
+use Rattle.std.specs.Prelude.{slice_index}
+use Rattle.std.specs.Int.{byte_worth, sum_through, bytes_low_first}
+use Rattle.base.proofs.Stores.{zeros}
 use Rattle.le.specs.Le.{val, number_at, le, AreBytes}
 
 times_next : (n k : ℕ) → 256 ^ suc n * k ≡ 256 * (256 ^ n * k)
@@ -97,17 +102,46 @@ number_at_high w v l at h =
     ∙ add-mul-div_left low high {y = 256 ^ w} (omega (arith, less))
     ∙ ap (λ n. n + high) none ∙ zero-add high ∙ ap (λ k. val (take v k)) (drop-drop w at l)
 
-pub number_at_four : (l : List ℕ) → get_or l 0 0 + 256 * get_or l 1 0 + 65536 * get_or l 2 0 + 16777216 * get_or l 3 0 ≡ number_at 4 l 0
-unfolding number_at val
-number_at_four [] = refl
-number_at_four (a ∷ []) = omega arith
-number_at_four (a ∷ b ∷ []) = omega arith
-number_at_four (a ∷ b ∷ c ∷ []) = omega arith
-number_at_four (a ∷ b ∷ c ∷ d ∷ l) = omega arith
-
 pub number_at_byte : (l : List ℕ) (at : ℕ) → number_at 1 l at ≡ get_or l at 0
 unfolding number_at
 number_at_byte l at = val_one (drop at l) ∙ get_or-drop at l 0 0 ∙ ap (λ k. get_or l k 0) (add-zero at)
+
+-- zeros after bytes count for nothing
+val_none : (w : ℕ) (l : List ℕ) → ((i : ℕ) → get_or l i 0 ≡ 0) → val (take w l) ≡ 0
+unfolding val
+val_none zero l h = refl
+val_none (suc w) [] h = refl
+val_none (suc w) (b ∷ l) h = omega (arith, h 0, val_none w l (λ i. h (suc i)))
+
+val_padded : (w : ℕ) (l zs : List ℕ) → ((i : ℕ) → get_or zs i 0 ≡ 0) → val (take w (l ++ zs)) ≡ val (take w l)
+unfolding val
+val_padded w [] zs h = val_none w zs h ∙ sym (ap val (take-nil w))
+val_padded zero (b ∷ l) zs h = refl
+val_padded (suc w) (b ∷ l) zs h = ap (λ n. b + 256 * n) (val_padded w l zs h)
+
+pub number_at_padded : (w k n : ℕ) (l : List ℕ) → number_at w (l ++ drop k (replicate n 0)) 0 ≡ number_at w l 0
+unfolding number_at
+number_at_padded w k n l = val_padded w l (drop k (replicate n 0)) (λ i. get_or-drop k (replicate n 0) i 0 ∙ zeros n (k + i))
+
+-- the library's number of bytes, and its bytes of a number
+pub from_bytes : (k : ℕ) (l : List ℕ) → sum_through (λ i. byte_worth i (slice_index l i)) k ≡ number_at (suc k) l 0
+unfolding number_at
+from_bytes zero l = sym (val_one l)
+from_bytes (suc k) l =
+    let next : number_at 1 l (suc k) ≡ get_or l (suc k) 0 = number_at_byte l (suc k) in
+    let all : number_at (suc (suc k)) l 0 ≡ number_at (suc k) l 0 + 256 ^ suc k * number_at 1 l (suc k) = ap (λ w. val (take w l)) (sym (add-one (suc k))) ∙ val_split (suc k) 1 l in
+    rw (from_bytes k l) (ap (λ n. number_at (suc k) l 0 + n) (mul_comm (slice_index l (suc k)) (256 ^ suc k) ∙ ap (λ n. 256 ^ suc k * n) (sym next)) ∙ sym all)
+
+low_bytes : (i k x : ℕ) → bytes_low_first i k x ≡ le k (x / 256 ^ i)
+unfolding le
+low_bytes i zero x = refl
+low_bytes zero (suc k) x = rw (div-one x, low_bytes 1 k x) refl
+low_bytes (suc i) (suc k) x =
+    let next : x / 256 ^ suc (suc i) ≡ x / 256 ^ suc i / 256 = ap (λ p. x / p) (pow-suc 256 (suc i)) ∙ sym (div-div-eq-div-mul x (256 ^ suc i) 256) in
+    ap (λ l. (x / 256 ^ suc i % 256) ∷ l) (low_bytes (suc (suc i)) k x ∙ ap (le k) next)
+
+pub to_bytes : (k x : ℕ) → bytes_low_first 0 k x ≡ le k x
+to_bytes k x = low_bytes 0 k x ∙ ap (le k) (div-one x)
 
 pub number_at_past : (w : ℕ) (l : List ℕ) (at : ℕ) → length l ≤ at → number_at w l at ≡ 0
 unfolding number_at val
@@ -138,10 +172,6 @@ pub length_le : (w x : ℕ) → length (le w x) ≡ w
 unfolding le
 length_le zero x = refl
 length_le (suc w) x = ap suc (length_le w (x / 256))
-
-pub le_byte : (b : ℕ) → b < 256 → le 1 b ≡ b ∷ []
-unfolding le
-le_byte b h = ap (λ k. k ∷ []) (omega arith)
 
 -- ---- there and back: a number of w bytes is the number that they are, and bytes are those of their number
 pub val_le : (w x : ℕ) → x < 256 ^ w → val (le w x) ≡ x

@@ -1,13 +1,16 @@
 -- What is stored into the part of some bytes from a place on.
-use Prim.Native.Nat.{ℕ, ◌+◌, ◌-◌, ◌/◌, ◌%◌, ◌^◌, ◌≤◌}
+use Prim.Native.Nat.{ℕ, ◌+◌, ◌-◌, ◌/◌, ◌%◌, ◌^◌, ◌≤◌, min}
 use native.Mathlib.Omega.{arith}
 use native.Mathlib.Nat.{zero-add, add-zero}
 use mathlib.Core.Path.{◌≡◌, ap, sym, ◌∙◌}
 use mathlib.Core.Logic.{◌⊎◌, inl, inr}
-use mathlib.Core.List.{List, [], append-nil}
+use mathlib.Core.List.{List, [], ◌++◌, append-nil, append_assoc}
 use lib.ListN.{length, take, drop, length-drop, drop_of_length-le}
-use lib.Seq.{sets, take-length, take-add, length-take-le}
+use lib.Dec.{ltb}
+use lib.Seq.{sets, sets-eq, take-length, length-take-le, drop-drop}
 use borrow.Rule.Slice.PartMut.{put_mid}
+use borrow.Author.Tests.{ltb-true, ltb-false}
+use Rattle.base.proofs.Tests.{by_test}
 use Rattle.base.proofs.Stores.{sets_past, sets_append, sets_rest, sets_cut}
 use Rattle.le.specs.Le.{le}
 use Rattle.le.proofs.Laws.{rest, rest_drop, le_halves, length_le}
@@ -22,6 +25,25 @@ put_rest l at bytes {both} e =
     let stored : both ≡ sets (drop at l) 0 bytes = e ∙ ap (λ d. sets d 0 bytes) (rest_drop l at) in
     let none : drop (length l - at) (drop at l) ≡ [] = drop_of_length-le (drop at l) {i = length l - at} (simp length-drop (omega arith)) in
     rw (stored, none, append-nil) (sets_rest at bytes l 0 ∙ ap (λ k. sets l k bytes) (add-zero at))
+
+-- as many bytes as have room
+pub put_fitting : (l : List ℕ) (at : ℕ) (bytes : List ℕ) (n : ℕ) → at ≤ length l → n ≡ min (length bytes) (length l - at) → {both : List ℕ} → both ≡ take n bytes
+    → put_mid at (at + n - at) l both ≡ sets l at bytes
+put_fitting l at bytes n h e {both} f =
+    let many : at + n - at ≡ n = omega arith in
+    let long : length (take n bytes) ≡ n = length-take-le n bytes (omega (arith, e)) in
+    let fits : at + length (take n bytes) ≤ length l = omega (arith, long, e, h) in
+    let whole : take at l ++ take n bytes ++ drop (at + length (take n bytes)) l ≡ put_mid at n l (take n bytes) =
+    rw (long, drop-drop n at l) (append_assoc (take at l) (take n bytes) (drop (at + n) l)) in
+    let all : sets l at (take n bytes) ≡ sets l at bytes =
+    by_test (ltb (length bytes) (length l - at))
+    (λ t. let k : n ≡ length bytes = omega (arith, e, ltb-true (length bytes) (length l - at) t) in ap (λ i. sets l at (take i bytes)) k ∙ ap (sets l at) (take-length bytes))
+    (λ t. sets_cut l at n bytes (omega (arith, e, h, ltb-false (length bytes) (length l - at) t))) in
+    rw (many, f) (sym whole ∙ sym (sets-eq (take n bytes) l at fits) ∙ all)
+
+-- bytes stored at the start, all there
+pub put_first : (l bytes : List ℕ) (n : ℕ) → length bytes ≡ n → n ≤ length l → bytes ++ drop n l ≡ sets l 0 bytes
+put_first l bytes n e h = rw (← e) (rw (← (zero-add (length bytes))) (sym (sets-eq bytes l 0 (omega (arith, e, h)))))
 
 -- two halves stored into the part from a place on are the number stored at the place
 pub put_halves : (w : ℕ) (l : List ℕ) (at x : ℕ) {first both : List ℕ} → first ≡ sets (rest l at) 0 (le w (x % 256 ^ w)) → both ≡ sets first w (le w (x / 256 ^ w))
@@ -38,14 +60,3 @@ put_part l at bytes n h e = put_rest l at bytes (e ∙ all h)
     all : (n ≡ length bytes) ⊎ (n ≡ length (rest l at)) → sets (rest l at) 0 (take n bytes) ≡ sets (rest l at) 0 bytes
     all (inl f) = ap (λ k. sets (rest l at) 0 (take k bytes)) f ∙ ap (sets (rest l at) 0) (take-length bytes)
     all (inr f) = sets_cut (rest l at) 0 n bytes (omega (arith, f))
-
--- n bytes, the first of them before the others
-pub put_two : (l bytes : List ℕ) (n head : ℕ) → head ≤ n → n ≤ length bytes → {first both : List ℕ} → first ≡ sets l 0 (take head bytes) →
-    both ≡ sets (rest first head) 0 (take (n - head) (rest bytes head)) → put_mid head (length first - head) first both ≡ sets l 0 (take n bytes)
-put_two l bytes n head h k {first} e f =
-    let others = take (n - head) (drop head bytes) in
-    let many : 0 + length (take head bytes) ≡ head = omega (arith, length-take-le head bytes (omega (arith, h, k))) in
-    let whole : head + (n - head) ≡ n = omega (arith, h) in
-    put_rest first head others (f ∙ ap (λ d. sets (rest first head) 0 (take (n - head) d)) (rest_drop bytes head))
-    ∙ ap (λ m. sets m head others) e ∙ ap (λ i. sets (sets l 0 (take head bytes)) i others) (sym many) ∙ sym (sets_append l 0 (take head bytes) others)
-    ∙ ap (sets l 0) (sym (take-add head (n - head) bytes) ∙ ap (λ i. take i bytes) whole)

@@ -1,192 +1,141 @@
 // Little-endian numbers, and bytes, at any place of any bytes. A byte past the end reads as zero, and is not written.
 #![tactic(auto)]
 
-ghost use Rattle.std.specs.Prelude.{◌≡◌, ◌≤◌, ◌<◌, min, length, take};
+ghost use Rattle.std.specs.Prelude.{◌≡◌, ℕ, ◌<◌, min, length};
 ghost use Rattle.std.proofs.lemmas.List.Edits.{sets};
 ghost use Rattle.le.specs.Le.{number_at, le};
 
-// A byte, or zero past the end.
-fn byte_at(bytes: &[u8], at: usize) -> u8
-    ensures { result ≡ number_at 1 bytes.now at }
-{
-    if at < bytes.len() { bytes[at] } else { 0 }
+// A number that is stored as a fixed count of bytes, the lowest first.
+pub trait Number: Copy {
+    ghost width: { ℕ };
+
+    ghost value: { Self → ℕ };
+
+    // The number at the start of bytes.
+    fn first(bytes: &[u8]) -> Self
+        ensures { value result ≡ number_at width bytes.now 0 };
+
+    // Its bytes, stored at the start.
+    fn store(self, out: &mut [u8])
+        ensures { out.new ≡ sets out.old 0 (le width (value self)) };
 }
 
-fn wide16(b: u8) -> u16
-    ensures { (result ≡ b) × (result < 256) }
+// The first N bytes, with zeros past the end: of a number's bytes that are all there, compiled to one load.
+fn first_bytes<const N: usize>(bytes: &[u8]) -> [u8; N]
+    ensures { number_at N result 0 ≡ number_at N bytes.now 0 }
 {
-    b as u16
-}
-
-fn wide32(x: u16) -> u32
-    ensures { (result ≡ x) × (result < 65536) }
-{
-    x as u32
-}
-
-fn wide64(x: u32) -> u64
-    ensures { (result ≡ x) × (result < 4294967296) }
-{
-    x as u64
-}
-
-// The number of 2 bytes at a place.
-pub fn u16_at(bytes: &[u8], at: usize) -> u16
-    ensures { result ≡ number_at 2 bytes.now at }
-{
-    if bytes.len() <= at {
-        return 0;
+    match bytes.first_chunk() {
+        Some(first) => *first,
+        None => padded(bytes),
     }
-    let rest = &bytes[at..];
-    let low = wide16(byte_at(rest, 0));
-    let high = wide16(byte_at(rest, 1));
-    low + 256 * high
 }
 
-// The number of 4 bytes at a place.
-pub fn u32_at(bytes: &[u8], at: usize) -> u32
-    ensures { result ≡ number_at 4 bytes.now at }
+// The bytes, of which there are fewer than N, and zeros after them.
+fn padded<const N: usize>(bytes: &[u8]) -> [u8; N]
+    requires { length bytes.now < N }
+    ensures { number_at N result 0 ≡ number_at N bytes.now 0 }
 {
-    if bytes.len() <= at {
-        return 0;
+    let mut all = [0; N];
+    all[..bytes.len()].copy_from_slice(bytes);
+    all
+}
+
+// Stores N bytes at the start, as far as they have room. Where some have none, they are copied first, so that only there the
+// bytes of a number take a place on the stack.
+fn store_bytes<const N: usize>(out: &mut [u8], bytes: &[u8; N])
+    ensures { out.new ≡ sets out.old 0 bytes.now }
+{
+    match out.first_chunk_mut() {
+        Some(first) => *first = *bytes,
+        None => {
+            let all = *bytes;
+            put_bytes(out, 0, &all);
+        }
     }
-    let rest = &bytes[at..];
-    if 4 <= rest.len() {
-        return first_four(rest);
+}
+
+impl Number for u16 {
+    ghost width = { 2 };
+
+    ghost value = { λ x. x };
+
+    fn first(bytes: &[u8]) -> u16 {
+        u16::from_le_bytes(first_bytes(bytes))
     }
-    let low = wide32(u16_at(rest, 0));
-    let high = wide32(u16_at(rest, 2));
-    low + 65536 * high
-}
 
-fn wide(b: u8) -> u32
-    ensures { (result ≡ b) × (result < 256) }
-{
-    b as u32
-}
-
-// The number of the first 4 bytes, all there: compiled to one load.
-fn first_four(bytes: &[u8]) -> u32
-    requires { 4 ≤ length bytes.now }
-    ensures { result ≡ number_at 4 bytes.now 0 }
-{
-    wide(bytes[0]) + 256 * wide(bytes[1]) + 65536 * wide(bytes[2]) + 16777216 * wide(bytes[3])
-}
-
-// The number of 8 bytes at a place.
-pub fn u64_at(bytes: &[u8], at: usize) -> u64
-    ensures { result ≡ number_at 8 bytes.now at }
-{
-    if bytes.len() <= at {
-        return 0;
+    fn store(self, out: &mut [u8]) {
+        store_bytes(out, &u16::to_le_bytes(self));
     }
-    let rest = &bytes[at..];
-    let low = wide64(u32_at(rest, 0));
-    let high = wide64(u32_at(rest, 4));
-    low + 4294967296 * high
+}
+
+impl Number for u32 {
+    ghost width = { 4 };
+
+    ghost value = { λ x. x };
+
+    fn first(bytes: &[u8]) -> u32 {
+        u32::from_le_bytes(first_bytes(bytes))
+    }
+
+    fn store(self, out: &mut [u8]) {
+        store_bytes(out, &u32::to_le_bytes(self));
+    }
+}
+
+impl Number for u64 {
+    ghost width = { 8 };
+
+    ghost value = { λ x. x };
+
+    fn first(bytes: &[u8]) -> u64 {
+        u64::from_le_bytes(first_bytes(bytes))
+    }
+
+    fn store(self, out: &mut [u8]) {
+        store_bytes(out, &u64::to_le_bytes(self));
+    }
+}
+
+// The number at a place.
+pub fn read<T: Number>(bytes: &[u8], at: usize) -> T
+    ensures { T.value result ≡ number_at T.width bytes.now at }
+{
+    if at < bytes.len() {
+        T::first(&bytes[at..])
+    } else {
+        T::first(&[])
+    }
+}
+
+// Writes a number at a place.
+pub fn write<T: Number>(out: &mut [u8], at: usize, x: T)
+    ensures { out.new ≡ sets out.old at (le T.width (T.value x)) }
+{
+    if at < out.len() {
+        x.store(&mut out[at..]);
+    }
 }
 
 // The number of `width` bytes at a place, of at most four.
 pub fn number_at(bytes: &[u8], at: usize, width: u32) -> u32
     ensures { result ≡ number_at (min width 4) bytes.now at }
 {
-    if bytes.len() <= at {
-        return 0;
-    }
-    let first = wide(bytes[at]);
-    let four = u32_at(bytes, at);
+    let four: u32 = read(bytes, at);
     match width {
         0 => 0,
-        1 => first,
+        1 => four % 256,
         2 => four % 65536,
         3 => four % 16777216,
         _ => four,
     }
 }
 
-// Writes one byte, where its place is there.
-fn put_byte(out: &mut [u8], at: usize, b: u8)
-    ensures { out.new ≡ sets out.old at (le 1 b) }
-{
-    if at < out.len() {
-        out[at] = b;
-    }
-}
-
-fn copy(out: &mut [u8], bytes: &[u8], n: usize)
-    requires { (n ≤ length bytes.now) × (n ≤ length out.old) }
-    ensures { out.new ≡ sets out.old 0 (take n bytes.now) }
-{
-    let mut i: usize = 0;
-    while i < n {
-        out[i] = bytes[i];
-        i += 1;
-    }
-}
-
-// The same, of bytes that go to a place of an output. Many are stored from the next place on that is a multiple of 16: as memory is mostly
-// lent from such an address on, no store of 16 bytes then lies in two lines of the cache.
-fn copy_to(out: &mut [u8], bytes: &[u8], n: usize, at: usize)
-    requires { (n ≤ length bytes.now) × (n ≤ length out.old) }
-    ensures { out.new ≡ sets out.old 0 (take n bytes.now) }
-{
-    if n < 256 {
-        copy(out, bytes, n);
-        return;
-    }
-    let head = 16 - at % 16;
-    copy(out, bytes, head);
-    copy(&mut out[head..], &bytes[head..], n - head);
-}
-
 // Writes bytes at a place.
 pub fn put_bytes(out: &mut [u8], at: usize, bytes: &[u8])
     ensures { out.new ≡ sets out.old at bytes.now }
 {
-    if out.len() <= at {
-        return;
+    if at < out.len() {
+        let n = bytes.len().min(out.len() - at);
+        out[at..at + n].copy_from_slice(&bytes[..n]);
     }
-    let rest = &mut out[at..];
-    let n = if bytes.len() < rest.len() {
-        bytes.len()
-    } else {
-        rest.len()
-    };
-    copy_to(rest, bytes, n, at);
-}
-
-// Writes a number as 2 bytes at a place.
-pub fn put_u16(out: &mut [u8], at: usize, x: u16)
-    ensures { out.new ≡ sets out.old at (le 2 x) }
-{
-    if out.len() <= at {
-        return;
-    }
-    let rest = &mut out[at..];
-    put_byte(rest, 0, (x % 256) as u8);
-    put_byte(rest, 1, (x / 256) as u8);
-}
-
-// Writes a number as 4 bytes at a place.
-pub fn put_u32(out: &mut [u8], at: usize, x: u32)
-    ensures { out.new ≡ sets out.old at (le 4 x) }
-{
-    if out.len() <= at {
-        return;
-    }
-    let rest = &mut out[at..];
-    put_u16(rest, 0, (x % 65536) as u16);
-    put_u16(rest, 2, (x / 65536) as u16);
-}
-
-// Writes a number as 8 bytes at a place.
-pub fn put_u64(out: &mut [u8], at: usize, x: u64)
-    ensures { out.new ≡ sets out.old at (le 8 x) }
-{
-    if out.len() <= at {
-        return;
-    }
-    let rest = &mut out[at..];
-    put_u32(rest, 0, (x % 4294967296) as u32);
-    put_u32(rest, 4, (x / 4294967296) as u32);
 }

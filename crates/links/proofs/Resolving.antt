@@ -14,7 +14,7 @@ use Rattle.body.specs.Body.{properties}
 use Rattle.rules.specs.Rules.{lines_of}
 use Rattle.judge.specs.Properties.{rule_at, rest_at}
 use Rattle.format.specs.Rows.{body_of}
-use Rattle.links.specs.declared.Linked.{Linked}
+use Rattle.links.specs.Links.{Linked}
 use Rattle.links.specs.Links.{Link, reached, links_at, row_links, links_from, linked, refusal_of, refused_links, resolved}
 use Rattle.links.specs.Private.{Count, node_linked, row_linked, rows_linked}
 use Rattle.links.proofs.Targets.{CountsReached}

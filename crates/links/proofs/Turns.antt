@@ -10,7 +10,8 @@ use Rattle.base.specs.Refusals.{refused_or}
 use Rattle.le.specs.Le.{number_at}
 use Rattle.table.specs.declared.Row.{Row}
 use Rattle.props.specs.Step.{name_at}
-use Rattle.rules.specs.declared.Entry.{Entry}
+use Rattle.rules.specs.declared.Held.TheVariants as H
+use Rattle.rules.specs.declared.Line.{Line as CodeLine}
 use Rattle.rules.specs.Table.{Line, free}
 use Rattle.rules.specs.Packing.{line_of}
 use Rattle.rules.specs.Rules.{find_in}
@@ -18,7 +19,7 @@ use Rattle.rules.proofs.Laws.{found}
 use Rattle.rules.proofs.Helds.{no_link}
 use Rattle.judge.specs.Properties.{rule_at, rest_at}
 use Rattle.format.specs.Rows.{body_of}
-use Rattle.links.specs.declared.Linked.{Linked}
+use Rattle.links.specs.Links.{Linked}
 use Rattle.links.specs.Links.{refusal_of, refused_links, accepted_links}
 use Rattle.links.specs.Private.{Count, node_linked}
 
@@ -34,12 +35,12 @@ module _ (count : Count) (ls : List Line) (start : ℕ) (s starts : List ℕ) (n
   abbrev at : ℕ
   at = get_or starts i 0
 
-  module _ (h : i < length starts) (e : Entry) (line : line_of e ≡ rule_at ls s at) where
-    pub node_other : (e.held ≡ 9 → ⊥) → from n i ≡ from n (i + 1)
+  module _ (h : i < length starts) (c : CodeLine) (line : line_of c ≡ rule_at ls s at) where
+    pub node_other : ((kind : ℕ) → c.held ≡ H.Link kind → ⊥) → from n i ≡ from n (i + 1)
     unfolding node_linked
-    node_other f = rw (add-one, drop-cons starts i 0 h, ← line) (no_link e _ _ f)
+    node_other f = rw (add-one, drop-cons starts i 0 h, ← line) (no_link c.held _ _ f)
 
-    module _ (f : e.held ≡ 9) {r hash : ℕ} {bytes : List ℕ} (x : r ≡ count e.target hash) (y : hash ≡ number_at 8 bytes 0)
+    module _ {target : ℕ} (f : c.held ≡ H.Link target) {r hash : ℕ} {bytes : List ℕ} (x : r ≡ count target hash) (y : hash ≡ number_at 8 bytes 0)
         (z : bytes ≡ rest_at s at) where
       abbrev by : ℕ → Linked
       by k = refused_or (refusal_of k) (refused_links (refusal_of k) (start + at)) (from (n + 1) (i + 1))

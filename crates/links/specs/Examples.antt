@@ -9,7 +9,7 @@ use Rattle.body.specs.Body.{pass, properties}
 use Rattle.base.specs.Letters.{letters}
 use Rattle.rules.specs.Table.{lines}
 use Rattle.rules.specs.Rules.{lists, rule_in, of_kind, lines_of}
-use Rattle.links.specs.declared.Linked.{Linked}
+use Rattle.links.specs.Links.{Linked}
 use Rattle.links.specs.Links.{refused_links, reached, links_at, links_from, resolved, linked}
 
 unfoldable resolve : List ℕ → List Row → Linked

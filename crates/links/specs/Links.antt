@@ -1,8 +1,9 @@
 -- Document 01's links: "A link resolves when exactly one node of that kind in the file has that hash. Zero is a hash like
 -- any other." Refusals 16, 17: "link reaches no node; reaches two or more", at the property: "row by row", and "Within a
 -- row the first property in file order speaks."
-use Rattle.std.specs.Prelude.{ℕ, zero, suc, ◌+◌, cond, ◌&&◌, List, [], ◌∷◌, ◌++◌, eqb, length}
-use Rattle.base.specs.Refusals.{refused_or}
+use Rattle.std.specs.Prelude.{ℕ, zero, suc, ◌+◌, cond, ◌&&◌, List, [], ◌∷◌, ◌++◌, eqb, length, Result, Ok, Err}
+use Rattle.base.specs.declared.Refusal.{Refusal}
+use Rattle.base.specs.Refusals.{refused_or, reason_number}
 use Rattle.le.specs.Le.{number_at}
 use Rattle.kinds.specs.Kinds.{is_known}
 use Rattle.table.specs.declared.Row.{Row}
@@ -11,7 +12,6 @@ use Rattle.rules.specs.Table.{Line}
 use Rattle.rules.specs.Rules.{lines_of, if_link}
 use Rattle.judge.specs.Properties.{rule_at, rest_at}
 use Rattle.format.specs.Rows.{body_of, hash_of}
-use Rattle.links.specs.declared.Linked.{Linked}
 
 -- of some rows, the first of which is row i, the numbers of those that are of a kind and have a hash, all 64 bits of it
 unfoldable pub reached : (kind hash i : ℕ) → List Row → List ℕ
@@ -54,11 +54,22 @@ refusal_of zero = 16
 refusal_of (suc zero) = 0
 refusal_of (suc (suc n)) = 17
 
+-- how links end: number 0 and how many there are; or a refusal's number and its property's place in the file
+pub record Linked : Type 0 where
+  pub number : ℕ
+  pub place : ℕ
+  pub links : ℕ
+
 abbrev pub refused_links : (number place : ℕ) → Linked
 refused_links n place = record { number = n; place = place; links = 0 }
 
 abbrev pub accepted_links : (links : ℕ) → Linked
 accepted_links n = record { number = 0; place = 0; links = n }
+
+-- as the code has it
+abbrev pub linked_told : Result ℕ Refusal → Linked
+linked_told (Ok n) = accepted_links n
+linked_told (Err r) = refused_links (reason_number r.reason) r.place
 
 -- the first that does not resolve; or "links (one per link property present)", with those before them
 unfoldable pub resolved : (before : ℕ) → List Link → Linked

@@ -9,7 +9,7 @@ use Rattle.le.specs.Le.{AreBytes}
 use Rattle.format.specs.Rows.{rows_of, all_own_bytes}
 use Rattle.walk.specs.Walk.{limited}
 use Rattle.reader.specs.declared.Account.{Account}
-use Rattle.reader.specs.declared.Reading.TheVariants.{Accepted, Refused}
+use Rattle.reader.specs.Reading.{Accepted, Refused}
 use Rattle.reader.specs.Reading.{verdict}
 use Rattle.reader.specs.Acceptance.{IsValid, RowsGive}
 use Rattle.reader.proofs.Charges.{own_split}

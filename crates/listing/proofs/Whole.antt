@@ -9,7 +9,7 @@ use Rattle.table.specs.declared.Row.{Row}
 use Rattle.table.specs.Table.{row_at, rows_at}
 use Rattle.faces.specs.declared.Faces.{Faces as FaceCount}
 use Rattle.reader.specs.declared.Account.{Account}
-use Rattle.reader.specs.declared.Reading.TheVariants.{Accepted}
+use Rattle.reader.specs.Reading.{Accepted}
 use Rattle.table.proofs.Rests.{rest, rest_all, rest_more, rest_none}
 use Rattle.listing.specs.declared.TextLine.{TextLine}
 use Rattle.listing.specs.declared.TextLine.TheVariants.{Summary, Node, FileHeader, Faces, Total}

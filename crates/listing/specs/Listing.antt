@@ -10,8 +10,8 @@ use Rattle.faces.specs.declared.Faces.{Faces as FaceCount}
 use Rattle.format.specs.Rows.{own_bytes}
 use Rattle.walk.specs.Walk.{limited}
 use Rattle.reader.specs.declared.Account.{Account}
-use Rattle.reader.specs.declared.Reading.{Reading}
-use Rattle.reader.specs.declared.Reading.TheVariants.{Accepted, Refused}
+use Rattle.reader.specs.Reading.{Reading}
+use Rattle.reader.specs.Reading.{Accepted, Refused}
 use Rattle.reader.specs.Reading.{verdict}
 use Rattle.listing.specs.declared.TextLine.{TextLine}
 use Rattle.listing.specs.declared.TextLine.TheVariants.{Summary, Node, FileHeader, Faces, Total, Refusal, TooLong}

@@ -4,7 +4,7 @@ use Rattle.le.specs.Le.{AreBytes}
 use Rattle.format.specs.Rows.{all_own_bytes}
 use Rattle.walk.specs.Walk.{limited}
 use Rattle.reader.specs.declared.Account.{Account}
-use Rattle.reader.specs.declared.Reading.TheVariants.{Accepted}
+use Rattle.reader.specs.Reading.{Accepted}
 use Rattle.reader.specs.Reading.{verdict}
 use Rattle.listing.specs.Listing.{total_of, listing_of}
 

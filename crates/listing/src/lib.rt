@@ -6,8 +6,7 @@ ghost use Rattle.std.proofs.lemmas.List.Edits.{sets};
 ghost use Rattle.text.specs.Text.{place_after, with_text, decimal};
 ghost use Rattle.table.specs.Table.{rows_at};
 ghost use Rattle.base.specs.Letters.{letters};
-ghost use Rattle.reader.specs.declared.Reading.TheVariants.{Accepted};
-ghost use Rattle.reader.specs.Reading.{Small};
+ghost use Rattle.reader.specs.Reading.{Accepted, Small};
 ghost use Rattle.listing.specs.declared.TextLine.TheVariants.{Summary, Node, Total};
 ghost use Rattle.listing.specs.Private.{Puts, PutsWhole};
 ghost use Rattle.listing.specs.Listing.{parent_text, newline, text_of, node_lines, foot_lines, file_lines, printed, listing_of};
@@ -190,12 +189,10 @@ pub fn put(out: &mut [u8], line: TextLine) -> usize
 fn nodes_size(table: &[u32], nodes: u32) -> usize
     ensures { (result ≡ length (printed (node_lines 0 (rows_at table.now 0 nodes)))) × (result ≤ 92 * nodes) }
 {
-    let mut sum: usize = 0;
-    let mut i: u32 = 0;
-    while i < nodes {
-        let row = table::row_at(table, i as usize);
-        sum += size(TextLine::Node { index: i, row });
-        i += 1;
+    let mut sum = 0;
+    for index in 0..nodes {
+        let row = table::row_at(table, index as usize);
+        sum += size(TextLine::Node { index, row });
     }
     sum
 }
@@ -206,11 +203,9 @@ fn put_node_lines(out: &mut [u8], at: usize, table: &[u32], nodes: u32) -> usize
     ensures { Puts out.old at (printed (node_lines 0 (rows_at table.now 0 nodes))) result out.new }
 {
     let mut next = at;
-    let mut i: u32 = 0;
-    while i < nodes {
-        let row = table::row_at(table, i as usize);
-        next = put_line(out, next, TextLine::Node { index: i, row });
-        i += 1;
+    for index in 0..nodes {
+        let row = table::row_at(table, index as usize);
+        next = put_line(out, next, TextLine::Node { index, row });
     }
     next
 }
@@ -280,22 +275,16 @@ pub fn list(input: &[u8], out: &mut [u8]) -> usize
         return put(out, TextLine::TooLong);
     }
     let mut table = [0u32; base::TABLE_NUMBERS];
-    let reading = reader::read(input, &mut table);
-    match reading {
-        reader::Reading::Accepted(a) => accepted(out, input.len() as u64, &table, a),
-        reader::Reading::Refused { number, place } => put(out, TextLine::Refusal { number, place }),
+    match reader::read(input, &mut table) {
+        Ok(account) => accepted(out, input.len() as u64, &table, account),
+        Err(refusal) => put(
+            out,
+            TextLine::Refusal {
+                number: refusal.reason.number(),
+                place: refusal.place as u32,
+            },
+        ),
     }
-}
-
-// The listing of the first n bytes.
-fn list_first(bytes: &[u8], n: usize, out: &mut [u8]) -> usize
-    ensures whole { PutsWhole out.old (listing_of (take n bytes.now)) result out.new }
-    ensures size { length (listing_of (take n bytes.now)) ≤ 98304 }
-{
-    if bytes.len() < n {
-        return list(bytes, out);
-    }
-    list(&bytes[..n], out)
 }
 
 // Puts the listing of the first n bytes of what was read, and answers its length. What was read has room for one byte more
@@ -305,5 +294,5 @@ pub fn list_read(read: &[u8; 32769], n: usize, out: &mut [u8; 98304]) -> usize
     ensures output { out.new ≡ sets out.old 0 (listing_of (take n read.now)) }
     ensures within { result ≤ length out.new }
 {
-    list_first(read, n, out)
+    list(&read[..n.min(read.len())], out)
 }

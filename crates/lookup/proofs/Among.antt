@@ -21,7 +21,7 @@ use Rattle.base.specs.Lists.{Each}
 use Rattle.format.specs.Layout.{Property, property_bytes, GoodProperty, GoodBody}
 use Rattle.format.proofs.Properties.{length_property, size_read, name_read, content_read, step_good}
 use Rattle.format.proofs.Bodies.{body_good}
-use Rattle.lookup.specs.declared.Found.TheVariants.{At, Refused}
+use Rattle.lookup.specs.Lookup.{At, Refused}
 use Rattle.lookup.specs.Lookup.{in_body}
 use Rattle.lookup.specs.Statements.{NoneNamed, FirstNamed, data_from}
 use Rattle.lookup.proofs.Laws.{by_none, by_first}

@@ -13,21 +13,21 @@ use Rattle.le.proofs.Laws.{rest}
 use Rattle.names.specs.Names.{same}
 use Rattle.props.specs.declared.Cursor.{Cursor}
 use Rattle.props.specs.declared.Offsets.{Offsets}
-use Rattle.props.specs.declared.Step.{Step}
-use Rattle.props.specs.declared.Step.TheVariants.{Past}
-use Rattle.props.specs.declared.Step.TheVariants.{Refused as refusedStep}
+use Rattle.props.specs.Step.{Step}
+use Rattle.props.specs.Step.{Past}
+use Rattle.props.specs.Step.{Refused as refusedStep}
 use Rattle.props.specs.Step.{step_at, name_at, data_at}
 use Rattle.props.proofs.Within.{step_within}
-use Rattle.body.specs.declared.Sought.{Sought}
-use Rattle.body.specs.declared.Sought.TheVariants.{Found as FoundAt, Nowhere}
-use Rattle.body.specs.declared.Sought.TheVariants.{Refused as refusedAt}
+use Rattle.body.specs.Body.{Sought}
+use Rattle.body.specs.Body.{Found as FoundAt, Nowhere}
+use Rattle.body.specs.Body.{RefusedAt}
 use Rattle.body.specs.Body.{PropertyWalk, stop, after, pass, properties, sought, exactly, places, first_named}
 use Rattle.body.proofs.Laws.{done, passed, refused, first_most}
 use Rattle.body.proofs.Search.{sought_done, sought_refused, sought_here, sought_later}
 use Rattle.body.proofs.Places.{pass_first, properties_places, properties_data}
 use Rattle.format.proofs.Properties.{step_told}
-use Rattle.lookup.specs.declared.Found.{Found}
-use Rattle.lookup.specs.declared.Found.TheVariants.{At, Refused}
+use Rattle.lookup.specs.Lookup.{Found}
+use Rattle.lookup.specs.Lookup.{At, Refused}
 use Rattle.lookup.specs.Lookup.{in_body, FoundWithin}
 use Rattle.lookup.proofs.Rest.{exactly_on}
 
@@ -106,7 +106,7 @@ module _ (s name : List ℕ) (k at : ℕ) (more : 0 < k) where
 abbrev pub by_sought : (s : List ℕ) → Sought → Found
 by_sought s (FoundAt start end left) = cond (not (exactly (rest s end) left)) (Refused 42) (At start end)
 by_sought s (Nowhere at) = cond (eqb at (length s)) (Refused 43) (Refused 42)
-by_sought s (refusedAt n at) = Refused 42
+by_sought s (RefusedAt n at) = Refused 42
 
 pub sought_found : (s name : List ℕ) (k at : ℕ) → k ≤ 64 → by_sought s (sought s name k at) ≡ found_in s name (pass s k at)
 sought_found s name zero at most =

@@ -12,8 +12,8 @@ use Rattle.base.proofs.Tests.{by_test}
 use Rattle.le.specs.Le.{number_at}
 use Rattle.le.proofs.Laws.{rest, rest_drop}
 use Rattle.names.specs.Names.{size_ok, bytes_ok}
-use Rattle.props.specs.declared.Step.{Step}
-use Rattle.props.specs.declared.Step.TheVariants.{Past, Refused}
+use Rattle.props.specs.Step.{Step}
+use Rattle.props.specs.Step.{Past, Refused}
 use Rattle.props.specs.Types.{element_size, no_such}
 use Rattle.props.specs.Step.{code_at, size_at, length_at, name_at, start_at, length_ok, data_size, step_at}
 use Rattle.body.specs.Body.{PropertyWalk, by_step, pass, properties, exactly}

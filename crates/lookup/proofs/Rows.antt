@@ -9,8 +9,8 @@ use Rattle.table.specs.declared.Row.{Row}
 use Rattle.table.specs.Table.{has_row, row_at}
 use Rattle.format.specs.Rows.{body_of, outside}
 use Rattle.format.proofs.Rows.{not_outside, length_body}
-use Rattle.lookup.specs.declared.Found.{Found}
-use Rattle.lookup.specs.declared.Found.TheVariants.{At, Refused}
+use Rattle.lookup.specs.Lookup.{Found}
+use Rattle.lookup.specs.Lookup.{At, Refused}
 use Rattle.lookup.specs.Lookup.{in_body, shifted, lookup_of, FoundWithin, number_of, part_of}
 use Rattle.lookup.proofs.Laws.{body_within}
 

@@ -18,8 +18,8 @@ use Rattle.format.specs.Rows.{body_of, outside}
 use Rattle.format.specs.Layout.{Property, InBytes}
 use Rattle.format.proofs.Rows.{not_outside, is_inside, length_body}
 use Rattle.format.proofs.Bodies.{good_exactly, exactly_good}
-use Rattle.lookup.specs.declared.Found.{Found}
-use Rattle.lookup.specs.declared.Found.TheVariants.{At, Refused}
+use Rattle.lookup.specs.Lookup.{Found}
+use Rattle.lookup.specs.Lookup.{At, Refused}
 use Rattle.lookup.specs.Lookup.{in_body, shifted, lookup_of, number_of, part_of, FoundWithin}
 use Rattle.lookup.specs.Statements.{IsRow, IsBody, NoneNamed, FirstNamed, data_from, Finds, Answers, LooksUp}
 use Rattle.lookup.proofs.Laws.{body_within}

@@ -5,8 +5,8 @@ use Rattle.names.specs.Names.{bytes_ok, same}
 use Rattle.props.specs.Step.{to_zero, step_at, data_at, name_at}
 use Rattle.body.specs.Body.{pass, properties, exactly, first_named}
 use Rattle.table.specs.Table.{has_row, row_at}
-use Rattle.lookup.specs.declared.Found.{Found}
-use Rattle.lookup.specs.declared.Found.TheVariants.{At, Refused}
+use Rattle.lookup.specs.Lookup.{Found}
+use Rattle.lookup.specs.Lookup.{At, Refused}
 use Rattle.lookup.specs.Lookup.{in_body, lookup_of, part_of}
 
 unfoldable look : List ℕ → List ℕ → ℕ → List ℕ → Found

@@ -1,13 +1,24 @@
 -- Document 01: "Lookup of a property by name in any bytes and any table: a query that finds the name, else answers 43;
 -- before that 40 row not wholly in the table, 41 and 42 as 22 and 23, over the bytes given and for any kind. Of two
 -- equal names the first is found."
-use Rattle.std.specs.Prelude.{ℕ, ◌+◌, ◌-◌, ◌≤◌, cond, not, List, [], eqb, length, take, drop, get_or}
+use Rattle.std.specs.Prelude.{ℕ, ◌+◌, ◌-◌, ◌≤◌, cond, not, List, [], eqb, length, take, drop, get_or, Result, Ok, Err}
+use Rattle.base.specs.declared.Reason.{Reason}
+use Rattle.base.specs.Refusals.{reason_number}
+use Rattle.std.specs.declared.ops.Range.{Range}
 use Rattle.props.specs.Step.{data_at}
 use Rattle.body.specs.Body.{properties, exactly, places, first_named}
 use Rattle.table.specs.Table.{has_row, row_at}
 use Rattle.format.specs.Rows.{body_of, outside}
-use Rattle.lookup.specs.declared.Found.{Found}
-use Rattle.lookup.specs.declared.Found.TheVariants.{At, Refused}
+
+-- where a property's data lies; or the number of the refusal
+pub data Found : Type 0 where
+  At : (start end : ℕ) → Found
+  Refused : (number : ℕ) → Found
+
+-- as the code has it
+abbrev pub found_told : Result (Range ℕ) Reason → Found
+found_told (Ok r) = At r.start r.end
+found_told (Err r) = Refused (reason_number r)
 
 -- 42: the body is not exactly its count of properties. 43: none has the name. Else the first one's data, up to the next place.
 unfoldable pub in_body : List ℕ → ℕ → List ℕ → Found

@@ -1,5 +1,5 @@
--- The lookup and the layout, as one named statement about `lookup_of`, `number_of` and `part_of`, the contracts of `lookup::find`,
--- `number` and `data`. Document 01: "Lookup of a property by name in any bytes and any table: a query that finds the name, else
+-- The lookup and the layout, as one named statement about `lookup_of`, `number_of` and `part_of`, which the contracts of
+-- `lookup::find` and `data` go by. Document 01: "Lookup of a property by name in any bytes and any table: a query that finds the name, else
 -- answers 43; before that 40 row not wholly in the table, 41 and 42 as 22 and 23, over the bytes given and for any kind. Of two
 -- equal names the first is found. It hands back the data's part of the file; an empty part on refusal."
 use Rattle.std.specs.Prelude.{ℕ, ◌+◌, ◌*◌, ◌≤◌, ◌≡◌, ◌↔◌, length}
@@ -10,7 +10,7 @@ use Rattle.table.specs.Table.{row_from}
 use Rattle.format.specs.Rows.{body_of}
 use Rattle.base.specs.Lists.{Each}
 use Rattle.format.specs.Layout.{Property, property_bytes, GoodBody, InBytes}
-use Rattle.lookup.specs.declared.Found.TheVariants.{At}
+use Rattle.lookup.specs.Lookup.{At}
 use Rattle.lookup.specs.Lookup.{lookup_of, number_of, part_of}
 
 -- not 40: the row's eight numbers are in the table

@@ -8,7 +8,7 @@ use mathlib.Core.List.{List}
 use lib.Dec.{eqb}
 use lib.ListN.{length}
 use borrow.Author.Tests.{eq-eqb, ne_eqb}
-use Rattle.base.specs.declared.Refusal.{Refusal}
+use Rattle.base.specs.Refusals.{Refusal}
 use Rattle.base.specs.Refusals.{refusal, no_refusal, refused_or}
 use Rattle.base.proofs.Tests.{by_test}
 use Rattle.base.proofs.Refusals.{is_refused}

@@ -2,12 +2,11 @@
 -- previous row or an ancestor of it), 22 body end before its start or past the source, 23 a known row's body is not exactly its
 -- count (at most 64) of properties by the rules of 9 to 11, 24 a known row's child count is not the rows naming it". "All of 21
 -- to 24 are judged for one row before the next. The place is the row for these."
-use Rattle.std.specs.Prelude.{ℕ, suc, Bool, false, cond, not, ◌||◌, List, [], ◌∷◌, eqb, length}
-use Rattle.base.specs.declared.Refusal.{Refusal}
+use Rattle.std.specs.Prelude.{ℕ, suc, Bool, false, cond, not, ◌||◌, List, [], ◌∷◌, eqb, length, None}
+use Rattle.base.specs.Refusals.{Refusal}
 use Rattle.base.specs.Refusals.{refusal, no_refusal, refused_or}
 use Rattle.kinds.specs.Kinds.{root, is_known}
 use Rattle.table.specs.declared.Row.{Row}
-use Rattle.table.specs.declared.Which.TheVariants.{All}
 use Rattle.table.specs.Table.{no_parent}
 use Rattle.table.specs.Counts.{count_under}
 use Rattle.body.specs.Body.{exactly}
@@ -37,7 +36,7 @@ right_parent r previous = cond (eqb r.kind root) (eqb r.parent no_parent) (is_on
 
 -- ---- 24: how many are "the rows naming it", among all rows of the plan, be they wrong themselves
 abbrev pub naming : List Row → (row : ℕ) → ℕ
-naming rows row = count_under All rows row
+naming rows row = count_under None rows row
 
 -- ---- one row, and all
 

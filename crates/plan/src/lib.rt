@@ -3,10 +3,13 @@
 
 ghost use Rattle.std.specs.Prelude.{◌≡◌, ◌≤◌, ◌<◌, min, length};
 ghost use Rattle.base.specs.Limits.{most_rows};
+ghost use Rattle.base.specs.Refusals.{number_in, refusal_in};
 ghost use Rattle.kinds.specs.Kinds.{is_known};
 ghost use Rattle.table.specs.Table.{no_parent, rows_at};
 ghost use Rattle.plan.specs.Plan.{right_parent, is_on, row_refusal, plan_refusal};
 ghost use Rattle.plan.specs.Private.{path_at, Climbs, NamingCounted};
+
+use base::{Reason, Refusal};
 
 // Whether a row is on the path of the row before row `index`; the climb starts at `from`, the first of that path. Over a
 // whole plan each row is passed at most once: a row that was passed is on no later path.
@@ -14,6 +17,7 @@ fn is_above(plan: &[u32], index: usize, from: u32, row: u32) -> bool
     requires { Climbs plan.now no_parent from (path_at plan.now index) }
     ensures { result ≡ is_on row (path_at plan.now index) }
 {
+    // A climb, which counts nothing: no `for` is plainer.
     let mut at = from;
     while at != table::NO_PARENT {
         if at == row {
@@ -36,8 +40,8 @@ fn right_parent(plan: &[u32], index: usize, row: table::Row, from: u32) -> bool
     is_above(plan, index, from, parent)
 }
 
-// A row's refusal, or 0. Whether its kind is known is looked up by the caller, who needs it too.
-fn row_refusal(
+// Judges a row. Whether its kind is known is looked up by the caller, who needs it too.
+fn check_row(
     plan: &[u32],
     index: usize,
     row: table::Row,
@@ -45,69 +49,55 @@ fn row_refusal(
     from: u32,
     source: &[u8],
     named: u32,
-) -> u32
+) -> Result<(), Reason>
     requires { Climbs plan.now no_parent from (path_at plan.now index) × (known ≡ is_known row.kind) }
-    ensures { result ≡ row_refusal source.now (path_at plan.now index) named row }
+    ensures { number_in result ≡ row_refusal source.now (path_at plan.now index) named row }
 {
     if !right_parent(plan, index, row, from) {
-        return 21;
+        return Err(Reason::WrongParent);
     }
     if format::is_outside(source.len(), row) {
-        return 22;
+        return Err(Reason::PlanBodyOutside);
     }
     if !known {
-        return 0;
+        return Ok(());
     }
     let body = format::body_of(source, row);
     if !body::exact(body, row.properties) {
-        return 23;
+        return Err(Reason::PlanBodyInexact);
     }
     if row.children != named {
-        return 24;
+        return Err(Reason::ChildCount);
     }
-    0
+    Ok(())
 }
 
-// The rows in turn.
-fn judge_rows(plan: &[u32], rows: usize, source: &[u8], counts: &[u16]) -> base::Refusal
+// The rows in turn: a refusal's place is its row.
+fn check_rows(plan: &[u32], rows: usize, source: &[u8], counts: &[u16]) -> Result<(), Refusal>
     requires { (rows ≤ most_rows) × (length counts.now ≡ most_rows) × NamingCounted counts.now (rows_at plan.now 0 rows) }
-    ensures { (result ≡ plan_refusal source.now (rows_at plan.now 0 rows)) × (result.place < most_rows) }
+    ensures { (refusal_in result ≡ plan_refusal source.now (rows_at plan.now 0 rows)) × ((refusal_in result).place < most_rows) }
 {
     // The first row on the path of the previous row.
-    let mut from: u32 = table::NO_PARENT;
-    let mut i: usize = 0;
-    while i < rows {
+    let mut from = table::NO_PARENT;
+    for i in 0..rows {
         let row = table::row_at(plan, i);
         let known = kinds::known(row.kind);
         let naming = table::count_at(counts, i);
-        let number = row_refusal(plan, i, row, known, from, source, naming);
-        if number != 0 {
-            return base::Refusal { number, place: i };
+        if let Err(why) = check_row(plan, i, row, known, from, source, naming) {
+            return Err(why.at(i));
         }
-        if known {
-            from = i as u32;
-        } else {
-            from = row.parent;
-        }
-        i += 1;
+        from = if known { i as u32 } else { row.parent };
     }
-    base::Refusal {
-        number: 0,
-        place: 0,
-    }
+    Ok(())
 }
 
-// The first refusal of the first rows of a table, at most 1,024, as a plan over the source: its place is the row.
-pub fn plan_refusal(plan: &[u32], rows: usize, source: &[u8]) -> base::Refusal
-    ensures result { result ≡ plan_refusal source.now (rows_at plan.now 0 (min rows most_rows)) }
-    ensures bound { result.place < most_rows }
+// Judges the first rows of a table, at most 1,024, as a plan over the source: the place of the first refusal is its row.
+pub fn check(plan: &[u32], rows: usize, source: &[u8]) -> Result<(), Refusal>
+    ensures result { refusal_in result ≡ plan_refusal source.now (rows_at plan.now 0 (min rows most_rows)) }
+    ensures bound { (refusal_in result).place < most_rows }
 {
-    let n = if rows < base::MOST_ROWS {
-        rows
-    } else {
-        base::MOST_ROWS
-    };
+    let n = rows.min(base::MOST_ROWS);
     let mut counts = [0u16; base::MOST_ROWS];
-    table::count_under(plan, n, table::Which::All, &mut counts);
-    judge_rows(plan, n, source, &counts)
+    table::count_under(plan, n, None, &mut counts);
+    check_rows(plan, n, source, &counts)
 }

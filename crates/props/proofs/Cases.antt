@@ -15,23 +15,19 @@ use Rattle.le.proofs.Laws.{rest, length_rest, drop_rest, number_at_rest}
 use Rattle.base.specs.Refusals.{refused_or}
 use Rattle.base.proofs.Tests.{by_test}
 use Rattle.names.specs.Names.{size_ok, bytes_ok}
-use Rattle.props.specs.declared.Size.{Size}
-use Rattle.props.specs.declared.Size.TheVariants.{Bytes, Text, NoSuch}
-use Rattle.props.specs.declared.Extent.{Extent}
-use Rattle.props.specs.declared.Extent.TheVariants.{Takes}
-use Rattle.props.specs.declared.Extent.TheVariants.{Refused as noData}
-use Rattle.props.specs.declared.Step.{Step}
-use Rattle.props.specs.declared.Step.TheVariants.{Past, Refused}
+use Rattle.props.specs.Types.{Size}
+use Rattle.props.specs.Types.{Bytes, Text, NoSuch}
+use Rattle.props.specs.Private.{Extent}
+use Rattle.props.specs.Private.{Takes}
+use Rattle.props.specs.Private.{Refused as noData}
+use Rattle.props.specs.Step.{Step}
+use Rattle.props.specs.Step.{Past, Refused}
 use Rattle.props.specs.Types.{element_size, no_such}
 use Rattle.props.specs.Step.{header_refusal, data_refusal, to_zero, length_ok, data_size, code_at, size_at, length_at, name_at, start_at, step_at}
 use Rattle.props.specs.Private.{fit, data_of, name_out}
 
 -- ---- the header
 module _ (code size room : ℕ) where
-  pub no_header : room < 8 → 10 ≡ header_refusal code size room
-  unfolding header_refusal
-  no_header h = rw (lt-ltb _ _ h)
-
   module _ (header : 8 ≤ room) where
     pub no_type : no_such (element_size code) ≡ true → 11 ≡ header_refusal code size room
     unfolding header_refusal
@@ -43,10 +39,6 @@ module _ (code size room : ℕ) where
       no_name e = rw (le-ltb _ _ header, type, e)
 
       module _ (named : size_ok size ≡ true) where
-        pub name_out_lem : room < 8 + size → 10 ≡ header_refusal code size room
-        unfolding header_refusal
-        name_out_lem h = rw (le-ltb _ _ header, type, named, lt-ltb _ _ h)
-
         pub header_right : 8 + size ≤ room → 0 ≡ header_refusal code size room
         unfolding header_refusal
         header_right h = rw (le-ltb _ _ header, type, named, le-ltb _ _ h)
@@ -70,9 +62,6 @@ pub product_fits : {m n : ℕ} → m ≤ 4294967295 → n ≤ 4294967295 → Fit
 product_fits h k = omega (arith, mul-le-mul h k)
 
 module _ (n room : ℕ) where
-  pub fit_out : room < n → noData 10 ≡ fit n room
-  fit_out h = rw (lt-ltb _ _ h)
-
   pub fit_in : n ≤ room → Takes n ≡ fit n room
   fit_in h = rw (le-ltb _ _ h)
 

@@ -4,6 +4,8 @@ use native.Mathlib.Omega.{arith}
 use mathlib.Core.Path.{◌≡◌}
 use mathlib.Core.List.{List}
 use lib.ListN.{length, take, drop}
+use Rattle.std.specs.Int.Bits.{bit_and}
+use Rattle.std.proofs.lemmas.Nat.{and_mask}
 use Rattle.le.specs.Le.{number_at, AreBytes}
 use Rattle.le.proofs.Laws.{rest, drop_rest, number_at_part, number_at_rest, number_at_past, number_at_short, number_at_high}
 use Rattle.props.specs.declared.PropertyHeader.{PropertyHeader}
@@ -12,13 +14,13 @@ use Rattle.props.specs.Step.{header_at, name_at}
 abbrev pub headed : (code size len : ℕ) → PropertyHeader
 headed code size len = record { code = code; size = size; length = len }
 
-pub header_number : (s : List ℕ) → AreBytes s → {n : ℕ} → n ≡ number_at 8 s 0 → headed (n % 65536) (n / 65536 % 65536) (n / 4294967296) ≡ header_at s 0
-header_number s bytes e =
+pub header_number : (s : List ℕ) → AreBytes s → {n : ℕ} → n ≡ number_at 8 s 0 → headed (bit_and n 65535) (bit_and (n / 65536) 65535) (n / 4294967296) ≡ header_at s 0
+header_number s bytes {n} e =
     let code : number_at 8 s 0 % 65536 ≡ number_at 2 s 0 = number_at_short 2 6 s 0 bytes in
     let above : number_at 8 s 0 / 65536 ≡ number_at 6 s 2 = number_at_high 2 6 s 0 bytes in
     let size : number_at 6 s 2 % 65536 ≡ number_at 2 s 2 = number_at_short 2 4 s 2 bytes in
     let len : number_at 8 s 0 / 4294967296 ≡ number_at 4 s 4 = number_at_high 4 4 s 0 bytes in
-    rw (e, code, above, size, len)
+    rw (and_mask n 16, and_mask (n / 65536) 16, e, code, above, size, len)
 
 -- ---- in a part
 module _ (s : List ℕ) (at : ℕ) where

@@ -3,7 +3,7 @@ use Prim.Native.Nat.{ℕ}
 use mathlib.Core.Path.{◌≡◌, refl}
 use mathlib.Core.Logic.{inl, inr}
 use borrow.Author.Tests.{ne_eqb}
-use Rattle.props.specs.declared.Size.TheVariants.{NoSuch}
+use Rattle.props.specs.Types.{NoSuch}
 use Rattle.props.specs.Types.{element_size}
 use Rattle.props.specs.Statements.{IsTypeCode, SizesAre}
 

@@ -11,11 +11,11 @@ use Rattle.base.proofs.Tests.{by_test}
 use Rattle.names.specs.Names.{size_ok, bytes_ok}
 use Rattle.props.specs.declared.Cursor.{Cursor}
 use Rattle.props.specs.declared.Offsets.{Offsets}
-use Rattle.props.specs.declared.Extent.{Extent}
-use Rattle.props.specs.declared.Extent.TheVariants.{Takes}
-use Rattle.props.specs.declared.Extent.TheVariants.{Refused as noData}
-use Rattle.props.specs.declared.Step.{Step}
-use Rattle.props.specs.declared.Step.TheVariants.{Past, Refused}
+use Rattle.props.specs.Private.{Extent}
+use Rattle.props.specs.Private.{Takes}
+use Rattle.props.specs.Private.{Refused as noData}
+use Rattle.props.specs.Step.{Step}
+use Rattle.props.specs.Step.{Past, Refused}
 use Rattle.props.specs.Types.{element_size, no_such}
 use Rattle.props.specs.Step.{header_refusal, length_ok, data_size, code_at, size_at, length_at, name_at, start_at, step_at, data_at}
 use Rattle.props.specs.Private.{data_of}

@@ -2,9 +2,9 @@
 use Rattle.std.specs.Prelude.{ℕ, ◌+◌, ◌≡◌, refl, List, [], ◌∷◌, ◌++◌, map, take, replicate}
 use Rattle.le.specs.Le.{val, number_at}
 use Rattle.names.specs.Names.{bytes_ok}
-use Rattle.props.specs.declared.Size.TheVariants.{Bytes, Text, NoSuch}
-use Rattle.props.specs.declared.Step.{Step}
-use Rattle.props.specs.declared.Step.TheVariants.{Past, Refused}
+use Rattle.props.specs.Types.{Bytes, Text, NoSuch}
+use Rattle.props.specs.Step.{Step}
+use Rattle.props.specs.Step.{Past, Refused}
 use Rattle.props.specs.Types.{element_size}
 use Rattle.props.specs.Step.{to_zero, step_at, header_at, data_at, name_at}
 

@@ -1,12 +1,20 @@
 -- What private functions promise each other; nothing here need be believed.
-use Rattle.std.specs.Prelude.{ℕ, ◌*◌, cond, List, ltb, length}
-use Rattle.base.specs.Refusals.{refused_or}
-use Rattle.props.specs.declared.Size.{Size}
-use Rattle.props.specs.declared.Size.TheVariants.{Bytes, Text, NoSuch}
-use Rattle.props.specs.declared.Extent.{Extent}
-use Rattle.props.specs.declared.Extent.TheVariants.{Takes, Refused}
+use Rattle.std.specs.Prelude.{ℕ, ◌*◌, cond, List, ltb, length, Result, Ok, Err}
+use Rattle.base.specs.declared.Reason.{Reason}
+use Rattle.base.specs.Refusals.{refused_or, reason_number}
+use Rattle.props.specs.Types.{Size}
+use Rattle.props.specs.Types.{Bytes, Text, NoSuch}
 use Rattle.props.specs.Types.{element_size, no_such}
 use Rattle.props.specs.Step.{data_refusal, to_zero}
+
+-- how many bytes the data takes, or the number that it is refused with
+pub data Extent : Type 0 where
+  Takes : (size : ℕ) → Extent
+  Refused : (number : ℕ) → Extent
+
+abbrev pub extent_told : Result ℕ Reason → Extent
+extent_told (Ok n) = Takes n
+extent_told (Err r) = Refused (reason_number r)
 
 -- n bytes of the room, where they fit
 abbrev pub fit : (n room : ℕ) → Extent

@@ -1,6 +1,6 @@
 -- Document 01's element sizes, type by type in its order.
 use Rattle.std.specs.Prelude.{ℕ, ◌≡◌, ◌⊎◌}
-use Rattle.props.specs.declared.Size.TheVariants.{Bytes, Text, NoSuch}
+use Rattle.props.specs.Types.{Bytes, Text, NoSuch}
 use Rattle.props.specs.Types.{element_size}
 
 -- one of the ten type codes

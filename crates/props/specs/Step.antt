@@ -1,14 +1,17 @@
 -- Document 01: "Property header, 8 bytes: type u16, name size u16, array length u32; then the name, then the data"; its
 -- refusals 10 and 11 in the order "header fits, type, name size, name fits, name bytes, string length, data fits".
 -- Places are offsets in some bytes: in the reader all that is left of the node, by its size; in 23 and 42 the body.
-use Rattle.std.specs.Prelude.{ℕ, suc, ◌+◌, ◌-◌, ◌*◌, Bool, true, false, cond, not, List, [], ◌∷◌, eqb, ltb, length, take, drop}
+use Rattle.std.specs.Prelude.{ℕ, suc, ◌+◌, ◌-◌, ◌*◌, Bool, true, false, cond, not, List, [], ◌∷◌, eqb, ltb, length, take, drop, Result, Ok, Err}
+use Rattle.base.specs.declared.Reason.{Reason}
+use Rattle.base.specs.Refusals.{reason_number}
 use Rattle.le.specs.Le.{number_at}
 use Rattle.names.specs.Names.{size_ok, bytes_ok}
-use Rattle.props.specs.declared.Size.{Size}
-use Rattle.props.specs.declared.Size.TheVariants.{Bytes, Text, NoSuch}
+use Rattle.props.specs.Types.{Size}
+use Rattle.props.specs.Types.{Bytes, Text, NoSuch}
 use Rattle.props.specs.declared.PropertyHeader.{PropertyHeader}
-use Rattle.props.specs.declared.Step.{Step}
-use Rattle.props.specs.declared.Step.TheVariants.{Past, Refused}
+use Rattle.props.specs.declared.Offsets.{Offsets}
+use Rattle.props.specs.declared.Cursor.{Cursor}
+use Rattle.props.specs.declared.Passed.{Passed}
 use Rattle.props.specs.Types.{element_size, no_such}
 
 -- the property at a place: its type, its name size, its array length, its name, and where its data starts
@@ -47,6 +50,16 @@ abbrev pub data_size : Size → (len : ℕ) (rest : List ℕ) → ℕ
 data_size (Bytes w) len rest = len * w
 data_size Text len rest = to_zero rest
 data_size NoSuch len rest = 0
+
+-- past a property, with its offsets and the cursor at the next; or the refusal's number
+pub data Step : Type 0 where
+  Past : (offsets : Offsets) (next : Cursor) → Step
+  Refused : (number : ℕ) → Step
+
+-- as the code has it
+abbrev pub step_told : Result Passed Reason → Step
+step_told (Ok p) = Past p.offsets p.next
+step_told (Err r) = Refused (reason_number r)
 
 -- one step past it: "header fits, type, name size, name fits, name bytes, string length, data fits"
 unfoldable pub step_at : List ℕ → (at : ℕ) → Step

@@ -1,7 +1,7 @@
 -- Document 01: "Element sizes by type code".
-use Rattle.std.specs.Prelude.{ℕ, Bool, true, false, cond, eqb}
-use Rattle.props.specs.declared.Size.{Size}
-use Rattle.props.specs.declared.Size.TheVariants.{Bytes, Text, NoSuch}
+use Rattle.std.specs.Prelude.{ℕ, Bool, true, false, cond, eqb, Option, Some, None}
+use Rattle.props.specs.declared.Size.{Size as CodeSize}
+use Rattle.props.specs.declared.Size.TheVariants.{Bytes as CodeBytes, Text as CodeText}
 
 -- "type code"s, by the letters that document 01 gives them: b h i l f d v2 v3 v4 s
 abbrev pub byte : ℕ
@@ -33,6 +33,18 @@ v4 = 0x7634
 
 abbrev pub string : ℕ
 string = 0x73
+
+-- the size of one element: so many bytes; that of a string, which its data tells; or no type has the code
+pub data Size : Type 0 where
+  Bytes : (size : ℕ) → Size
+  Text : Size
+  NoSuch : Size
+
+-- as the code has it
+abbrev pub size_told : Option CodeSize → Size
+size_told (Some (CodeBytes w)) = Bytes w
+size_told (Some CodeText) = Text
+size_told None = NoSuch
 
 -- b 1, h 2, i 4, l 8, f 4, d 8, v2 8, v3 12, v4 16; s
 abbrev pub element_size : ℕ → Size

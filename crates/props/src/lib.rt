@@ -1,10 +1,13 @@
 // One property at a time: its type, its name, its data, and the position just past it.
 #![tactic(auto)]
 
-ghost use Rattle.std.specs.Prelude.{◌≡◌, ◌+◌, ◌≤◌, ◌<◌, leb, length, drop};
-ghost use Rattle.props.specs.Types.{element_size, no_such, size_numbers};
-ghost use Rattle.props.specs.Step.{to_zero, data_size, step_at, header_at, code_at, length_at, name_at, start_at, data_at, step_numbers};
-ghost use Rattle.props.specs.Private.{fit, data_of, name_out};
+ghost use Rattle.std.specs.Prelude.{◌≡◌, ◌+◌, ◌≤◌, leb, length, drop};
+ghost use Rattle.base.specs.Refusals.{reason_number};
+ghost use Rattle.props.specs.Types.{element_size, size_told, size_numbers};
+ghost use Rattle.props.specs.Step.{to_zero, data_size, step_at, step_told, header_at, code_at, length_at, name_at, start_at, data_at, step_numbers};
+ghost use Rattle.props.specs.Private.{fit, extent_told, data_of, name_out};
+
+use base::Reason;
 
 // The type codes, by the letters that document 01 gives them.
 pub const BYTE: u16 = 0x62; // b
@@ -27,123 +30,82 @@ pub const V4: u16 = 0x7634; // v4
 
 pub const STRING: u16 = 0x73; // s
 
-// The size of one element, by type code. A string's size is found in its data.
-#[derive(Clone, Copy)]
+// The size of one element. A string's size is found in its data.
+#[derive(Clone, Copy, Debug, PartialEq, Eq)]
 pub enum Size {
     Bytes(u32),
     Text,
-    NoSuch,
 }
 
-pub fn element_size(code: u16) -> Size
-    ensures result { result ≡ element_size code }
-    ensures numbers { size_numbers result ≡ size_numbers (element_size code) }
+// The size of one element, by type code; none of another code.
+pub fn element_size(code: u16) -> Option<Size>
+    ensures result { size_told result ≡ element_size code }
+    ensures numbers { size_numbers (size_told result) ≡ size_numbers (element_size code) }
 {
     match code {
-        BYTE => Size::Bytes(1),
-        SHORT => Size::Bytes(2),
-        INT => Size::Bytes(4),
-        LONG => Size::Bytes(8),
-        FLOAT => Size::Bytes(4),
-        DOUBLE => Size::Bytes(8),
-        V2 => Size::Bytes(8),
-        V3 => Size::Bytes(12),
-        V4 => Size::Bytes(16),
-        STRING => Size::Text,
-        _ => Size::NoSuch,
+        BYTE => Some(Size::Bytes(1)),
+        SHORT => Some(Size::Bytes(2)),
+        INT => Some(Size::Bytes(4)),
+        LONG => Some(Size::Bytes(8)),
+        FLOAT => Some(Size::Bytes(4)),
+        DOUBLE => Some(Size::Bytes(8)),
+        V2 => Some(Size::Bytes(8)),
+        V3 => Some(Size::Bytes(12)),
+        V4 => Some(Size::Bytes(16)),
+        STRING => Some(Size::Text),
+        _ => None,
     }
-}
-
-fn no_such(size: Size) -> bool
-    ensures { result ≡ no_such size }
-{
-    match size {
-        Size::Bytes(_) => false,
-        Size::Text => false,
-        Size::NoSuch => true,
-    }
-}
-
-fn wide(x: u16) -> usize
-    ensures { (result ≡ x) × (result < 65536) }
-{
-    x as usize
 }
 
 // Whether any byte is zero. It has no early way out, so that it is compiled to a few wide comparisons.
-fn has_zero(block: &[u8]) -> bool
+fn has_zero(block: &[u8; 64]) -> bool
     ensures { result ≡ leb (to_zero block.now) (length block.now) }
 {
-    let mut any = false;
-    let mut i: usize = 0;
-    while i < block.len() {
-        any = any | (block[i] == 0);
-        i += 1;
-    }
-    any
+    block.iter().fold(false, |any, b| any | (*b == 0))
 }
 
 // A place up to which no byte is zero, found by blocks.
 fn clear_of_zeros(bytes: &[u8]) -> usize
     ensures { (result ≤ length bytes.now) × (result + to_zero (drop result bytes.now) ≡ to_zero bytes.now) }
 {
-    let mut i: usize = 0;
-    while 64 <= bytes.len() - i {
-        let end = i + 64;
-        if has_zero(&bytes[i..end]) {
-            return i;
-        }
-        i = end;
-    }
-    i
+    let (blocks, _) = bytes.as_chunks::<64>();
+    64 * blocks.iter().position(has_zero).unwrap_or(blocks.len())
 }
 
 // How many bytes a string takes, its zero included; one more than there are where no zero is.
 fn to_zero(bytes: &[u8]) -> usize
     ensures { result ≡ to_zero bytes.now }
 {
-    let mut i = clear_of_zeros(bytes);
-    while i < bytes.len() {
-        if bytes[i] == 0 {
-            return i + 1;
-        }
-        i += 1;
-    }
-    i + 1
-}
-
-// How many bytes the data takes, or what it is refused with.
-#[derive(Clone, Copy)]
-enum Extent {
-    Takes(usize),
-    Refused(u32),
+    let clear = clear_of_zeros(bytes);
+    let rest = &bytes[clear..];
+    clear + rest.iter().position(|b| *b == 0).unwrap_or(rest.len()) + 1
 }
 
 // Exactly n bytes of the room, where they fit.
-fn fit(n: usize, room: usize) -> Extent
-    ensures { result ≡ fit n room }
+fn fit(n: usize, room: usize) -> Result<usize, Reason>
+    ensures { extent_told result ≡ fit n room }
 {
     if room < n {
-        return Extent::Refused(10);
+        return Err(Reason::PropertyPastEnd);
     }
-    Extent::Takes(n)
+    Ok(n)
 }
 
-// The data at the start of `rest`, as `length` elements of this size: one match tells a wrong type, a wrong string length
-// and data that does not fit.
-fn data_of(size: Size, length: u32, rest: &[u8]) -> Extent
-    ensures { result ≡ data_of size length rest.now }
+// How many bytes the data at the start of `rest` takes, as `length` elements of this size: one match tells a wrong type, a wrong
+// string length and data that does not fit.
+fn data_of(size: Option<Size>, length: u32, rest: &[u8]) -> Result<usize, Reason>
+    ensures { extent_told result ≡ data_of (size_told size) length rest.now }
 {
     match size {
-        Size::Bytes(w) => fit(length as usize * w as usize, rest.len()),
-        Size::Text => {
+        Some(Size::Bytes(w)) => fit(length as usize * w as usize, rest.len()),
+        Some(Size::Text) => {
             if length == 1 {
                 fit(to_zero(rest), rest.len())
             } else {
-                Extent::Refused(11)
+                Err(Reason::PropertyForm)
             }
         }
-        Size::NoSuch => Extent::Refused(11),
+        None => Err(Reason::PropertyForm),
     }
 }
 
@@ -152,9 +114,9 @@ pub fn data_size(code: u16, length: u32, rest: &[u8]) -> usize
     ensures { result ≡ data_size (element_size code) length rest.now }
 {
     match element_size(code) {
-        Size::Bytes(w) => length as usize * w as usize,
-        Size::Text => to_zero(rest),
-        Size::NoSuch => 0,
+        Some(Size::Bytes(w)) => length as usize * w as usize,
+        Some(Size::Text) => to_zero(rest),
+        None => 0,
     }
 }
 
@@ -170,10 +132,10 @@ pub struct PropertyHeader {
 fn header_of(bytes: &[u8]) -> PropertyHeader
     ensures { result ≡ header_at bytes.now 0 }
 {
-    let number = le::u64_at(bytes, 0);
-    let code = (number % 65536) as u16;
-    let size = (number / 65536 % 65536) as u16;
-    let length = (number / 4294967296) as u32;
+    let number: u64 = le::read(bytes, 0);
+    let code = (number & 0xFFFF) as u16;
+    let size = (number >> 16 & 0xFFFF) as u16;
+    let length = (number >> 32) as u32;
     PropertyHeader { code, size, length }
 }
 
@@ -198,71 +160,70 @@ pub fn header_at(body: &[u8], at: usize) -> PropertyHeader
 }
 
 // What a name that does not fit is refused with: a wrong type comes first.
-fn name_out(code: u16) -> u32
-    ensures { result ≡ name_out code }
+fn name_out(code: u16) -> Reason
+    ensures { reason_number result ≡ name_out code }
 {
-    if no_such(element_size(code)) { 11 } else { 10 }
+    match element_size(code) {
+        Some(_) => Reason::PropertyPastEnd,
+        None => Reason::PropertyForm,
+    }
 }
 
 // A position in a body.
-#[derive(Clone, Copy)]
+#[derive(Clone, Copy, Debug, PartialEq, Eq)]
 pub struct Cursor {
     pub at: usize,
 }
 
 // Where the name and the data of a property start. The name ends where the data starts, the data where the next
 // property does.
-#[derive(Clone, Copy)]
+#[derive(Clone, Copy, Debug, PartialEq, Eq)]
 pub struct Offsets {
     pub name: usize,
     pub start: usize,
 }
 
-// Past a property; or the refusal of the property at the cursor.
-#[derive(Clone, Copy)]
-pub enum Step {
-    Past { offsets: Offsets, next: Cursor },
-    Refused(u32),
+// What a step past a property gives: its offsets, and the cursor at the next.
+#[derive(Clone, Copy, Debug, PartialEq, Eq)]
+pub struct Passed {
+    pub offsets: Offsets,
+    pub next: Cursor,
 }
 
 impl Cursor {
     // Steps past one property: header fits, type, name size, name fits, name bytes, string length, data fits. A wrong type is
     // refused with the number of a wrong name, so it is told last, with the data; but before a name that does not fit.
-    pub fn step(self, body: &[u8]) -> Step
-        ensures result { result ≡ step_at body.now self.at }
-        ensures numbers { step_numbers result ≡ step_numbers (step_at body.now self.at) }
+    pub fn step(self, body: &[u8]) -> Result<Passed, Reason>
+        ensures result { step_told result ≡ step_at body.now self.at }
+        ensures numbers { step_numbers (step_told result) ≡ step_numbers (step_at body.now self.at) }
     {
         let at = self.at;
         let n = body.len();
         if n < at {
-            return Step::Refused(10);
+            return Err(Reason::PropertyPastEnd);
         }
         if n - at < 8 {
-            return Step::Refused(10);
+            return Err(Reason::PropertyPastEnd);
         }
         let name = at + 8;
         let header = header_of(&body[at..name]);
         if !names::size_ok(header.size) {
-            return Step::Refused(11);
+            return Err(Reason::PropertyForm);
         }
-        let size = wide(header.size);
+        let size = usize::from(header.size);
         if n - name < size {
-            return Step::Refused(name_out(header.code));
+            return Err(name_out(header.code));
         }
         let start = name + size;
         if !names::bytes_ok(&body[name..start]) {
-            return Step::Refused(11);
+            return Err(Reason::PropertyForm);
         }
-        match data_of(element_size(header.code), header.length, &body[start..]) {
-            Extent::Takes(k) => {
-                let end = start + k;
-                Step::Past {
-                    offsets: Offsets { name, start },
-                    next: Cursor { at: end },
-                }
-            }
-            Extent::Refused(number) => Step::Refused(number),
-        }
+        let k = data_of(element_size(header.code), header.length, &body[start..])?;
+        let end = start + k;
+        Ok(Passed {
+            offsets: Offsets { name, start },
+            next: Cursor { at: end },
+        })
     }
 }
 
@@ -275,7 +236,7 @@ pub fn data_at(body: &[u8], at: usize) -> usize
     if n < at {
         return n;
     }
-    let data = 8 + wide(header_at(body, at).size);
+    let data = 8 + usize::from(header_at(body, at).size);
     if n - at < data {
         return n;
     }

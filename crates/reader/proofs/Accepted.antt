@@ -12,8 +12,8 @@ use Rattle.format.specs.Rows.{rows_of}
 use Rattle.format.proofs.Rows.{length_rows}
 use Rattle.walk.specs.Walk.{limited, flags_of}
 use Rattle.reader.specs.declared.Account.{Account}
-use Rattle.reader.specs.declared.Reading.{Reading}
-use Rattle.reader.specs.declared.Reading.TheVariants.{Accepted}
+use Rattle.reader.specs.Reading.{Reading}
+use Rattle.reader.specs.Reading.{Accepted}
 use Rattle.reader.specs.Reading.{ruled, account_of, numbers_of, verdict, table_after}
 use Rattle.reader.specs.Acceptance.{IsValid}
 use Rattle.links.specs.Links.{linked}

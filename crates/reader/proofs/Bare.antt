@@ -23,7 +23,7 @@ use Rattle.judge.specs.Missing.{misses, lacks}
 use Rattle.judge.specs.Valued.{valued, node_faces, node_links}
 use Rattle.judge.specs.Judge.{verdict_at, judged_at, judged}
 use Rattle.format.specs.Rows.{body_of, own_bytes}
-use Rattle.links.specs.declared.Linked.{Linked}
+use Rattle.links.specs.Links.{Linked}
 use Rattle.links.specs.Private.{Count}
 use Rattle.reader.specs.Reading.{unjudged, judged_with, ruled, own_unknown}
 use Rattle.reader.specs.Private.{unknown_bytes, is_judged, Skips, continued}

@@ -12,7 +12,7 @@ use Rattle.judge.proofs.Counted.{degenerate_append, judged_counts}
 use Rattle.format.specs.Rows.{body_of, all_own_bytes}
 use Rattle.base.specs.Lists.{Each}
 use Rattle.base.specs.Refusals.{refused_or}
-use Rattle.links.specs.declared.Linked.{Linked}
+use Rattle.links.specs.Links.{Linked}
 use Rattle.links.specs.Links.{Link, refusal_of, refused_links, resolved}
 use Rattle.reader.specs.Reading.{bones_under, judged_with, judged_row, ruled, own_known, own_unknown}
 use Rattle.reader.proofs.Judging.{ruled_on}

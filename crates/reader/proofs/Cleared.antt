@@ -9,7 +9,7 @@ use Rattle.base.proofs.Refusals.{is_refused}
 use Rattle.table.specs.Table.{put_rows, has_room, cleared}
 use Rattle.table.proofs.Clearing.{cleared_put_rows}
 use Rattle.walk.specs.Walk.{limited}
-use Rattle.reader.specs.declared.Reading.TheVariants.{Refused}
+use Rattle.reader.specs.Reading.{Refused}
 use Rattle.reader.specs.Reading.{checked, verdict, reading_of, table_after}
 
 pub refused_read : (s t : List ℕ) → has_room t ≡ true → length (limited s).rows ≤ 1024 → ((limited s).number ≡ 0 → ⊥) → {u : List ℕ} → u ≡ put_rows t 0 (limited s).rows

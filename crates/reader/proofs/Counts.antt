@@ -1,4 +1,5 @@
 -- The Bones under a parent, and the nodes of a kind and hash: the same by rows and by nodes.
+use Rattle.std.specs.Prelude.{Some}
 use Prim.Native.Nat.{ℕ, suc, ◌+◌, ◌≤◌, ◌<◌}
 use native.Mathlib.Omega.{arith}
 use mathlib.Core.Path.{◌≡◌, refl, ap, ◌∙◌}
@@ -11,7 +12,6 @@ use borrow.Author.Tests.{eq-eqb}
 use Rattle.base.proofs.Tests.{by_test}
 use Rattle.kinds.specs.Kinds.{bone}
 use Rattle.table.specs.declared.Row.{Row}
-use Rattle.table.specs.declared.Which.TheVariants.{OfKind}
 use Rattle.table.specs.Counts.{count_under}
 use Rattle.table.proofs.Counts.{counted_other, counted_append}
 use Rattle.format.specs.Forest.{Forest, end, known, unknown, count, nodes, encode}
@@ -36,7 +36,7 @@ not_first p row n (inr h) e = omega arith
 
 -- no row of some nodes is under a parent that is neither theirs nor one of them
 pub none_under : (f : Forest) (parent row at p : ℕ) → (parent ≡ p → ⊥) → Outside p row (nodes f) → bones_under (rows f parent row at) p ≡ 0
-none_under f parent row at p n h = rows_none (OfKind bone) f parent row at p n (by h)
+none_under f parent row at p n h = rows_none (Some bone) f parent row at p n (by h)
   where
     by : Outside p row (nodes f) → row ≤ p → row + nodes f ≤ p
     by (inl a) b = absurd (omega arith)
@@ -52,7 +52,7 @@ own_under (known k hash ps body kids next) parent row at h =
     let beside = rows next parent (suc row + nodes kids) (here + length (encode kids)) in
     let a = none_under kids row (suc row) here parent (not_first parent row (nodes kids + nodes next) h) (within parent row (nodes (known k hash ps body kids next)) (suc row) (nodes kids) h (omega arith) (omega arith)) in
     let b = own_under next parent (suc row + nodes kids) (here + length (encode kids)) (within parent row (nodes (known k hash ps body kids next)) (suc row + nodes kids) (nodes next) h (omega arith) (omega arith)) in
-    let rest : bones_under (below ++ beside) parent ≡ bones next = counted_append (OfKind bone) below beside parent ∙ rw (a, b) (omega arith) in
+    let rest : bones_under (below ++ beside) parent ≡ bones next = counted_append (Some bone) below beside parent ∙ rw (a, b) (omega arith) in
     rw (eq-eqb parent parent refl) (by_test (eqb k bone) (λ t. rw (t, rest)) (λ t. rw (t, rest)))
 own_under (unknown k hash ps c rest next) parent row at h =
     let b = own_under next parent (suc row) (at + 24 + length rest) (within parent row (nodes (unknown k hash ps c rest next)) (suc row) (nodes next) h (omega arith) (omega arith)) in
@@ -82,8 +82,8 @@ module _ (all : List Row) (k h ps : ℕ) (body : List ℕ) (kids next : Forest) 
   split : (p : ℕ) → row ≤ p → p < row + nodes (known k h ps body kids next) → bones_under all p ≡ bones_under below p + bones_under beside p
   split p a b =
       inside p a b
-      ∙ counted_other (OfKind bone) (node_row k h parent (at + 24) (at + 24 + length body) ps (count kids)) (below ++ beside) p (parent_not p a b)
-      ∙ counted_append (OfKind bone) below beside p
+      ∙ counted_other (Some bone) (node_row k h parent (at + 24) (at + 24 + length body) ps (count kids)) (below ++ beside) p (parent_not p a b)
+      ∙ counted_append (Some bone) below beside p
 
   not_beside : (p : ℕ) → row ≤ p → p < suc row + nodes kids → bones_under beside p ≡ 0
   not_beside p a b =
@@ -114,7 +114,7 @@ module _ (all : List Row) (k h ps c : ℕ) (rest : List ℕ) (next : Forest) (pa
   inside_next p a b =
       let no : parent ≡ p → ⊥ = λ e. by out e in
       inside p (omega arith) (omega arith)
-      ∙ counted_other (OfKind bone) (node_row k h parent (at + 24) (at + 24 + length rest) ps c) (rows next parent (suc row) (at + 24 + length rest)) p no
+      ∙ counted_other (Some bone) (node_row k h parent (at + 24) (at + 24 + length rest) ps c) (rows next parent (suc row) (at + 24 + length rest)) p no
     where
       by : Outside parent row (nodes (unknown k h ps c rest next)) → parent ≡ p → ⊥
       by (inl d) e = omega arith

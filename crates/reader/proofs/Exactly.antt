@@ -37,8 +37,8 @@ use Rattle.valid.proofs.Rules.{obeyed, accepted}
 use Rattle.valid.proofs.Picks.{degenerate_picked}
 use Rattle.valid.proofs.Links.{RowReached, links_reach, links_good}
 use Rattle.reader.specs.declared.Account.{Account}
-use Rattle.reader.specs.declared.Reading.{Reading}
-use Rattle.reader.specs.declared.Reading.TheVariants.{Accepted, Refused}
+use Rattle.reader.specs.Reading.{Reading}
+use Rattle.reader.specs.Reading.{Accepted, Refused}
 use Rattle.reader.specs.Reading.{bones_under, judged_row, ruled, account_of, checked, verdict, reading_of, table_after}
 use Rattle.reader.specs.Acceptance.{IsValid, Exactly, rows_of_link, nodes_of_link, AnswerOf, RowsGive, AnswersTheRules, OneForest}
 use Rattle.reader.proofs.Counts.{own_under, reached_nodes}

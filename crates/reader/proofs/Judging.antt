@@ -12,7 +12,7 @@ use Rattle.table.specs.declared.Row.{Row}
 use Rattle.body.specs.Body.{properties}
 use Rattle.rules.specs.Table.{Line}
 use Rattle.rules.specs.Rules.{lines_of}
-use Rattle.judge.specs.declared.Judged.{Judged}
+use Rattle.judge.specs.Judge.{Judged}
 use Rattle.judge.specs.Properties.{rule_at}
 use Rattle.judge.specs.Valued.{link_count, node_links}
 use Rattle.judge.specs.Judge.{judged}
@@ -20,7 +20,7 @@ use Rattle.judge.proofs.Counted.{judged_links}
 use Rattle.format.specs.Rows.{body_of}
 use Rattle.links.specs.Links.{Link, links_at, row_links, links_from, links_of, accepted_links, resolved, linked}
 use Rattle.rules.proofs.Helds.{by_link, link_none}
-use Rattle.reader.specs.declared.Ruled.{Ruled}
+use Rattle.reader.specs.Reading.{Ruled}
 use Rattle.reader.specs.Reading.{bones_under, unjudged, judged_with, judged_row, counted, uncounted, ruled}
 
 module _ (s : List ℕ) (r : Row) (bones : ℕ) where

@@ -16,8 +16,8 @@ use Rattle.table.proofs.Rows.{length_flat}
 use Rattle.table.proofs.Clearing.{length_cleared, length_filled, fits_has_room}
 use Rattle.walk.specs.Walk.{limited}
 use Rattle.walk.proofs.Depth.{never_too_deep}
-use Rattle.reader.specs.declared.Reading.{Reading}
-use Rattle.reader.specs.declared.Reading.TheVariants.{Accepted, Refused}
+use Rattle.reader.specs.Reading.{Reading}
+use Rattle.reader.specs.Reading.{Accepted, Refused}
 use Rattle.reader.specs.Reading.{checked, verdict, reading_of, table_after}
 use Rattle.reader.specs.Leaves.{number_in, TableAtExit, LeavesTable, NoRefusal8}
 use Rattle.reader.proofs.Exactly.{in_room, has_room_lem}

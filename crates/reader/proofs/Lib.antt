@@ -18,3 +18,4 @@ pub mod Leaves
 pub mod Passing
 pub mod Linking
 pub mod Bare
+pub mod Told

@@ -1,16 +1,17 @@
 -- The links of rows, in the same loop as their rules: by what a judgement notes, and the first that fails kept.
+use Rattle.std.specs.Prelude.{Result, Ok, Err, IfOk}
 use Prim.Native.Nat.{ℕ, zero, suc, ◌+◌, ◌≤◌, ◌<◌}
 use native.Mathlib.Omega.{arith}
 use mathlib.Core.Path.{◌≡◌, refl, sym, ap, ◌∙◌}
-use mathlib.Core.Bool.{true, false, not, ◌||◌, true≢false}
+use mathlib.Core.Bool.{true}
 use mathlib.Core.List.{List, [], ◌∷◌, map}
 use lib.ListN.{length, take, length-map}
-use lib.Dec.{eqb, ltb}
+use lib.Dec.{ltb}
 use lib.Seq.{sets, length-sets}
-use borrow.Author.Tests.{ltb-false, eqb-true, not-false, eq-eqb}
-use Rattle.rules.proofs.Names.{neither}
-use Rattle.base.specs.declared.Refusal.{Refusal}
-use Rattle.base.specs.Refusals.{refused_or}
+use borrow.Author.Tests.{ltb-false}
+use Rattle.base.specs.Refusals.{Refusal}
+use Rattle.base.specs.declared.Refusal.{Refusal as CodeRefusal}
+use Rattle.base.specs.Refusals.{refused_or, refusal_in}
 use Rattle.base.proofs.Refusals.{goes_on, is_refused}
 use Rattle.base.proofs.Tests.{by_test}
 use Rattle.kinds.specs.Kinds.{is_known}
@@ -23,7 +24,7 @@ use Rattle.rules.specs.Table.{Line}
 use Rattle.rules.specs.Rules.{lines_of}
 use Rattle.rules.proofs.Helds.{by_link}
 use Rattle.faces.specs.declared.Face.{Face}
-use Rattle.judge.specs.declared.Judged.{Judged}
+use Rattle.judge.specs.Judge.{Judged}
 use Rattle.judge.specs.Properties.{rule_at, line_number}
 use Rattle.judge.specs.Typed.{typed, rightly_typed}
 use Rattle.judge.specs.Valued.{link_count, node_faces, node_links}
@@ -31,12 +32,13 @@ use Rattle.judge.specs.Judge.{verdict_at, judged_by, judged_at}
 use Rattle.judge.proofs.Typing.{all_right_lem, first_of}
 use Rattle.judge.proofs.Counted.{judged_links}
 use Rattle.format.specs.Rows.{body_of}
-use Rattle.links.specs.declared.Linked.{Linked}
-use Rattle.links.specs.Links.{accepted_links, linked}
+use Rattle.links.specs.Links.{Linked}
+use Rattle.links.specs.Links.{accepted_links, linked, linked_told}
 use Rattle.links.specs.Private.{Count, node_linked, row_linked, rows_linked}
-use Rattle.reader.specs.declared.Ruled.{Ruled}
+use Rattle.reader.specs.Reading.{Ruled}
 use Rattle.reader.specs.Reading.{judged_with, ruled, own_unknown}
-use Rattle.reader.specs.Private.{Noted, continued, JudgedAll}
+use Rattle.reader.specs.declared.Judgement.{Judgement}
+use Rattle.reader.specs.Private.{Noted, continued, JudgedAll, RulesTo, AllTo}
 use Rattle.reader.proofs.Judging.{judged_known, links_counted, no_links}
 
 -- ---- what a judgement notes
@@ -174,21 +176,10 @@ module _ (count : Count) where
               (row_unlinked s l.links r b (ap (λ x. x.number) (sym f) ∙ z) (ap (λ x. x.links) (sym f) ∙ none y))
           by (suc k) y = on_refused s r (rest t n (i + 1)) l (λ y₀. omega (arith, y, y₀))
 
--- a row's links are looked at where it is not refused, has some, and none failed before
-module _ (number links failed : ℕ) where
-  pub looked_at : ((not (eqb number 0) || eqb links 0) || not (eqb failed 0)) ≡ false → (number ≡ 0) × (failed ≡ 0)
-  looked_at e =
-      let both = neither (not (eqb number 0) || eqb links 0) (not (eqb failed 0)) e in
-      let first = neither (not (eqb number 0)) (eqb links 0) both.0 in
-      (eqb-true number 0 (not-false _ first.0), eqb-true failed 0 (not-false _ both.1))
-
-  pub passed_over : ((not (eqb number 0) || eqb links 0) || not (eqb failed 0)) ≡ true → number ≡ 0 → failed ≡ 0 → links ≡ 0
-  passed_over e z y = by_test (eqb links 0) (λ t. eqb-true links 0 t) (λ t. absurd (true≢false (sym e ∙ rw (eq-eqb number 0 z, eq-eqb failed 0 y, t))))
-
 -- ---- all rows
 module _ (s : List ℕ) (rows : List Row) {rules : Ruled} {unknown : ℕ} (are : rules ≡ ruled s rows rows) (place : rules.place ≤ length s)
     (own : rules.number ≡ 0 → unknown ≡ own_unknown rows) where
-  pub all_judged : (count : Count) {links : Linked} → (rules.number ≡ 0 → continued count s links [] ≡ rows_linked count s 0 rows) →
+  all_judged : (count : Count) {links : Linked} → (rules.number ≡ 0 → continued count s links [] ≡ rows_linked count s 0 rows) →
       rows_linked count s 0 rows ≡ linked s rows → JudgedAll s rows rules links unknown
   unfolding rows_linked
   all_judged count e f = record { rules_are = are; place = place; links_are = λ z. e z ∙ f; unknown_is = own }
@@ -201,6 +192,13 @@ module _ (s : List ℕ) (rows : List Row) {rules : Ruled} {unknown : ℕ} (are :
     links_are = λ z. no_links s rows (sym none ∙ ap (λ u. u.links) are ∙ links_counted s rows 0 rows (ap (λ u. u.number) (sym are) ∙ z));
     unknown_is = own;
   }
+
+-- as the code tells it, by links that were resolved by some counts
+pub all_to : (s : List ℕ) (rows : List Row) (count : Count) (r : Result Judgement CodeRefusal) → RulesTo r (ruled s rows rows) → (refusal_in r).place ≤ length s
+    → IfOk r (λ j. continued count s (linked_told j.linked) [] ≡ rows_linked count s 0 rows) → IfOk r (λ j. j.unknown ≡ own_unknown rows)
+    → rows_linked count s 0 rows ≡ linked s rows → AllTo s rows r
+all_to s rows count (Ok j) are place links own e = all_judged s rows are (omega arith) (λ z. own) count (λ z. links) e
+all_to s rows count (Err r) are place links own e = (are.0, are.1, place)
 
 -- the links of rows that pass: a refusal, or their number
 module _ {s : List ℕ} {rows : List Row} {rules : Ruled} {links : Linked} {unknown : ℕ} (j : JudgedAll s rows rules links unknown)

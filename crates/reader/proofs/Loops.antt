@@ -1,36 +1,22 @@
 -- Loops over a table's rows: what the row in turn adds, the rest being the rows from it on.
 use Prim.Native.Nat.{ℕ, ◌+◌, ◌-◌, ◌≤◌, ◌<◌}
 use native.Mathlib.Nat.{zero-add, add-zero, add_assoc}
-use native.Mathlib.Omega.{arith}
 use mathlib.Core.Path.{◌≡◌, ◌∙◌}
 use mathlib.Core.List.{List}
-use lib.ListN.{length}
 use Rattle.base.specs.Refusals.{refused_or}
 use Rattle.base.proofs.Refusals.{is_refused}
 use Rattle.table.specs.declared.Row.{Row}
 use Rattle.table.specs.Table.{row_at, rows_at}
 use Rattle.table.proofs.Rests.{rest, rest_all, rest_more, rest_none}
-use Rattle.judge.specs.declared.Judged.{Judged}
-use Rattle.judge.specs.Judge.{Bounded}
-use Rattle.format.specs.Rows.{body_of}
-use Rattle.format.proofs.Rows.{body_length}
-use Rattle.reader.specs.declared.Ruled.{Ruled}
+use Rattle.judge.specs.Judge.{Judged}
+use Rattle.reader.specs.Reading.{Ruled}
 use Rattle.reader.specs.Reading.{bones_under, judged_with, counted, uncounted, ruled}
-use Rattle.reader.specs.Private.{RowOk, RowsOk}
 
 -- ---- rules
 
 -- what some rows give, with what was counted before them
 abbrev pub on_top : (faces degenerate links : ℕ) → Ruled → Ruled
 on_top f d l u = record { number = u.number; place = u.place; faces = f + u.faces; degenerate = d + u.degenerate; links = l + u.links }
-
--- a judgement's place lies after the node's header, and in the file
-pub row_place : (s t : List ℕ) (n i : ℕ) {r : Row} {j : Judged} → RowsOk s t n → i < n → r ≡ row_at t i → Bounded j (length (body_of s r))
-    → (24 ≤ r.start + j.place) × (r.start + j.place ≤ 24 + length s)
-row_place s t n i {r} ok h e b =
-    let row : RowOk s n r = rw e (ok i h) in
-    let size = body_length s r in
-    (omega (arith, row.first), omega (arith, b.place, size, row.onward, row.within))
 
 module _ (s t : List ℕ) (n : ℕ) where
   abbrev all : List Row

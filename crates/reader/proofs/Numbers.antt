@@ -14,9 +14,9 @@ use Rattle.judge.proofs.Numbers.{Among, judged_number}
 use Rattle.format.specs.Rows.{body_of}
 use Rattle.links.specs.Links.{linked}
 use Rattle.links.proofs.Numbers.{linked_number}
-use Rattle.reader.specs.declared.Reading.{Reading}
-use Rattle.reader.specs.declared.Reading.TheVariants.{Accepted, Refused}
-use Rattle.reader.specs.declared.Ruled.{Ruled}
+use Rattle.reader.specs.Reading.{Reading}
+use Rattle.reader.specs.Reading.{Accepted, Refused}
+use Rattle.reader.specs.Reading.{Ruled}
 use Rattle.walk.specs.Walk.{limited}
 use Rattle.reader.specs.Reading.{bones_under, judged_with, judged_row, ruled, checked, verdict, reading_of}
 

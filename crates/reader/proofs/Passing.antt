@@ -1,19 +1,19 @@
 -- The properties of a walked file's known nodes are passed, so that their places are found again by their headers alone; and the Bones of
 -- a file that has none.
-use Prim.Native.Nat.{ℕ, suc, ◌+◌, ◌≤◌, ◌<◌}
+use Rattle.std.specs.Prelude.{Some}
+use Prim.Native.Nat.{ℕ, suc, ◌+◌}
 use mathlib.Core.Path.{◌≡◌, refl, ap, sym, ◌∙◌}
 use mathlib.Core.Bool.{Bool, true, false, ◌||◌, true≢false, and-eq-true_iff, false≢true}
 use mathlib.Core.List.{List, [], ◌∷◌, ◌++◌}
 use lib.Dec.{eqb}
 use lib.ListN.{length, get_or}
-use borrow.Author.Tests.{eq-eqb, ne_eqb, eqb-true}
+use borrow.Author.Tests.{eqb-true}
 use Rattle.base.specs.Lists.{Each}
 use Rattle.base.proofs.Lists.{each_append}
 use Rattle.kinds.specs.Kinds.{bone}
 use Rattle.table.specs.declared.Row.{Row}
-use Rattle.table.specs.declared.Which.TheVariants.{OfKind}
-use Rattle.table.specs.Table.{no_parent, row_at, rows_at}
-use Rattle.table.proofs.Rests.{rest, rest_all, rest_more, rest_none}
+use Rattle.table.specs.Table.{no_parent}
+use Rattle.table.proofs.Rests.{rest}
 use Rattle.table.proofs.Counts.{counted_none}
 use Rattle.body.specs.Body.{properties, exactly, skimmed}
 use Rattle.body.proofs.Skimmed.{skimmed_passed}
@@ -68,23 +68,4 @@ boneless (r ∷ rs) p e = let both = neither (eqb r.kind bone) (has_kind bone rs
     neither false b e = (refl, e)
 
 pub none_counted : (rs : List Row) → has_kind bone rs ≡ false → {bones : List ℕ} → bones ≡ [] → BonesCounted bones rs
-none_counted rs e n p = ap (λ l. get_or l p 0) n ∙ sym (counted_none (OfKind bone) rs p (boneless rs p e))
-
--- ---- whether a row is of a kind
-module _ (t : List ℕ) (n kind : ℕ) where
-  pub kind_begun : has_kind kind (rest t n 0) ≡ has_kind kind (rows_at t 0 n)
-  kind_begun = ap (has_kind kind) (rest_all t n)
-
-  module _ (i : ℕ) where
-    module _ (h : i < n) {r : Row} (e : r ≡ row_at t i) where
-      pub kind_here : r.kind ≡ kind → has_kind kind (rest t n i) ≡ true
-      unfolding has_kind
-      kind_here k = rw (rest_more t n i h, ← e, eq-eqb r.kind kind k)
-
-      pub kind_later : (r.kind ≡ kind → ⊥) → has_kind kind (rest t n i) ≡ has_kind kind (rest t n (i + 1))
-      unfolding has_kind
-      kind_later k = rw (rest_more t n i h, ← e, ne_eqb r.kind kind k)
-
-    pub kind_nowhere : n ≤ i → has_kind kind (rest t n i) ≡ false
-    unfolding has_kind
-    kind_nowhere h = rw (rest_none t n i h)
+none_counted rs e n p = ap (λ l. get_or l p 0) n ∙ sym (counted_none (Some bone) rs p (boneless rs p e))

@@ -20,8 +20,8 @@ use Rattle.format.proofs.Rows.{body_length, own_bytes_add_up}
 use Rattle.valid.specs.Valid.{bones, NodeRuled, Valid}
 use Rattle.valid.proofs.Rules.{obeyed, accepted}
 use Rattle.valid.proofs.Sizes.{faces_most}
-use Rattle.reader.specs.declared.Reading.{Reading}
-use Rattle.reader.specs.declared.Reading.TheVariants.{Accepted, Refused}
+use Rattle.reader.specs.Reading.{Reading}
+use Rattle.reader.specs.Reading.{Accepted, Refused}
 use Rattle.reader.specs.Reading.{bones_under, judged_row, verdict, Small}
 use Rattle.reader.specs.Acceptance.{row_faces, faces_of}
 use Rattle.reader.proofs.Counts.{own_under}

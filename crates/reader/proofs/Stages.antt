@@ -14,14 +14,14 @@ use Rattle.table.specs.declared.Row.{Row}
 use Rattle.body.specs.Body.{properties}
 use Rattle.rules.specs.Table.{Line}
 use Rattle.rules.specs.Rules.{lines_of}
-use Rattle.judge.specs.declared.Judged.{Judged}
+use Rattle.judge.specs.Judge.{Judged}
 use Rattle.judge.specs.Properties.{rule_at, rest_at}
 use Rattle.format.specs.Rows.{body_of}
 use Rattle.base.specs.Lists.{Each}
-use Rattle.links.specs.declared.Linked.{Linked}
+use Rattle.links.specs.Links.{Linked}
 use Rattle.links.specs.Links.{Link, reached, links_at, row_links, links_from, refusal_of, refused_links, resolved}
 use Rattle.rules.proofs.Helds.{by_link, link_none}
-use Rattle.reader.specs.declared.Ruled.{Ruled}
+use Rattle.reader.specs.Reading.{Ruled}
 use Rattle.reader.specs.Reading.{judged_row, counted, uncounted, ruled}
 
 -- ---- rules

@@ -1,22 +1,22 @@
 -- The reading put together: what a walked file's rows are, and each way to its end.
+use Rattle.std.specs.Prelude.{Some, None, Result, Ok, Err}
 use Prim.Native.Nat.{ℕ, zero, suc, ◌+◌, ◌≤◌, ◌<◌, min}
 use native.Mathlib.Nat.{min-eq_left}
 use native.Mathlib.Omega.{arith}
 use mathlib.Core.Path.{◌≡◌, refl, ap, sym, ◌∙◌, subst}
-use mathlib.Core.Bool.{true, false, true≢false}
+use mathlib.Core.Bool.{true, false}
 use mathlib.Core.List.{List, [], ◌∷◌}
 use lib.Dec.{eqb, ltb}
 use lib.ListN.{length, get_or, length-append, get_or-eq_default}
 use borrow.Author.Tests.{eqb-true, ltb-true, ltb-false}
 use Rattle.base.proofs.Tests.{by_test}
-use Rattle.base.specs.Refusals.{refused_or}
+use Rattle.base.specs.declared.Refusal.{Refusal}
+use Rattle.base.specs.Refusals.{refused_or, reason_number}
 use Rattle.base.proofs.Refusals.{is_refused}
 use Rattle.le.specs.Le.{AreBytes}
-use Rattle.kinds.specs.declared.Parent.TheVariants.{None}
 use Rattle.kinds.specs.Kinds.{bone}
 use Rattle.table.specs.declared.Row.{Row}
-use Rattle.table.specs.declared.Which.TheVariants.{OfKind}
-use Rattle.table.specs.Table.{blank, no_parent, row_at, rows_at, put_rows, has_room, cleared, cleared_from}
+use Rattle.table.specs.Table.{blank, no_parent, row_at, rows_at, put_rows, has_room}
 use Rattle.table.specs.Counts.{counts_under}
 use Rattle.table.proofs.Rows.{row_at_put_rows}
 use Rattle.table.proofs.Clearing.{has_room_has_row, cleared_put_rows}
@@ -32,18 +32,20 @@ use Rattle.base.proofs.Lists.{each_both, each_map}
 use Rattle.format.proofs.Headers.{length_file_header}
 use Rattle.format.proofs.Rows.{length_rows, own_bytes_add_up}
 use Rattle.format.proofs.Within.{Lies, BoneUnder, rows_lie, bones_under_lem}
-use Rattle.links.specs.Links.{links_of, linked}
-use Rattle.walk.specs.declared.Answer.{Answer}
+use Rattle.links.specs.Links.{links_of, linked, accepted_links, refused_links, linked_told}
+use Rattle.walk.specs.Walk.{Answer}
 use Rattle.walk.specs.Walk.{Walked, limited, refused_answer, accepted_answer, answer, flags_of}
 use Rattle.walk.proofs.Laws.{limited_is}
 use Rattle.walk.proofs.Sound.{sound}
-use Rattle.reader.specs.declared.Reading.{Reading}
-use Rattle.reader.specs.declared.Reading.TheVariants.{Accepted, Refused}
+use Rattle.reader.specs.Reading.{Reading, Ruled}
+use Rattle.reader.specs.Reading.{Accepted, Refused}
 use Rattle.reader.specs.Reading.{bones_under, ruled, own_known, own_unknown, checked, verdict, reading_of, table_left, table_after}
-use Rattle.reader.specs.Private.{Passed, RowOk, RowsOk, BonesCounted, is_accepted, left_after}
+use Rattle.reader.specs.Private.{Passed, RowOk, RowsOk, BonesCounted, JudgedAll, AllTo, left_after}
 use Rattle.reader.proofs.Bounds.{links_lie, resolved_lies}
 use Rattle.reader.proofs.Exactly.{short, checked_right}
 use Rattle.reader.proofs.Passing.{file_passed}
+use Rattle.reader.proofs.Linking.{links_refused, links_accepted}
+use Rattle.base.proofs.Refusals.{numbered}
 
 -- ---- rows in a table
 each_get : (P : Row → Type 0) (rs : List Row) (d : Row) → Each P rs → (i : ℕ) → i < length rs → P (get_or rs i d)
@@ -109,15 +111,15 @@ walked_own s bytes e =
 
 -- ---- the stages after the walk
 module _ (s : List ℕ) (rs : List Row) where
-  pub refused_rules : ((ruled s rs rs).number ≡ 0 → ⊥) → Refused (ruled s rs rs).number (ruled s rs rs).place ≡ checked s rs
+  refused_rules : ((ruled s rs rs).number ≡ 0 → ⊥) → Refused (ruled s rs rs).number (ruled s rs rs).place ≡ checked s rs
   unfolding checked
   refused_rules h = sym (is_refused (ruled s rs rs).number _ _ h)
 
-  pub refused_links_lem : (ruled s rs rs).number ≡ 0 → ((linked s rs).number ≡ 0 → ⊥) → Refused (linked s rs).number (linked s rs).place ≡ checked s rs
+  refused_links_lem : (ruled s rs rs).number ≡ 0 → ((linked s rs).number ≡ 0 → ⊥) → Refused (linked s rs).number (linked s rs).place ≡ checked s rs
   unfolding checked
   refused_links_lem r h = rw r (sym (is_refused (linked s rs).number _ _ h))
 
-  pub links_place : (n : ℕ) → Each (RowOk s n) rs → (linked s rs).place ≤ length s
+  links_place : (n : ℕ) → Each (RowOk s n) rs → (linked s rs).place ≤ length s
   unfolding linked
   links_place n h = resolved_lies 0 (length s) (links_of s rs) (links_lie s rs n 0 rs h)
 
@@ -130,34 +132,50 @@ module _ (s : List ℕ) (rs : List Row) where
       let own : (x : OwnBytes) (m : ℕ) → x.0 ≡ m → x ≡ record { 0 = m } = λ x m p. ap (λ q. record { 0 = q }) p in
       rw (a, b, own known (own_known rs) c, own unknown (own_unknown rs) e, g, h, i) (sym (checked_right s rs r l))
 
+-- where the rules refuse, as the code has it
+pub rules_end : (s : List ℕ) (rs : List Row) (e : Refusal) → AllTo s rs (Err e) → Refused (reason_number e.reason) e.place ≡ checked s rs
+rules_end s rs e h =
+    ap (λ n. Refused n e.place) h.0 ∙ ap (Refused (ruled s rs rs).number) h.1 ∙ refused_rules s rs (λ z. numbered e.reason (h.0 ∙ z))
+
+-- and where only a link fails
+module _ (s : List ℕ) (rs : List Row) {rules : Ruled} {unknown : ℕ} {l : Result ℕ Refusal} {e : Refusal} (f : l ≡ Err e)
+    (j : JudgedAll s rs rules (linked_told l) unknown) (z : rules.number ≡ 0) where
+  fails : refused_links (reason_number e.reason) e.place ≡ linked s rs
+  fails = links_refused (subst (λ x. JudgedAll s rs rules (linked_told x) unknown) f j) z (numbered e.reason)
+
+  pub links_end : Refused (reason_number e.reason) e.place ≡ checked s rs
+  links_end =
+      ap (λ x. Refused x.number x.place) fails
+      ∙ refused_links_lem s rs (ap (λ u. u.number) (sym j.rules_are) ∙ z) (λ y. numbered e.reason (ap (λ x. x.number) fails ∙ y))
+
+  pub links_end_place : (n : ℕ) → Each (RowOk s n) rs → e.place ≤ length s
+  links_end_place n h = omega (arith, ap (λ x. x.place) fails, links_place s rs n h)
+
+-- and where none fails
+pub links_full : (s : List ℕ) (rs : List Row) {rules : Ruled} {unknown : ℕ} {l : Result ℕ Refusal} {n : ℕ} → l ≡ Ok n → JudgedAll s rs rules (linked_told l) unknown
+    → rules.number ≡ 0 → accepted_links n ≡ linked s rs
+links_full s rs {rules} {unknown} f j z = links_accepted (subst (λ x. JudgedAll s rs rules (linked_told x) unknown) f j) z refl
+
 pub table_ok : (s t : List ℕ) (n : ℕ) → RowsOk s t n → Each (RowOk s n) (rows_at t 0 n)
 table_ok s t n h = each_rows (RowOk s n) t 0 n (λ i b. (let z : i ≡ 0 + i = omega arith in subst (λ j. RowOk s n (row_at t j)) z (h i b)))
 
 -- the Bones under each row of a table, counted for the first 1,024; under others there are none
 pub bones_counted : (s t : List ℕ) (n : ℕ) → n ≤ 1024 → RowsOk s t n → (places : ℕ) → places ≡ 1024 → {bones : List ℕ}
-    → bones ≡ counts_under (OfKind bone) (rows_at t 0 (min n 1024)) places → BonesCounted bones (rows_at t 0 n)
+    → bones ≡ counts_under (Some bone) (rows_at t 0 (min n 1024)) places → BonesCounted bones (rows_at t 0 n)
 bones_counted s t n few ok places here {bones} e p =
     let past : 1024 ≤ p → (r : Row) → RowOk s n r → eqb r.kind bone ≡ true → r.parent ≡ p → ⊥
     = λ b r o k e. omega (arith, o.bone_parent (eqb-true r.kind bone k)) in
     let rows = rows_at t 0 (min n 1024) in
     by_test (ltb p 1024)
     (λ b.
-    counts_tell (OfKind bone) rows places e p (omega (arith, ltb-true p 1024 b, here))
+    counts_tell (Some bone) rows places e p (omega (arith, ltb-true p 1024 b, here))
     ∙ ap (λ m. bones_under (rows_at t 0 m) p) (min-eq_left few))
     (λ b.
     let q = ltb-false p 1024 b in
-    get_or-eq_default bones 0 (omega (arith, q, here, ap length e, counts_length (OfKind bone) rows 0 places))
-    ∙ sym (counted_none (OfKind bone) (rows_at t 0 n) p (each_map (past q) (rows_at t 0 n) (table_ok s t n ok))))
+    get_or-eq_default bones 0 (omega (arith, q, here, ap length e, counts_length (Some bone) rows 0 places))
+    ∙ sym (counted_none (Some bone) (rows_at t 0 n) p (each_map (past q) (rows_at t 0 n) (table_ok s t n ok))))
 
 -- ---- the reading
-pub left_accepted : (r : Reading) (n : ℕ) (t : List ℕ) → is_accepted r ≡ true → cleared_from n t ≡ left_after r n t
-left_accepted (Accepted a) n t e = refl
-left_accepted (Refused m place) n t e = absurd (true≢false (sym e))
-
-pub left_refused : (r : Reading) (n : ℕ) (t : List ℕ) → is_accepted r ≡ false → cleared t ≡ left_after r n t
-left_refused (Accepted a) n t e = absurd (true≢false e)
-left_refused (Refused m place) n t e = refl
-
 module _ (s t : List ℕ) where
   pub short_table : has_room t ≡ false → (Refused 1 0 ≡ reading_of s t) × (t ≡ table_after s t)
   unfolding reading_of table_after

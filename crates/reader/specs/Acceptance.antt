@@ -20,7 +20,7 @@ use Rattle.links.specs.Links.{Link, links_of}
 use Rattle.valid.specs.Valid.{Valid}
 use Rattle.valid.specs.Nodes.{Node, nodes_of, known_bytes, unknown_bytes, all_faces, TwoEqual, NodeLink, LinksAre}
 use Rattle.reader.specs.declared.Account.{Account}
-use Rattle.reader.specs.declared.Reading.TheVariants.{Accepted}
+use Rattle.reader.specs.Reading.{Accepted}
 use Rattle.reader.specs.Reading.{own_known, own_unknown, reading_of, table_after}
 
 -- the bytes are the file of some flags and some valid nodes

@@ -22,7 +22,7 @@ use Rattle.judge.specs.Judge.{verdict_at, judged_at, judged}
 use Rattle.format.specs.Forest.{header, file_header}
 use Rattle.links.specs.Links.{reached, links_at, links_from, resolved, linked}
 use Rattle.walk.specs.Walk.{header_at, node_refusal, and_then, children, node, children_at, walk_of, limited}
-use Rattle.reader.specs.declared.Reading.TheVariants.{Refused}
+use Rattle.reader.specs.Reading.{Refused}
 use Rattle.reader.specs.Reading.{Numbers, numbers_of, judged_with, ruled, own_known, own_unknown, checked, verdict, reading_of, table_after}
 
 -- a table of 8,193 numbers, none of them 0

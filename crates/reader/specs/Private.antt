@@ -1,21 +1,26 @@
 -- What private functions promise each other; nothing here need be believed.
-use Rattle.std.specs.Prelude.{ℕ, ◌+◌, ◌-◌, ◌*◌, ◌^◌, ◌≤◌, ◌<◌, ◌≡◌, ◌⊎◌, Bool, true, false, cond, not, ◌&&◌, ◌||◌, List, [], ◌∷◌, map, eqb, length, take, get_or}
+use Rattle.std.specs.Prelude.{ℕ, ◌+◌, ◌-◌, ◌*◌, ◌^◌, ◌≤◌, ◌<◌, ◌≡◌, ◌⊎◌, Bool, true, false, cond, not, ◌&&◌, ◌||◌, List, [], ◌∷◌, map, eqb, length, take, get_or, Result, Ok, Err}
 use Rattle.kinds.specs.Kinds.{bone, is_known}
 use Rattle.table.specs.declared.Row.{Row}
 use Rattle.table.specs.Table.{row_at, rows_at, cleared, cleared_from}
 use Rattle.body.specs.Body.{properties}
 use Rattle.format.specs.Rows.{body_of, own_bytes}
-use Rattle.base.specs.Refusals.{refused_or}
+use Rattle.base.specs.declared.Refusal.{Refusal}
+use Rattle.base.specs.Refusals.{refused_or, reason_number}
 use Rattle.rules.specs.Rules.{lines_of}
 use Rattle.judge.specs.Properties.{line_number}
 use Rattle.judge.specs.Missing.{misses}
-use Rattle.links.specs.declared.Linked.{Linked}
-use Rattle.links.specs.Private.{Count, row_linked, rows_linked}
-use Rattle.links.specs.Links.{accepted_links, linked}
-use Rattle.reader.specs.declared.Ruled.{Ruled}
+use Rattle.links.specs.Links.{Linked}
+use Rattle.links.specs.Private.{Count, count_in, row_linked, rows_linked}
+use Rattle.links.specs.Links.{accepted_links, linked, linked_told}
+use Rattle.judge.specs.Judge.{Judged, refused_node, judged_told}
+use Rattle.reader.specs.declared.targets.Targets.{Targets}
+use Rattle.reader.specs.declared.OfRow.{OfRow}
+use Rattle.reader.specs.declared.Judgement.{Judgement}
+use Rattle.reader.specs.Reading.{Ruled}
 use Rattle.reader.specs.Reading.{bones_under, ruled, own_unknown}
-use Rattle.reader.specs.declared.Reading.{Reading}
-use Rattle.reader.specs.declared.Reading.TheVariants.{Accepted, Refused}
+use Rattle.reader.specs.Reading.{Reading}
+use Rattle.reader.specs.Reading.{Accepted, Refused}
 
 -- a known node's properties are all passed by the walk
 abbrev pub Passed : (s : List ℕ) → Row → Type 0
@@ -40,10 +45,6 @@ has_kind kind (r ∷ rs) = eqb r.kind kind || has_kind kind rs
 -- numbers that tell, by its place, the Bones under each row
 abbrev pub BonesCounted : (bones : List ℕ) (rows : List Row) → Type 0
 BonesCounted bones rows = (p : ℕ) → get_or bones p 0 ≡ bones_under rows p
-
-abbrev pub is_accepted : Reading → Bool
-is_accepted (Accepted a) = true
-is_accepted (Refused n place) = false
 
 -- of a table with rows at its start: n of them are left alone, and none on a refusal
 abbrev pub left_after : Reading → (n : ℕ) → List ℕ → List ℕ
@@ -77,6 +78,10 @@ pub record NotedIs (s : List ℕ) (r : Row) (starts numbers : List ℕ) : Type 0
 abbrev pub Noted : (s : List ℕ) → Row → (starts numbers : List ℕ) → Type 0
 Noted s r starts numbers = NotedIs s r (take r.properties starts) (take r.properties numbers)
 
+-- how often the hashes that links reach have one, by its kind
+abbrev pub target_count : Targets → Count
+target_count t = count_in t.materials.now t.meshes.now t.bones.now t.files.now
+
 -- the links up to a row that counts some: with its own after those before it; or those before it, where one failed or the row has none
 abbrev pub LinkedOn : Count → (s : List ℕ) → Row → (links : ℕ) (before after : Linked) → Type 0
 LinkedOn count s r links before after =
@@ -92,3 +97,23 @@ pub record JudgedAll (s : List ℕ) (rows : List Row) (rules : Ruled) (links : L
   pub place : rules.place ≤ length s
   pub links_are : rules.number ≡ 0 → refused_or links.number links (accepted_links links.links) ≡ linked s rows
   pub unknown_is : rules.number ≡ 0 → unknown ≡ own_unknown rows
+
+-- ---- what the code tells
+
+-- of the judgement of a row
+abbrev pub judged_of : Result OfRow Refusal → Judged
+judged_of (Ok given) = judged_told (Ok given.judged)
+judged_of (Err r) = refused_node (reason_number r.reason) r.place
+
+-- of the rules of some rows: what they count, or the refusal
+abbrev pub rules_told : Judgement → Ruled
+rules_told j = record { number = 0; place = 0; faces = j.faces; degenerate = j.degenerate; links = j.links }
+
+abbrev pub RulesTo : Result Judgement Refusal → Ruled → Type 0
+RulesTo (Ok j) r = rules_told j ≡ r
+RulesTo (Err e) r = (reason_number e.reason ≡ r.number) × (e.place ≡ r.place)
+
+-- and of all rows of a file
+abbrev pub AllTo : (s : List ℕ) (rows : List Row) → Result Judgement Refusal → Type 0
+AllTo s rows (Ok j) = JudgedAll s rows (rules_told j) (linked_told j.linked) j.unknown
+AllTo s rows (Err e) = (reason_number e.reason ≡ (ruled s rows rows).number) × (e.place ≡ (ruled s rows rows).place) × (e.place ≤ length s)

@@ -1,28 +1,25 @@
 -- Document 01's reading: "1 to 4; then nodes as they come ... Then, row by row: all 13, then 14, then all 15. Then links, row
 -- by row. ... The first found is the answer; all other numbers of it are 0."
-use Rattle.std.specs.Prelude.{ℕ, ◌+◌, ◌-◌, ◌<◌, ◌^◌, cond, List, [], ◌∷◌, length}
-use Rattle.base.specs.Refusals.{refused_or}
+use Rattle.std.specs.Prelude.{ℕ, ◌+◌, ◌-◌, ◌<◌, ◌^◌, cond, List, [], ◌∷◌, length, Some, Result, Ok, Err}
+use Rattle.base.specs.declared.Refusal.{Refusal}
+use Rattle.base.specs.Refusals.{refused_or, reason_number}
 use Rattle.kinds.specs.Kinds.{bone, is_known}
 use Rattle.table.specs.declared.Row.{Row}
-use Rattle.table.specs.declared.Which.TheVariants.{OfKind}
 use Rattle.table.specs.Table.{has_room, cleared, filled}
 use Rattle.table.specs.Counts.{count_under}
 use Rattle.format.specs.Rows.{body_of, own_bytes}
-use Rattle.judge.specs.declared.Judged.{Judged}
+use Rattle.judge.specs.Judge.{Judged}
 use Rattle.judge.specs.Judge.{accepted_node, judged}
-use Rattle.links.specs.declared.Linked.{Linked}
+use Rattle.links.specs.Links.{Linked}
 use Rattle.links.specs.Links.{linked}
 use Rattle.walk.specs.Walk.{limited, flags_of}
 use Rattle.reader.specs.declared.Account.{Account}
-use Rattle.reader.specs.declared.Reading.{Reading}
-use Rattle.reader.specs.declared.Reading.TheVariants.{Accepted, Refused}
-use Rattle.reader.specs.declared.Ruled.{Ruled}
 
 -- ---- 13 to 15, row by row
 
 -- "the Bone children of that Skeleton": the Bones under a parent
 abbrev pub bones_under : List Row → (parent : ℕ) → ℕ
-bones_under rows parent = count_under (OfKind bone) rows parent
+bones_under rows parent = count_under (Some bone) rows parent
 
 -- an unknown node has no rules
 abbrev pub unjudged : Judged
@@ -35,8 +32,16 @@ judged_with s r bones = cond (is_known r.kind) (judged r.kind r.properties (body
 abbrev pub judged_row : (s : List ℕ) (all : List Row) → Row → Judged
 judged_row s all r = judged_with s r (bones_under all r.parent)
 
--- what some rows give: a refusal's number, 0 for none, and its place; and what was counted before it, here nothing. (The code
--- resolves no links where their count is 0; the answer's links are those of `linked`.)
+-- what the rules of some rows give: a refusal's number, 0 for none, and its place; and what was counted before it
+pub record Ruled : Type 0 where
+  pub number : ℕ
+  pub place : ℕ
+  pub faces : ℕ
+  pub degenerate : ℕ
+  pub links : ℕ
+
+-- a refusal, before which nothing is counted here. (The code resolves no links where their count is 0; the answer's links are those
+-- of `linked`.)
 abbrev pub uncounted : (number place : ℕ) → Ruled
 uncounted n place = record { number = n; place = place; faces = 0; degenerate = 0; links = 0 }
 
@@ -79,6 +84,16 @@ account_of s rows ruled linked = record {
   degenerate = ruled.degenerate;
   links = linked.links;
 }
+
+-- the account of an accepted file, or a refusal's number and place
+pub data Reading : Type 0 where
+  Accepted : Account → Reading
+  Refused : (number place : ℕ) → Reading
+
+-- as the code has it
+abbrev pub reading_told : Result Account Refusal → Reading
+reading_told (Ok a) = Accepted a
+reading_told (Err r) = Refused (reason_number r.reason) r.place
 
 -- 13 to 17 of a file's rows
 unfoldable pub checked : (s : List ℕ) → List Row → Reading

@@ -43,15 +43,16 @@ pub(crate) fn skip(table: &[u32], nodes: usize, from: usize, before: u64) -> Nex
     ensures { Skips table.now nodes from before result.row result.unknown }
 {
     let mut unknown = before;
-    let mut i = from;
-    while i < nodes {
+    for i in from..nodes {
         let row = table::row_at(table, i);
         let known = kinds::known(row.kind);
         if is_judged(row, known) {
             return Next { row: i, unknown };
         }
         unknown += unknown_bytes(row, known);
-        i += 1;
     }
-    Next { row: i, unknown }
+    Next {
+        row: nodes,
+        unknown,
+    }
 }

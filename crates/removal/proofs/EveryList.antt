@@ -18,7 +18,7 @@ use Rattle.format.proofs.Rows.{length_rows}
 use Rattle.format.proofs.Within.{rows_lie}
 use Rattle.links.specs.Links.{links_of}
 use Rattle.valid.specs.Valid.{Valid}
-use Rattle.reader.specs.declared.Reading.TheVariants.{Accepted}
+use Rattle.reader.specs.Reading.{Accepted}
 use Rattle.reader.specs.Reading.{verdict}
 use Rattle.reader.specs.Reading.{table_after as readTable}
 use Rattle.reader.specs.Acceptance.{RowsGive, row_faces}

@@ -22,7 +22,7 @@ use Rattle.format.proofs.Rows.{length_rows, own_rows}
 use Rattle.valid.specs.Valid.{Valid}
 use Rattle.walk.specs.Walk.{limited}
 use Rattle.reader.specs.declared.Account.{Account}
-use Rattle.reader.specs.declared.Reading.TheVariants.{Accepted}
+use Rattle.reader.specs.Reading.{Accepted}
 use Rattle.reader.specs.Reading.{verdict}
 use Rattle.reader.specs.Acceptance.{IsValid}
 use Rattle.reader.specs.Reading.{table_after as readTable}

@@ -7,7 +7,7 @@ use lib.ListN.{length, replicate, length-replicate}
 use Rattle.table.specs.Table.{rows_at, flat, filled, first_rows}
 use Rattle.table.proofs.Plans.{first_filled, rows_flat}
 use Rattle.reader.specs.declared.Account.{Account}
-use Rattle.reader.specs.declared.Reading.TheVariants.{Accepted}
+use Rattle.reader.specs.Reading.{Accepted}
 use Rattle.removal.specs.RemovalSequence.{OneReading}
 
 pub account_same : (a b : Account) → Accepted a ≡ Accepted b → b ≡ a

@@ -7,7 +7,7 @@ use lib.ListN.{length}
 use borrow.Author.Tests.{ne_eqb}
 use Rattle.base.proofs.Tests.{by_test}
 use Rattle.table.specs.Table.{has_room, cleared}
-use Rattle.reader.specs.declared.Reading.TheVariants.{Refused}
+use Rattle.reader.specs.Reading.{Refused}
 use Rattle.reader.specs.Reading.{reading_of}
 use Rattle.reader.specs.Reading.{table_after as readTable}
 use Rattle.reader.proofs.Numbers.{refused_some}

@@ -21,11 +21,11 @@ use Rattle.format.proofs.Rows.{length_rows}
 use Rattle.links.specs.Links.{linked}
 use Rattle.valid.specs.Valid.{Valid}
 use Rattle.reader.specs.declared.Account.{Account}
-use Rattle.reader.specs.declared.Reading.TheVariants.{Accepted}
+use Rattle.reader.specs.Reading.{Accepted}
 use Rattle.reader.specs.Reading.{ruled, account_of, reading_of}
 use Rattle.reader.proofs.Exactly.{valid_rows, valid_verdict, in_room, answers_the_rules}
 use Rattle.reader.proofs.Whole.{short_table}
-use Rattle.emit.specs.declared.Written.{Written}
+use Rattle.emit.specs.Emission.{Written}
 use Rattle.emit.specs.Emission.{refused_writing, writing_done, output_left}
 use Rattle.removal.specs.Trimmer.{removal_of, new_file, trimmed_of, trimmed_output, trimmed_table}
 use Rattle.removal.specs.Tally.{Tallied, refused_tally, by_row, file_left, tally_step}

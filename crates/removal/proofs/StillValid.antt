@@ -1,4 +1,5 @@
 -- A valid file is valid without some of its unknown nodes.
+use Rattle.std.specs.Prelude.{Option, Some, None}
 use Prim.Native.Nat.{ℕ, ◌+◌}
 use native.Mathlib.Omega.{arith}
 use mathlib.Core.Path.{◌≡◌, refl, ◌∙◌}
@@ -6,8 +7,6 @@ use mathlib.Core.Bool.{true, false}
 use mathlib.Core.List.{List}
 use lib.ListN.{length, length-append}
 use Rattle.le.specs.Le.{val}
-use Rattle.kinds.specs.declared.Parent.{Parent}
-use Rattle.kinds.specs.declared.Parent.TheVariants.{None, Kind}
 use Rattle.kinds.specs.Kinds.{bone, is_known, parents_of, parents_in, parents_table}
 use Rattle.rules.specs.Table.{lines as rules}
 use Rattle.format.specs.Forest.{Forest, count, encode, file_header, file_of}
@@ -27,9 +26,9 @@ well_kept (mkn k h p body kids next) (known, (a, b, c, d, e), bytes, good, below
 well_kept (mun true k h p c rest next) w = well_kept next w.3
 well_kept (mun false k h p c rest next) w = (w.0, w.1, w.2, well_kept next w.3)
 
-placed_kept : (parent : Parent) (m : Marked) → Placed parent (bare m) → Placed parent (kept m)
+placed_kept : (parent : Option ℕ) (m : Marked) → Placed parent (bare m) → Placed parent (kept m)
 placed_kept parent mend w = tt
-placed_kept parent (mkn k h p body kids next) w = (w.0, placed_kept (Kind k) kids w.1, placed_kept parent next w.2)
+placed_kept parent (mkn k h p body kids next) w = (w.0, placed_kept (Some k) kids w.1, placed_kept parent next w.2)
 placed_kept parent (mun true k h p c rest next) w = placed_kept parent next w.1
 placed_kept parent (mun false k h p c rest next) w = (w.0, placed_kept parent next w.1)
 

@@ -1,4 +1,5 @@
 -- The tally's file is that of the forest without its marked nodes.
+use Rattle.std.specs.Prelude.{None}
 use Prim.Native.Nat.{ℕ, suc, ◌+◌, ◌-◌}
 use native.Mathlib.Omega.{arith}
 use native.Mathlib.Nat.{sub-zero}
@@ -9,7 +10,6 @@ use lib.ListN.{length, take, drop}
 use lib.Seq.{take_at}
 use Rattle.le.specs.Le.{number_at, le}
 use Rattle.le.proofs.Laws.{val_le}
-use Rattle.kinds.specs.declared.Parent.TheVariants.{None}
 use Rattle.kinds.specs.Kinds.{root, parents_table, parents_in, parents_of, is_known, may_stand}
 use Rattle.kinds.proofs.Tops.{top_root}
 use Rattle.table.specs.declared.Row.{Row}

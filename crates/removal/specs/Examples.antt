@@ -22,7 +22,7 @@ use Rattle.links.specs.Links.{Link, reached, links_at, links_from, links_of, res
 use Rattle.walk.specs.Walk.{header_at, node_refusal, and_then, children, node, children_at, walk_of, limited}
 use Rattle.reader.specs.Reading.{judged_with, ruled, own_known, own_unknown, checked, verdict, reading_of}
 use Rattle.reader.specs.Reading.{table_after as readTable}
-use Rattle.emit.specs.declared.Written.{Written}
+use Rattle.emit.specs.Emission.{Written}
 use Rattle.emit.specs.Emission.{sizes_under, nodes_bytes, roots, file_bytes, refused_writing, writing_done}
 use Rattle.emit.specs.Emission.{output_left as emitLeft}
 use Rattle.writer.specs.Forest.{laid_out}

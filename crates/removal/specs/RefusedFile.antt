@@ -1,7 +1,7 @@
 -- Document 01's trimmer, "the reader's refusals", of any bytes that a reading refuses and whatever else is lent: the answer is the
 -- reader's, the output is untouched, and the table is as the reading leaves it.
 use Rattle.std.specs.Prelude.{ℕ, ◌≡◌, List, length}
-use Rattle.reader.specs.declared.Reading.TheVariants.{Refused}
+use Rattle.reader.specs.Reading.{Refused}
 use Rattle.reader.specs.Reading.{reading_of}
 use Rattle.reader.specs.Reading.{table_after as readTable}
 use Rattle.removal.specs.Trimmer.{trimmed_of, trimmed_output, trimmed_table}

@@ -10,12 +10,12 @@ use Rattle.format.specs.Rows.{body_of, own_bytes}
 use Rattle.base.specs.Lists.{Each}
 use Rattle.links.specs.Links.{links_of}
 use Rattle.reader.specs.declared.Account.{Account}
-use Rattle.reader.specs.declared.Reading.TheVariants.{Accepted}
+use Rattle.reader.specs.Reading.{Accepted}
 use Rattle.reader.specs.Reading.{reading_of}
 use Rattle.reader.specs.Reading.{table_after as readTable}
 use Rattle.valid.specs.Nodes.{Node, nodes_of, mesh_faces, all_faces, NodeLink, LinksAre}
 use Rattle.reader.specs.Acceptance.{IsValid, row_faces}
-use Rattle.emit.specs.declared.Written.{Written}
+use Rattle.emit.specs.Emission.{Written}
 use Rattle.removal.specs.Trimmer.{trimmed_of, trimmed_output, trimmed_table}
 use Rattle.removal.specs.Tally.{Fed, no_marks, sum_over_marked, file_left, answers, marks_after}
 use Rattle.removal.specs.Left.{ParentStays, unmarked_of, rows_left, bytes_left, InSize, InCount, NodeLinkStays, moved_node_link, LinkStays, moved_link}

@@ -9,7 +9,7 @@ use Rattle.kinds.specs.Kinds.{is_known}
 use Rattle.table.specs.declared.Row.{Row}
 use Rattle.table.specs.Table.{no_parent, blank}
 use Rattle.format.specs.Rows.{body_of}
-use Rattle.emit.specs.declared.Written.{Written}
+use Rattle.emit.specs.Emission.{Written}
 
 -- "each trimming's row number, table length and output length"
 pub record Fed : Type 0 where

@@ -6,11 +6,11 @@ use Rattle.kinds.specs.Kinds.{is_known}
 use Rattle.table.specs.declared.Row.{Row}
 use Rattle.table.specs.Table.{no_parent, blank, cleared}
 use Rattle.walk.specs.Walk.{limited, flags_of}
-use Rattle.reader.specs.declared.Reading.{Reading}
-use Rattle.reader.specs.declared.Reading.TheVariants.{Accepted, Refused}
+use Rattle.reader.specs.Reading.{Reading}
+use Rattle.reader.specs.Reading.{Accepted, Refused}
 use Rattle.reader.specs.Reading.{reading_of}
 use Rattle.reader.specs.Reading.{table_after as readTable}
-use Rattle.emit.specs.declared.Written.{Written}
+use Rattle.emit.specs.Emission.{Written}
 use Rattle.emit.specs.Emission.{file_bytes, refused_writing, writing_done, output_left}
 
 -- ---- a row taken out

@@ -1,10 +1,11 @@
 -- What a line holds to: a link to a kind, or none; and of an entry, by its number.
-use Prim.Native.Nat.{ℕ, zero, suc}
+use Prim.Native.Nat.{ℕ}
 use mathlib.Core.Path.{◌≡◌, refl, ap}
 use mathlib.Core.Bool.{Bool, true, false, false≢true}
-use Rattle.rules.specs.declared.Entry.{Entry}
+use Rattle.rules.specs.declared.Held.{Held as CodeHeld}
+use Rattle.rules.specs.declared.Held.TheVariants as H
+use Rattle.rules.specs.Packing.{held_from}
 use Rattle.rules.specs.Table.{Held, nothing, flag, one_of, vertices, weights, faces, indices, keys, bone_number, link_to}
-use Rattle.rules.specs.Packing.{strings_of, held_from, line_of}
 use Rattle.rules.specs.Rules.{if_link}
 
 -- whether it is a link
@@ -35,29 +36,15 @@ link_none h f x n = by_link (λ y. y ≡ x) h f x (λ kind e. absurd (n kind e))
 pub one_kind : {a b : ℕ} → link_to a ≡ link_to b → a ≡ b
 one_kind e = cc
 
--- for callers: what holds of each number and what it says, holds of all
-pub by_held : (set target : ℕ) (P : ℕ → Held → Type 0) → P 0 nothing → P 1 flag → P 2 (one_of (strings_of set)) → P 3 vertices → P 4 weights →
-    P 5 faces → P 6 indices → P 7 keys → P 8 bone_number → P 9 (link_to target) → ((n : ℕ) → P (suc (suc (suc (suc (suc (suc (suc (suc (suc (suc n)))))))))) nothing) →
-    (n : ℕ) → P n (held_from n set target)
-by_held set target P a b c d e f g h i j k zero = a
-by_held set target P a b c d e f g h i j k (suc zero) = b
-by_held set target P a b c d e f g h i j k (suc (suc zero)) = c
-by_held set target P a b c d e f g h i j k (suc (suc (suc zero))) = d
-by_held set target P a b c d e f g h i j k (suc (suc (suc (suc zero)))) = e
-by_held set target P a b c d e f g h i j k (suc (suc (suc (suc (suc zero))))) = f
-by_held set target P a b c d e f g h i j k (suc (suc (suc (suc (suc (suc zero)))))) = g
-by_held set target P a b c d e f g h i j k (suc (suc (suc (suc (suc (suc (suc zero))))))) = h
-by_held set target P a b c d e f g h i j k (suc (suc (suc (suc (suc (suc (suc (suc zero)))))))) = i
-by_held set target P a b c d e f g h i j k (suc (suc (suc (suc (suc (suc (suc (suc (suc zero))))))))) = j
-by_held set target P a b c d e f g h i j k (suc (suc (suc (suc (suc (suc (suc (suc (suc (suc n)))))))))) = k n
-
--- for callers: an entry that is a link, and one that is none
-module _ (e : Entry) where
-  pub is_link_lem : e.held ≡ 9 → (line_of e).held ≡ link_to e.target
-  is_link_lem h = rw h
-
-  pub no_link : {A : Type 0} (link : (kind : ℕ) → A) (other : A) → (e.held ≡ 9 → ⊥) → if_link (line_of e).held link other ≡ other
-  no_link link other =
-      by_held e.set e.target (λ n held. (n ≡ 9 → ⊥) → if_link held link other ≡ other)
-      (λ h. refl) (λ h. refl) (λ h. refl) (λ h. refl) (λ h. refl) (λ h. refl) (λ h. refl) (λ h. refl) (λ h. refl)
-      (λ h. absurd (h refl)) (λ n h. refl) e.held
+-- for callers: a line of the code that is no link
+pub no_link : {A : Type 0} (held : CodeHeld) (link : (kind : ℕ) → A) (other : A) → ((kind : ℕ) → held ≡ H.Link kind → ⊥) → if_link (held_from held) link other ≡ other
+no_link H.Nothing link other n = refl
+no_link H.Flag link other n = refl
+no_link (H.OneOf set) link other n = refl
+no_link H.Vertices link other n = refl
+no_link H.Weights link other n = refl
+no_link H.Faces link other n = refl
+no_link H.Indices link other n = refl
+no_link H.Keys link other n = refl
+no_link H.BoneNumber link other n = refl
+no_link (H.Link kind) link other n = absurd (n kind refl)

@@ -1,16 +1,18 @@
 -- The lines of a kind are found by places: they stand together.
-use Prim.Native.Nat.{ℕ, zero, suc, ◌+◌, ◌-◌, ◌≤◌}
+use Prim.Native.Nat.{ℕ, ◌+◌, ◌-◌, ◌≤◌}
 use native.Mathlib.Omega.{arith}
 use mathlib.Core.Path.{◌≡◌, refl, sym, ap, ◌∙◌}
 use mathlib.Core.Bool.{Bool, true, not, ◌&&◌, ◌||◌, and-eq-true_iff}
-use mathlib.Core.List.{List, [], ◌∷◌, map}
+use mathlib.Core.List.{List, [], ◌∷◌}
 use lib.Dec.{eqb}
 use lib.ListN.{length, take, drop, length-drop, length-map}
 use borrow.Author.Tests.{eqb-true, not-true, le-leb}
+use Rattle.std.proofs.lemmas.List.{take-map, drop-map}
 use Rattle.base.proofs.Tests.{by_test}
 use Rattle.rules.specs.declared.Span.{Span}
 use Rattle.rules.specs.Table.{Line, lines}
-use Rattle.rules.specs.Packing.{line_from, lines_from, columns_of, PackedTable}
+use Rattle.rules.specs.declared.Line.{Line as CodeLine}
+use Rattle.rules.specs.Packing.{line_of, lines_from}
 use Rattle.rules.specs.Rules.{of_kind, lines_of, before, run, span_of, rows_of}
 
 pub many : length lines ≡ 81
@@ -79,17 +81,6 @@ of_span kind =
     let taken : at + count - at ≡ count = omega arith in
     rw taken (stand kind lines all_together)
 
--- the rows that stand there in the table are those of the kind's lines
-take_map : {A B : Type 0} (f : A → B) (n : ℕ) (l : List A) → map f (take n l) ≡ take n (map f l)
-take_map f zero l = refl
-take_map f (suc n) [] = refl
-take_map f (suc n) (x ∷ xs) = ap (λ ys. f x ∷ ys) (take_map f n xs)
-
-drop_map : {A B : Type 0} (f : A → B) (n : ℕ) (l : List A) → map f (drop n l) ≡ drop n (map f l)
-drop_map f zero l = refl
-drop_map f (suc n) [] = refl
-drop_map f (suc n) (x ∷ xs) = drop_map f n xs
-
 -- the span of a kind lies in the table
 module _ (kind : ℕ) where
   before_most : (ls : List Line) → before ls kind ≤ length ls
@@ -108,25 +99,12 @@ module _ (kind : ℕ) where
       let at = before lines kind in
       omega (arith, before_most lines, run_most (drop at lines), length-drop at lines, many)
 
--- for callers: the rows of a kind's lines, and these lines, of the rows that are lent for it where those of the whole table are
-module _ (kind : ℕ) where
-  pub rows_lent : rows_of kind (map columns_of lines) ≡ map columns_of (lines_of kind)
-  unfolding rows_of
-  rows_lent =
-      let from = (span_of kind).from in
-      let n = (span_of kind).to - from in
-      rw (le-leb (span_of kind).to (length (map columns_of lines)) (omega (arith, inside kind, length-map lines columns_of, many)))
-      (ap (take n) (sym (drop_map columns_of from lines)) ∙ sym (take_map columns_of n (drop from lines)) ∙ ap (map columns_of) (sym (of_span kind)))
-
-  pub lines_lent : lines_from (rows_of kind (map columns_of lines)) ≡ lines_of kind
-  unfolding rows_of
-  lines_lent =
-      let from = (span_of kind).from in
-      let n = (span_of kind).to - from in
-      let rows = map columns_of lines in
-      let packed : lines_from rows ≡ lines = ap (drop 1) PackedTable in
-      rw (le-leb (span_of kind).to (length rows) (omega (arith, inside kind, length-map lines columns_of, many)))
-      (take_map line_from n (drop from rows) ∙ ap (take n) (drop_map line_from from rows) ∙ ap (λ ls. take n (drop from ls)) packed ∙ sym (of_span kind))
-
-  pub lines_packed : lines_from (map columns_of (lines_of kind)) ≡ lines_of kind
-  lines_packed = ap lines_from (sym rows_lent) ∙ lines_lent
+-- for callers: the lines of a kind, of the rows that are lent for it where those of the whole table are
+pub lines_lent : (kind : ℕ) (rows : List CodeLine) → lines_from rows ≡ lines → lines_from (rows_of kind rows) ≡ lines_of kind
+unfolding rows_of
+lines_lent kind rows e =
+    let from = (span_of kind).from in
+    let n = (span_of kind).to - from in
+    let long : length rows ≡ 81 = sym (length-map rows line_of) ∙ ap length e ∙ many in
+    rw (le-leb (span_of kind).to (length rows) (omega (arith, inside kind, long)))
+    (sym (take-map line_of n (drop from rows)) ∙ ap (take n) (sym (drop-map line_of from rows)) ∙ ap (λ ls. take n (drop from ls)) e ∙ sym (of_span kind))

@@ -1,5 +1,4 @@
 pub mod Table
 pub mod Packing
 pub mod Rules
-pub mod Private
 pub mod Examples

@@ -1,8 +1,6 @@
 -- The line of a kind and name, what it says of a type and a length, and the strings that are taken.
-use Rattle.std.specs.Prelude.{ℕ, suc, ◌+◌, ◌-◌, Bool, true, false, cond, not, ◌&&◌, ◌||◌, List, [], ◌∷◌, eqb, leb, length, take, drop, get_or}
+use Rattle.std.specs.Prelude.{ℕ, suc, ◌+◌, ◌-◌, Bool, true, false, cond, not, ◌&&◌, ◌||◌, List, [], ◌∷◌, eqb, leb, length, take, drop, get_or, None, Option, Some}
 use Rattle.names.specs.Names.{same, number_after}
-use Rattle.names.specs.declared.Numeral.{Numeral}
-use Rattle.names.specs.declared.Numeral.TheVariants.{Is, Not}
 use Rattle.props.specs.Types.{byte, short, int, float, v4}
 use Rattle.rules.specs.declared.Span.{Span}
 use Rattle.rules.specs.Table.{Types, only, N, key_type, any_type, Held, nothing, flag, one_of, vertices, weights, faces, indices, keys, bone_number, link_to, Line, lines, free}
@@ -23,9 +21,9 @@ takes any_type code = true
 abbrev pub misfits : Line → (code elements : ℕ) → Bool
 misfits l code elements = not (takes l.types code) || (not l.array && not (eqb elements 1))
 
-abbrev pub is_number : Numeral → Bool
-is_number (Is n) = true
-is_number Not = false
+abbrev pub is_number : Option ℕ → Bool
+is_number (Some n) = true
+is_number None = false
 
 -- the line has the name: as it stands, or "`%d`" after it
 unfoldable pub lists : Line → (name : List ℕ) → Bool
@@ -67,7 +65,7 @@ unfoldable pub span_of : ℕ → Span
 span_of kind = record { from = before lines kind; to = before lines kind + run (drop (before lines kind) lines) kind }
 
 -- of any rows, those at these places; none where they do not all lie among the rows
-unfoldable pub rows_of : (kind : ℕ) → List (List ℕ) → List (List ℕ)
+unfoldable pub rows_of : {A : Type 0} → (kind : ℕ) → List A → List A
 rows_of kind rows = cond (leb (span_of kind).to (length rows)) (take ((span_of kind).to - (span_of kind).from) (drop (span_of kind).from rows)) []
 
 -- ---- strings

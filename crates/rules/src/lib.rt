@@ -1,187 +1,127 @@
 // The rules of properties: one constant table, a line for each kind and name.
 #![tactic(auto)]
 
-ghost use Rattle.std.specs.Prelude.{◌≡◌, ◌+◌, ◌≤◌, map, length, get_or};
-ghost use Rattle.names.specs.Names.{same, number_after};
+ghost use Rattle.std.specs.Prelude.{◌≡◌, ◌≤◌, ◌<◌, map, length, get_or};
+ghost use Rattle.std.specs.List.{list_any, position};
 ghost use Rattle.rules.specs.Table.{lines, free};
-ghost use Rattle.rules.specs.Packing.{letters_of, strings_of, types_from, line_of, entry_from, lines_from, columns_of};
-ghost use Rattle.rules.specs.Rules.{takes, misfits, is_number, lists, find_in, lines_of, required_in, span_of, rows_of, is_text, is_one_of};
-ghost use Rattle.rules.specs.Private.{string_from, Passes};
+ghost use Rattle.rules.specs.Packing.{strings_of, types_from, line_of, lines_from};
+ghost use Rattle.rules.specs.Rules.{is_n, takes, misfits, lists, find_in, lines_of, required_in, span_of, rows_of, is_text, is_one_of};
 
-pub mod columns;
 mod lines;
+pub mod places;
 
-// A line as the table has it: the numbers of its columns.
-pub type Columns = [u32; 12];
+// The types of a property.
+#[derive(Clone, Copy, Debug, PartialEq, Eq)]
+pub enum Types {
+    Only(u16), // one, by its code
+    N, // b h i
+    Key, // b h i f v4
+    Any, // of a name that is not listed
+}
 
-// A line in numbers: its name's size and letters, four to a number, and what `held` and `lines` say of the others.
-#[derive(Clone, Copy)]
-pub struct Entry {
+// The sets of strings.
+#[derive(Clone, Copy, Debug, PartialEq, Eq)]
+pub enum Set {
+    Skinning,
+    Constraints,
+    KeyProperties,
+    Modes,
+    Axes,
+}
+
+// What else a property is held to.
+#[derive(Clone, Copy, Debug, PartialEq, Eq)]
+pub enum Held {
+    Nothing,
+    Flag, // 0 or 1
+    OneOf(Set), // one of a set of strings
+    Vertices, // length V
+    Weights, // length mi times V
+    Faces, // three values a face, each below V
+    Indices, // length of vi
+    Keys, // length of kb, and the type that kp wants
+    BoneNumber, // -1, or the number of a Bone
+    Link(u32), // a link to a kind
+}
+
+// A line of the table. Where it is numbered, its name is what comes before the number, `%d`.
+#[derive(Clone, Copy, Debug)]
+pub struct Line {
     pub kind: u32,
-    pub size: u32,
-    pub first: u32,
-    pub second: u32,
-    pub third: u32,
-    pub numbered: u32,
-    pub types: u32,
-    pub array: u32,
-    pub required: u32,
-    pub held: u32,
-    pub set: u32,
-    pub target: u32,
+    pub name: &'static [u8],
+    pub numbered: bool,
+    pub types: Types,
+    pub array: bool,
+    pub required: bool,
+    pub held: Held,
 }
 
-// An entry from its row of the table.
-fn entry_from(row: Columns) -> Entry
-    ensures { result ≡ entry_from row }
+// Whether a type is one of b h i.
+fn is_n(code: u16) -> bool
+    ensures { result ≡ is_n code }
 {
-    Entry {
-        kind: row[0],
-        size: row[1],
-        first: row[2],
-        second: row[3],
-        third: row[4],
-        numbered: row[5],
-        types: row[6],
-        array: row[7],
-        required: row[8],
-        held: row[9],
-        set: row[10],
-        target: row[11],
-    }
+    (code == props::BYTE) | (code == props::SHORT) | (code == props::INT)
 }
 
-// Some letters, and zeros after them.
-#[derive(Clone, Copy)]
-pub struct Letters {
-    pub size: usize,
-    pub bytes: [u8; 12],
-}
-
-fn unpack(size: u32, first: u32, second: u32, third: u32) -> Letters
-    ensures { result ≡ letters_of size first second third }
-{
-    let mut bytes = [0u8; 12];
-    le::put_u32(&mut bytes, 0, first);
-    le::put_u32(&mut bytes, 4, second);
-    le::put_u32(&mut bytes, 8, third);
-    if 12 < size {
-        return Letters { size: 12, bytes };
-    }
-    Letters {
-        size: size as usize,
-        bytes,
-    }
-}
-
-// The name of a line; of a numbered one, what comes before the number.
-pub fn name_of(e: Entry) -> Letters
-    ensures { result ≡ letters_of e.size e.first e.second e.third }
-{
-    unpack(e.size, e.first, e.second, e.third)
-}
-
-// Whether the types of a line have a type. Most lines have one type, by its code, which is above the numbers of the groups.
-pub fn takes(types: u32, code: u16) -> bool
+// Whether the types of a line have a type.
+pub fn takes(types: Types, code: u16) -> bool
     ensures { result ≡ takes (types_from types) code }
 {
-    if columns::ANY_TYPE < types {
-        return types == code as u32;
-    }
-    let n = (code == props::BYTE) | (code == props::SHORT) | (code == props::INT);
     match types {
-        columns::N => n,
-        columns::KEY_TYPE => n | (code == props::FLOAT) | (code == props::V4),
-        columns::ANY_TYPE => true,
-        _ => types == code as u32,
+        Types::Only(only) => code == only,
+        Types::N => is_n(code),
+        Types::Key => is_n(code) | (code == props::FLOAT) | (code == props::V4),
+        Types::Any => true,
     }
 }
 
 // Whether a listed name has another type or length.
-pub fn misfits(e: Entry, code: u16, elements: u32) -> bool
-    ensures { result ≡ misfits (line_of e) code elements }
+pub fn misfits(line: Line, code: u16, elements: u32) -> bool
+    ensures { result ≡ misfits (line_of line) code elements }
 {
-    !takes(e.types, code) | ((e.array == columns::SINGLE) & (elements != 1))
+    !takes(line.types, code) | (!line.array & (elements != 1))
 }
 
-// Whether a name is the line's as it stands.
-fn is_plain(e: Entry, name: &[u8]) -> bool
-    ensures { result ≡ same name.now (line_of e).name }
+// Whether a line has a name that starts with this letter, or with zero where it is empty. Most lines of a kind differ in the first
+// letter, so that nothing else of them is read.
+#[tactic(auto, unfolding(crate::specs::Rules::lists))]
+fn has_name(line: &Line, name: &[u8], letter: u8) -> bool
+    requires { letter ≡ get_or name.now 0 0 }
+    ensures { result ≡ lists (line_of line.now) name.now }
 {
-    let letters = name_of(e);
-    let size = letters.size;
-    let bytes = letters.bytes;
-    names::same(name, &bytes[..size])
-}
-
-// Whether a name is the line's with a number after it.
-fn is_numbered(e: Entry, name: &[u8]) -> bool
-    ensures { result ≡ is_number (number_after name.now (line_of e).name) }
-{
-    let letters = name_of(e);
-    let size = letters.size;
-    let bytes = letters.bytes;
-    match names::number_after(name, &bytes[..size]) {
-        names::Numeral::Is(_) => true,
-        names::Numeral::Not => false,
+    let own = line.name;
+    if !own.is_empty() && own[0] != letter {
+        return false;
+    }
+    if line.numbered {
+        names::number_after(name, own).is_some()
+    } else {
+        names::same(name, own)
     }
 }
 
-// Whether a line has a name.
-fn has_name(e: Entry, name: &[u8]) -> bool
-    ensures { result ≡ lists (line_of e) name.now }
+// The place of the first of some lines that has a name.
+fn position(lines: &[Line], name: &[u8]) -> Option<usize>
+    ensures { result ≡ position (λ l. lists (line_of l) name.now) lines.now }
 {
-    if e.numbered == columns::NUMBERED {
-        return is_numbered(e, name);
-    }
-    is_plain(e, name)
+    let letter = name.first().copied().unwrap_or(0);
+    lines.iter().position(|line| has_name(line, name, letter))
 }
 
-// The first of some lines, from a place on, that may have a name with this first letter; their number where none may. Most
-// lines differ in it, so that they are passed by a loop that reads little else.
-fn next_with(lines: &[Columns], from: usize, letter: u32) -> usize
-    requires { from ≤ length lines.now }
-    ensures within { (from ≤ result) × (result ≤ length lines.now) }
-    ensures passes { Passes (lines_from lines.now) letter from result }
-{
-    let mut i = from;
-    while i < lines.len() {
-        let row = lines[i];
-        let e = entry_from(row);
-        if (e.size == 0) | (e.first % 256 == letter) {
-            return i;
-        }
-        i += 1;
-    }
-    i
-}
-
-// The place of the first of some lines that has a name; their number where none has.
-pub fn line_named(lines: &[Columns], name: &[u8]) -> usize
+// The same place; their number where none has the name.
+pub fn line_named(lines: &[Line], name: &[u8]) -> usize
     ensures { result ≡ find_in (lines_from lines.now) name.now }
 {
-    let letter = le::number_at(name, 0, 1);
-    let mut i = next_with(lines, 0, letter);
-    while i < lines.len() {
-        let row = lines[i];
-        if has_name(entry_from(row), name) {
-            return i;
-        }
-        i = next_with(lines, i + 1, letter);
-    }
-    i
+    position(lines, name).unwrap_or(lines.len())
 }
 
 // The line at a place among some; past their end, that of the names that are not listed.
-pub fn line_in(lines: &[Columns], i: usize) -> Entry
-    ensures entry { result ≡ entry_from (get_or lines.now i (columns_of free)) }
+#[tactic(auto, unfolding(base::specs::Letters::letters))]
+pub fn line_in(lines: &[Line], i: usize) -> Line
     ensures line { line_of result ≡ get_or (lines_from lines.now) i free }
+    ensures entry { i < length lines.now → result ≡ get_or lines.now i result }
 {
-    if i < lines.len() {
-        let row = lines[i];
-        return entry_from(row);
-    }
-    entry_from(lines::FREE)
+    lines.get(i).copied().unwrap_or(lines::FREE)
 }
 
 // Lines of the table, from one place up to another.
@@ -192,6 +132,7 @@ struct Span {
 }
 
 // Where the lines of a kind stand.
+#[tactic(auto, using(crate::proofs::Spans::nowhere), unfolding(crate::specs::Table::lines, crate::specs::Rules::before, crate::specs::Rules::run, crate::specs::Rules::span_of))]
 fn span_of(kind: u32) -> Span
     ensures { (result ≡ span_of kind) × (result.from ≤ result.to) × (result.to ≤ 81) }
 {
@@ -214,27 +155,24 @@ fn span_of(kind: u32) -> Span
     }
 }
 
-// All lines, which a reading writes out once and lends: each read of the constant at a place that is not known copies it.
-pub fn table() -> [Columns; 81]
-    ensures { result ≡ map columns_of lines }
+// All lines, which a reading lends: a read of the constant itself at a place that is not known would write it out first.
+pub fn table() -> &'static [Line]
+    ensures { lines_from result.now ≡ lines }
 {
-    lines::LINES
+    &lines::LINES
 }
 
 // The lines of a kind among all; of other rows, those at the same places, where there are as many.
-pub fn lines_of(rows: &[Columns], kind: u32) -> &[Columns]
+#[tactic(auto, unfolding(crate::specs::Rules::rows_of))]
+pub fn lines_of(rows: &[Line], kind: u32) -> &[Line]
     ensures { result.now ≡ rows_of kind rows.now }
 {
     let span = span_of(kind);
-    let from = span.from;
-    let to = span.to;
-    if rows.len() < to {
-        return &rows[0..0];
-    }
-    &rows[from..to]
+    rows.get(span.from..span.to).unwrap_or(&[])
 }
 
 // How many of the lines of a kind are required.
+#[tactic(auto, using(crate::proofs::Required::none_required), unfolding(crate::specs::Table::lines, crate::specs::Rules::of_kind, crate::specs::Rules::lines_of, crate::specs::Rules::required_in))]
 pub fn required_of(kind: u32) -> usize
     ensures { result ≡ required_in (lines_of kind) }
 {
@@ -256,6 +194,7 @@ pub fn required_of(kind: u32) -> usize
 }
 
 // Whether a string stands at the start of some bytes: its letters, and then a zero.
+#[tactic(auto, unfolding(crate::specs::Rules::is_text))]
 pub fn is_text(bytes: &[u8], string: &[u8]) -> bool
     ensures { result ≡ is_text bytes.now string.now }
 {
@@ -266,41 +205,30 @@ pub fn is_text(bytes: &[u8], string: &[u8]) -> bool
     names::same(&bytes[..n], string) & (bytes[n] == 0)
 }
 
-// Whether a string of a row stands there.
-fn stands(row: [u32; 4], bytes: &[u8]) -> bool
-    ensures { result ≡ is_text bytes.now (string_from row) }
+// The strings of a set.
+#[tactic(auto, unfolding(base::specs::Letters::letters))]
+fn strings_of(set: Set) -> &'static [&'static [u8]]
+    ensures { map (λ s. s.now) result.now ≡ strings_of set }
 {
-    let letters = unpack(row[0], row[1], row[2], row[3]);
-    let size = letters.size;
-    let string = letters.bytes;
-    is_text(bytes, &string[..size])
+    match set {
+        Set::Skinning => &lines::SKINNING,
+        Set::Constraints => &lines::CONSTRAINTS,
+        Set::KeyProperties => &lines::KEY_PROPERTIES,
+        Set::Modes => &lines::MODES,
+        Set::Axes => &lines::AXES,
+    }
 }
 
 // Whether one of some strings stands there.
-fn some_stands(strings: &[[u32; 4]], bytes: &[u8]) -> bool
-    ensures { result ≡ is_one_of (map string_from strings.now) bytes.now }
+fn some_stands(strings: &[&[u8]], bytes: &[u8]) -> bool
+    ensures { result ≡ list_any (λ s. is_text bytes.now s.now) strings.now }
 {
-    let mut i: usize = 0;
-    while i < strings.len() {
-        let row = strings[i];
-        if stands(row, bytes) {
-            return true;
-        }
-        i += 1;
-    }
-    false
+    strings.iter().any(|string| is_text(bytes, string))
 }
 
 // Whether the string at the start of some bytes is of a set.
-pub fn one_of(set: u32, bytes: &[u8]) -> bool
+pub fn one_of(set: Set, bytes: &[u8]) -> bool
     ensures { result ≡ is_one_of (strings_of set) bytes.now }
 {
-    match set {
-        columns::SKINNING => some_stands(&lines::SKINNING, bytes),
-        columns::CONSTRAINTS => some_stands(&lines::CONSTRAINTS, bytes),
-        columns::KEY_PROPERTIES => some_stands(&lines::KEY_PROPERTIES, bytes),
-        columns::MODES => some_stands(&lines::MODES, bytes),
-        columns::AXES => some_stands(&lines::AXES, bytes),
-        _ => false,
-    }
+    some_stands(strings_of(set), bytes)
 }

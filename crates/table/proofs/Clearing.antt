@@ -5,10 +5,9 @@ use native.Mathlib.Nat.{zero-add, sub-zero, zero-sub, suc-sub-suc}
 use mathlib.Core.Path.{◌≡◌, ap, sym, ◌∙◌}
 use mathlib.Core.Bool.{true, false}
 use mathlib.Core.List.{List, [], ◌++◌, append_assoc}
-use lib.ListN.{length, get_or, set, drop, replicate, length-append, length-replicate, length-drop, get_or-replicate, get_or-append, get_or-eq_default}
+use lib.ListN.{length, get_or, take, drop, replicate, length-append, length-replicate, length-drop, get_or-replicate, get_or-append, get_or-eq_default}
 use lib.Dec.{ltb}
-use lib.Seq.{sets, sets-eq, drop_at, drop-append-le}
-use borrow.Author.Fill.{fill_none, fill_more}
+use lib.Seq.{sets, sets-eq, length-take-le, drop_at, drop-append-le}
 use borrow.Author.Tests.{leb-true, ltb-true, ltb-false, le-leb}
 use Rattle.table.specs.declared.Row.{Row}
 use Rattle.table.specs.Table.{has_row, row_at, put_rows, flat, blank, has_room, zeroed, cleared, filled}
@@ -16,13 +15,10 @@ use Rattle.base.proofs.Tests.{by_test}
 use Rattle.base.proofs.Stores.{drop_sets}
 use Rattle.table.proofs.Rows.{has_row_length, row_from_same, put_rows_sets, length_put_rows, length_flat, row_at_put_rows, row_at_put_rows_after, fits_has_row}
 
-pub zeroed_none : (t : List ℕ) → t ≡ zeroed 0 t
+-- n zeros filled in at the start
+pub zeroed_filled : (n : ℕ) (t : List ℕ) {part : List ℕ} → n ≤ length t → part ≡ replicate (length (take n t)) 0 → part ++ drop n t ≡ zeroed n t
 unfolding zeroed
-zeroed_none t = fill_none t 0
-
-pub zeroed_more : (n : ℕ) (t : List ℕ) {z : List ℕ} → n < length t → z ≡ zeroed n t → set z n 0 ≡ zeroed (n + 1) t
-unfolding zeroed
-zeroed_more n t h e = rw e (fill_more n 0 t h)
+zeroed_filled n t h e = rw (e, length-take-le n t h)
 
 pub length_zeroed : (n : ℕ) (t : List ℕ) → n ≤ length t → length (zeroed n t) ≡ length t
 unfolding zeroed
@@ -71,11 +67,11 @@ module _ (t : List ℕ) where
   pub has_room_has_row : (j : ℕ) → has_room t ≡ true → j < 1024 → has_row t j ≡ true
   has_room_has_row j h b = fits_has_row t j (omega (arith, has_room_fits h))
 
-  cleared_in : has_room t ≡ true → cleared t ≡ zeroed 8192 t
+  pub cleared_in : has_room t ≡ true → cleared t ≡ zeroed 8192 t
   unfolding cleared
   cleared_in h = rw h
 
-  cleared_out : has_room t ≡ false → cleared t ≡ t
+  pub cleared_out : has_room t ≡ false → cleared t ≡ t
   unfolding cleared
   cleared_out h = rw h
 

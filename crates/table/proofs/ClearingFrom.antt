@@ -3,26 +3,17 @@ use Prim.Native.Nat.{ℕ, ◌+◌, ◌-◌, ◌*◌, ◌≤◌}
 use native.Mathlib.Omega.{arith}
 use mathlib.Core.Path.{◌≡◌, ap, sym, ◌∙◌}
 use mathlib.Core.Bool.{Bool, true, false, ◌&&◌, and-eq-true_iff}
-use mathlib.Core.List.{List, [], ◌++◌, append_assoc, append-nil}
-use lib.ListN.{length, take, drop, replicate, length-drop, drop_of_length-le}
+use mathlib.Core.List.{List, append_assoc}
+use lib.ListN.{length, take, drop, replicate, length-drop}
 use lib.Dec.{leb}
-use lib.Seq.{sets-eq, take_all, take_at, drop-drop}
+use lib.Seq.{sets-eq, length-take-le, take_at, drop-drop}
 use borrow.Rule.Slice.PartMut.{put_mid}
 use borrow.Author.Tests.{leb-true, le-leb}
 use Rattle.table.specs.declared.Row.{Row}
-use Rattle.table.specs.Table.{put_rows, flat, has_room, zeroed, cleared_from, filled}
+use Rattle.table.specs.Table.{put_rows, flat, has_room, cleared_from, filled}
 use Rattle.base.proofs.Stores.{drop_sets}
 use Rattle.table.proofs.Rows.{put_rows_sets, length_put_rows, length_flat}
 use Rattle.table.proofs.Clearing.{has_room_fits, has_room_length}
-
--- n zeros stored into the part from a place on
-pub zeroed_part : (a n : ℕ) (t : List ℕ) {part : List ℕ} → part ≡ zeroed n (take (length t - a) (drop a t))
-    → put_mid a (length t - a) t part ≡ take a t ++ replicate n 0 ++ drop (a + n) t
-unfolding zeroed
-zeroed_part a n t e =
-    let all : take (length t - a) (drop a t) ≡ drop a t = take_all (length t - a) (drop a t) (simp length-drop (omega arith)) in
-    let none : drop (length t - a) (drop a t) ≡ [] = drop_of_length-le (drop a t) {i = length t - a} (simp length-drop (omega arith)) in
-    rw (e, all, none, append-nil, drop-drop n a t) (sym (append_assoc (take a t) (replicate n 0) (drop (a + n) t)))
 
 -- both sides of the definition's test
 module _ (k : ℕ) (t : List ℕ) {room : Bool} (e : room ≡ has_room t) where
@@ -31,12 +22,15 @@ module _ (k : ℕ) (t : List ℕ) {room : Bool} (e : room ≡ has_room t) where
       let both = (and-eq-true_iff (leb k 1024) room).0 b in
       (leb-true k 1024 both.0, has_room_fits t (sym e ∙ both.1))
 
-  pub cleared_from_in : (leb k 1024 && room) ≡ true → {part : List ℕ} → part ≡ zeroed (8192 - k * 8) (take (length t - k * 8) (drop (k * 8) t))
-      → put_mid (k * 8) (length t - k * 8) t part ≡ cleared_from k t
+  -- zeros filled into the part
+  pub cleared_from_in : (leb k 1024 && room) ≡ true → {part : List ℕ} → part ≡ replicate (length (take (8192 - k * 8) (drop (k * 8) t))) 0
+      → put_mid (k * 8) (8192 - k * 8) t part ≡ cleared_from k t
   unfolding cleared_from
   cleared_from_in b p =
       let to : k * 8 + (8192 - k * 8) ≡ 8192 = omega (arith, (clears b).0) in
-      zeroed_part (k * 8) (8192 - k * 8) t p ∙ rw (← e, b, to)
+      let all : length (take (8192 - k * 8) (drop (k * 8) t)) ≡ 8192 - k * 8
+      = length-take-le (8192 - k * 8) (drop (k * 8) t) (omega (arith, clears b, length-drop (k * 8) t)) in
+      rw (p, all, drop-drop (8192 - k * 8) (k * 8) t, to, ← e, b) (sym (append_assoc (take (k * 8) t) (replicate (8192 - k * 8) 0) (drop 8192 t)))
 
   pub cleared_from_out : (leb k 1024 && room) ≡ false → t ≡ cleared_from k t
   unfolding cleared_from

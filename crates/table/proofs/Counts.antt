@@ -1,24 +1,23 @@
 -- Laws of the rows under a parent, and their count in a loop over a table's rows.
+use Rattle.std.specs.Prelude.{Option}
 use Prim.Native.Nat.{ℕ, zero, suc, ◌+◌, ◌≤◌, ◌<◌}
 use native.Mathlib.Nat.{zero-add, add-zero}
 use native.Mathlib.Omega.{arith}
 use mathlib.Core.Path.{◌≡◌, refl, ap, sym, ◌∙◌}
-use mathlib.Core.Bool.{true, false, ◌&&◌, true≢false}
-use mathlib.Core.List.{List, [], ◌∷◌, ◌++◌, append-nil}
+use mathlib.Core.Bool.{true, false, ◌&&◌, and-eq-true_iff}
+use mathlib.Core.List.{List, [], ◌∷◌, ◌++◌}
 use lib.Dec.{eqb, ltb}
-use lib.ListN.{length, get_or, drop, set, replicate, length-replicate, length-set, drop_of_length-le}
+use lib.ListN.{length, get_or, set, length-set}
 use lib.Seq.{get_or-set_same, get_or-set_other, ext_get_or}
 use borrow.Author.Tests.{eq-eqb, ne_eqb, eqb-true, eqb-false, ltb-true, ltb-false}
 use Rattle.base.specs.Lists.{Each}
 use Rattle.base.proofs.Tests.{by_test}
-use Rattle.base.proofs.Stores.{zeros}
 use Rattle.table.specs.declared.Row.{Row}
-use Rattle.table.specs.declared.Which.{Which}
-use Rattle.table.specs.Table.{row_at, rows_at, zeroed}
+use Rattle.table.specs.Table.{row_at, rows_at}
 use Rattle.table.specs.Counts.{is_counted, count_under, counts_from, counts_under}
-use Rattle.table.proofs.Rests.{rest, rest_all, rest_more, rest_none}
+use Rattle.table.proofs.Rests.{rest, rest_more, rest_none}
 
-module _ (which : Which) where
+module _ (which : Option ℕ) where
   -- a row under another parent
   pub counted_other : (r : Row) (rs : List Row) (p : ℕ) → (r.parent ≡ p → ⊥) → count_under which (r ∷ rs) p ≡ count_under which rs p
   unfolding count_under
@@ -65,57 +64,40 @@ module _ (which : Which) where
   counts_tell rows n e p h = ap (λ l. get_or l p 0) e ∙ counts_place rows 0 n p h ∙ ap (count_under which rows) (zero-add p)
 
 -- a row that is counted, and whose parent has a place
-pub both : (which : Which) (size : ℕ) (r : Row) → (is_counted which r && ltb r.parent size) ≡ true → (is_counted which r ≡ true) × (r.parent < size)
-both which size r h =
-    by_test (is_counted which r)
-    (λ q. (q, ltb-true r.parent size (rw q at h)))
-    (λ q. absurd (true≢false (sym (rw q at h))))
+pub both : (which : Option ℕ) (size : ℕ) (r : Row) → (is_counted which r && ltb r.parent size) ≡ true → (is_counted which r ≡ true) × (r.parent < size)
+both which size r h = let b = (and-eq-true_iff (is_counted which r) (ltb r.parent size)).0 h in (b.0, ltb-true r.parent size b.1)
 
-module _ (which : Which) (size : ℕ) (t : List ℕ) (n : ℕ) where
+module _ (which : Option ℕ) (t : List ℕ) (n : ℕ) where
   -- counts that, with those of the rest, are those of all
   abbrev pub Counting : (counts : List ℕ) (i : ℕ) → Type 0
   Counting counts i =
-      (length counts ≡ size) × ((p : ℕ) → p < size → get_or counts p 0 + count_under which (rest t n i) p ≡ count_under which (rows_at t 0 n) p)
-
-  pub counting_begun : (old : List ℕ) → length old ≡ size → {counts : List ℕ} → counts ≡ zeroed size old → Counting counts 0
-  unfolding zeroed
-  counting_begun old long {counts} e =
-      let none : drop size old ≡ [] = drop_of_length-le old {i = size} (omega (arith, long)) in
-      let all : counts ≡ replicate size 0 = e ∙ ap (λ l. replicate size 0 ++ l) none ∙ append-nil (replicate size 0) in
-      (ap length all ∙ length-replicate {A = ℕ} size 0, λ p b. rw (all, zeros size p, rest_all t n) (omega arith))
+      (p : ℕ) → p < length counts → get_or counts p 0 + count_under which (rest t n i) p ≡ count_under which (rows_at t 0 n) p
 
   module _ (counts : List ℕ) (i : ℕ) where
     module _ (h : i < n) {r : Row} (e : r ≡ row_at t i) (c : Counting counts i) where
-      pub counting_one : is_counted which r ≡ true → r.parent < size → (x : ℕ) → x ≡ get_or counts r.parent 0 + 1
+      pub counting_one : is_counted which r ≡ true → r.parent < length counts → (x : ℕ) → x ≡ get_or counts r.parent 0 + 1
           → Counting (set counts r.parent x) (i + 1)
       unfolding count_under
-      counting_one k b x f = (
-        length-set counts r.parent x ∙ c.0,
-        λ p s.
-            let now = rw (rest_more t n i h, ← e, k) at (c.1 p s) in
-            by_test
-            (eqb r.parent p)
-            (λ q. rw (← eqb-true r.parent p q, get_or-set_same counts r.parent x 0 (omega (arith, b, c.0)), f)
-            (omega (arith, rw (← eqb-true r.parent p q, eq-eqb r.parent r.parent refl) at now)))
-            (λ q. rw (get_or-set_other counts r.parent p x 0 (λ g. eqb-false r.parent p q (sym g))) (rw q at now)),
-      )
+      counting_one k b x f = λ p s.
+          let now = rw (rest_more t n i h, ← e, k) at (c p (rw length-set at s)) in
+          by_test
+          (eqb r.parent p)
+          (λ q. rw (← eqb-true r.parent p q, get_or-set_same counts r.parent x 0 b, f)
+          (omega (arith, rw (← eqb-true r.parent p q, eq-eqb r.parent r.parent refl) at now)))
+          (λ q. rw (get_or-set_other counts r.parent p x 0 (λ g. eqb-false r.parent p q (sym g))) (rw q at now))
 
       -- a row that is not counted, or whose parent has no place
-      pub counting_other : (is_counted which r && ltb r.parent size) ≡ false → Counting counts (i + 1)
+      pub counting_other : (is_counted which r && ltb r.parent (length counts)) ≡ false → Counting counts (i + 1)
       unfolding count_under
-      counting_other k = (
-        c.0,
-        λ p s.
-            let now = rw (rest_more t n i h, ← e) at (c.1 p s) in
-            by_test (is_counted which r)
-            (λ q. rw (q, ne_eqb r.parent p (λ g. omega (arith, ltb-false r.parent size (rw q at k)))) at now)
-            (λ q. rw q at now),
-      )
+      counting_other k = λ p s.
+          let now = rw (rest_more t n i h, ← e) at (c p s) in
+          by_test (is_counted which r)
+          (λ q. rw (q, ne_eqb r.parent p (λ g. omega (arith, ltb-false r.parent (length counts) (rw q at k)))) at now)
+          (λ q. rw q at now)
 
-    pub counting_ended : n ≤ i → Counting counts i → counts ≡ counts_under which (rows_at t 0 n) size
+    pub counting_ended : n ≤ i → Counting counts i → counts ≡ counts_under which (rows_at t 0 n) (length counts)
     unfolding count_under
     counting_ended h c =
-        ext_get_or 0 counts (counts_under which (rows_at t 0 n) size) (c.0 ∙ sym (counts_length which (rows_at t 0 n) 0 size))
-        (λ p b.
-        let s : p < size = omega (arith, b, c.0) in
-        sym (add-zero (get_or counts p 0)) ∙ rw (rest_none t n i h) at (c.1 p s) ∙ sym (counts_tell which (rows_at t 0 n) size refl p s))
+        let size = length counts in
+        ext_get_or 0 counts (counts_under which (rows_at t 0 n) size) (sym (counts_length which (rows_at t 0 n) 0 size))
+        (λ p b. sym (add-zero (get_or counts p 0)) ∙ rw (rest_none t n i h) at (c p b) ∙ sym (counts_tell which (rows_at t 0 n) size refl p b))

@@ -5,10 +5,12 @@ use native.Mathlib.Nat.{zero-add, add-zero}
 use mathlib.Core.Path.{◌≡◌, refl, ap, sym, ◌∙◌}
 use mathlib.Core.Bool.{true, false}
 use mathlib.Core.List.{List, [], ◌∷◌, ◌++◌}
-use lib.ListN.{length, get_or}
+use lib.ListN.{length, get_or, take, drop}
 use lib.Dec.{ltb}
-use lib.Seq.{sets, length-sets}
-use borrow.Author.Tests.{le-leb, lt-leb, leb-true, ltb-true, ltb-false}
+use lib.Seq.{sets, length-sets, drop-drop}
+use borrow.Author.Tests.{le-leb, lt-leb, le-ltb, leb-true, ltb-true, ltb-false}
+use Rattle.std.proofs.lemmas.List.{get_or-take, get_or-drop}
+use Rattle.std.specs.Simd.{first_chunks}
 use Rattle.table.specs.declared.Row.{Row}
 use Rattle.table.specs.Table.{has_row, row_at, row_from, with_row, put_rows, flat, fields, blank}
 use Rattle.base.proofs.Tests.{by_test}
@@ -35,18 +37,37 @@ pub has_row_length : (s t : List ℕ) (k : ℕ) → length s ≡ length t → ha
 unfolding has_row
 has_row_length s t k e = rw e
 
+-- a row by the chunks of eight numbers
+chunk_place : (n i : ℕ) (t : List ℕ) → i < n → get_or (first_chunks 8 n t) i [] ≡ take 8 (drop (i * 8) t)
+chunk_place zero i t h = absurd (omega arith)
+chunk_place (suc n) zero t h = refl
+chunk_place (suc n) (suc i) t h =
+    chunk_place n i (drop 8 t) (omega arith) ∙ ap (take 8) (drop-drop (i * 8) 8 t ∙ ap (λ k. drop k t) (omega arith))
+
 -- rows are the same where their eight numbers are
 pub row_from_same : (s t : List ℕ) (a b : ℕ) → ((i : ℕ) → i < 8 → get_or s (a + i) 0 ≡ get_or t (b + i) 0) → row_from s a ≡ row_from t b
 row_from_same s t a b f =
     let kind : get_or s a 0 ≡ get_or t b 0 = simp add-zero at (f 0 (omega arith)) in
     rw (kind, f 1 (omega arith), f 2 (omega arith), f 3 (omega arith), f 4 (omega arith), f 5 (omega arith), f 6 (omega arith), f 7 (omega arith))
 
+module _ (t : List ℕ) (k : ℕ) where
+  pub row_at_chunk : {chunk : List ℕ} → k < length t / 8 → chunk ≡ get_or (first_chunks 8 (length t / 8) t) k [] → row_from chunk 0 ≡ row_at t k
+  unfolding row_at
+  row_at_chunk h e =
+      rw (fits_has_row t k (omega arith), e, chunk_place (length t / 8) k t h)
+      (row_from_same (take 8 (drop (k * 8) t)) t 0 (k * 8) λ i b.
+      rw zero-add (get_or-take 8 (drop (k * 8) t) i 0 b ∙ get_or-drop (k * 8) t i 0))
+
+  pub row_at_none : length t / 8 ≤ k → blank ≡ row_at t k
+  unfolding row_at
+  row_at_none h = rw (← has_row_rows t k, le-ltb _ _ h)
+
 module _ (t : List ℕ) (k : ℕ) (r : Row) where
-  with_row_in : has_row t k ≡ true → with_row t k r ≡ sets t (k * 8) (fields r)
+  pub with_row_in : has_row t k ≡ true → with_row t k r ≡ sets t (k * 8) (fields r)
   unfolding with_row
   with_row_in h = rw h
 
-  with_row_out : has_row t k ≡ false → with_row t k r ≡ t
+  pub with_row_out : has_row t k ≡ false → with_row t k r ≡ t
   unfolding with_row
   with_row_out h = rw h
 

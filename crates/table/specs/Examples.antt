@@ -1,7 +1,6 @@
 -- Rows of small tables, computed.
-use Rattle.std.specs.Prelude.{ℕ, ◌≡◌, refl, true, false, List, [], ◌∷◌, get_or, replicate}
+use Rattle.std.specs.Prelude.{ℕ, ◌≡◌, refl, true, false, List, [], ◌∷◌, get_or, replicate, None, Some}
 use Rattle.table.specs.declared.Row.{Row}
-use Rattle.table.specs.declared.Which.TheVariants.{All, OfKind}
 use Rattle.table.specs.Table.{no_parent, has_row, row_at, with_row, put_rows, has_room, zeroed, cleared, cleared_from, flat, filled}
 use Rattle.table.specs.Counts.{count_under, counts_from, counts_under}
 
@@ -88,11 +87,11 @@ under kind parent = record { kind = kind; low = 0; high = 0; parent = parent; st
 abbrev family : List Row
 family = under 7 no_parent ∷ under 7 0 ∷ under 8 0 ∷ under 7 0 ∷ under 7 1 ∷ []
 
-some_counted : (count_under All family 0 ≡ 3) × (count_under (OfKind 7) family 0 ≡ 2) × (count_under (OfKind 8) family 1 ≡ 0) × (count_under All family no_parent ≡ 1)
+some_counted : (count_under None family 0 ≡ 3) × (count_under (Some 7) family 0 ≡ 2) × (count_under (Some 8) family 1 ≡ 0) × (count_under None family no_parent ≡ 1)
 unfolding count_under
 some_counted = (refl, refl, refl, refl)
 
 -- a place for each of three rows
-some_counts : counts_under All family 3 ≡ 3 ∷ 1 ∷ 0 ∷ []
+some_counts : counts_under None family 3 ≡ 3 ∷ 1 ∷ 0 ∷ []
 unfolding count_under counts_from
 some_counts = refl

@@ -4,12 +4,12 @@
 ghost use Rattle.std.specs.Prelude.{◌≡◌, ◌+◌, ◌*◌, ◌≤◌, min, length, get_or};
 ghost use Rattle.std.proofs.lemmas.List.Edits.{sets};
 ghost use Rattle.base.specs.Limits.{most_rows};
-ghost use Rattle.table.specs.Table.{blank, has_row, row_from, row_at, rows_at, fields, with_row, has_room, zeroed, cleared, cleared_from, row_count, is_plan};
+ghost use Rattle.table.specs.Table.{blank, has_row, row_at, rows_at, fields, with_row, has_room, cleared, cleared_from, row_count, is_plan};
 ghost use Rattle.table.specs.Counts.{is_counted, counts_under};
 
 // A node: its kind, the halves of its hash, its parent's row (0xFFFFFFFF for none), where its body starts and ends, its
 // property count and its child count.
-#[derive(Clone, Copy)]
+#[derive(Clone, Copy, Debug, Default, PartialEq, Eq)]
 pub struct Row {
     pub kind: u32,
     pub low: u32,
@@ -21,23 +21,14 @@ pub struct Row {
     pub children: u32,
 }
 
-// The parent's row of a node that has no parent.
+// The parent's row of a node that has no parent, as a number of the table, which is C's too.
 pub const NO_PARENT: u32 = 0xFFFF_FFFF;
 
 // A row of zeros.
 pub fn blank() -> Row
     ensures { result ≡ blank }
 {
-    Row {
-        kind: 0,
-        low: 0,
-        high: 0,
-        parent: 0,
-        start: 0,
-        end: 0,
-        properties: 0,
-        children: 0,
-    }
+    Row::default()
 }
 
 // Whether a row lies wholly in the table.
@@ -47,42 +38,26 @@ pub fn has_row(table: &[u32], row: usize) -> bool
     row < table.len() / 8
 }
 
-// The numbers of a row that lies in the table.
-fn read_row(table: &[u32], row: usize) -> Row
-    requires { row * 8 + 8 ≤ length table.now }
-    ensures { result ≡ row_from table.now (row * 8) }
-{
-    let at = row * 8;
-    let kind = table[at];
-    let low = table[at + 1];
-    let high = table[at + 2];
-    let parent = table[at + 3];
-    let start = table[at + 4];
-    let end = table[at + 5];
-    let properties = table[at + 6];
-    let children = table[at + 7];
-    Row {
-        kind,
-        low,
-        high,
-        parent,
-        start,
-        end,
-        properties,
-        children,
-    }
-}
-
 // A row of the table; a row of zeros where it does not lie wholly in the table.
 pub fn row_at(table: &[u32], row: usize) -> Row
     ensures { result ≡ row_at table.now row }
 {
-    if !has_row(table, row) {
-        return blank();
+    match table.as_chunks::<8>().0.get(row) {
+        Some(&[kind, low, high, parent, start, end, properties, children]) => Row {
+            kind,
+            low,
+            high,
+            parent,
+            start,
+            end,
+            properties,
+            children,
+        },
+        None => blank(),
     }
-    read_row(table, row)
 }
 
+// Stores by place: a copy out of an array of the eight is compiled to more work.
 fn write_row(table: &mut [u32], row: usize, r: Row)
     requires { row * 8 + 8 ≤ length table.old }
     ensures { table.new ≡ sets table.old (row * 8) (fields r) }
@@ -114,24 +89,12 @@ pub fn has_room(table: &[u32]) -> bool
     base::TABLE_NUMBERS <= table.len()
 }
 
-// The first n numbers become 0.
-fn zero(table: &mut [u32], n: usize)
-    requires { n ≤ length table.old }
-    ensures { table.new ≡ zeroed n table.old }
-{
-    let mut i: usize = 0;
-    while i < n {
-        table[i] = 0;
-        i += 1;
-    }
-}
-
 // Clears the rows: the first 8,192 numbers become 0. A shorter table is left.
 pub fn clear(table: &mut [u32])
     ensures { table.new ≡ cleared table.old }
 {
     if has_room(table) {
-        zero(table, base::TABLE_NUMBERS);
+        table[..base::TABLE_NUMBERS].fill(0);
     }
 }
 
@@ -141,8 +104,7 @@ pub fn clear_from(table: &mut [u32], row: usize)
     ensures { table.new ≡ cleared_from row table.old }
 {
     if (row <= base::MOST_ROWS) & has_room(table) {
-        let from = row * 8;
-        zero(&mut table[from..], base::TABLE_NUMBERS - from);
+        table[row * 8..base::TABLE_NUMBERS].fill(0);
     }
 }
 
@@ -160,68 +122,33 @@ pub fn is_plan(numbers: &[u32]) -> bool
     (numbers.len() % 8 == 0) & (numbers.len() / 8 <= base::MOST_ROWS)
 }
 
-// Which rows are counted: all, or those of a kind.
-#[derive(Clone, Copy)]
-pub enum Which {
-    All,
-    OfKind(u32),
-}
-
-fn is_counted(which: Which, row: Row) -> bool
+// Whether a row is counted among those of a kind, or among all.
+fn is_counted(which: Option<u32>, row: Row) -> bool
     ensures { result ≡ is_counted which row }
 {
-    match which {
-        Which::All => true,
-        Which::OfKind(kind) => row.kind == kind,
-    }
+    which.is_none_or(|kind| row.kind == kind)
 }
 
-fn zero_counts(counts: &mut [u16])
-    ensures { counts.new ≡ zeroed (length counts.old) counts.old }
-{
-    let mut i: usize = 0;
-    while i < counts.len() {
-        counts[i] = 0;
-        i += 1;
-    }
-}
-
-// Counts, of the first rows of a table, at most 1,024, those under each parent: each place p of the counts then has the
-// count for row p, whatever it held.
-pub fn count_under(numbers: &[u32], rows: usize, which: Which, counts: &mut [u16])
+// Counts, of the first rows of a table, at most 1,024, those of a kind, or all, under each parent: each place p of the counts then
+// has the count for row p, whatever it held.
+pub fn count_under(numbers: &[u32], rows: usize, which: Option<u32>, counts: &mut [u16])
     ensures { counts.new
         ≡ counts_under which (rows_at numbers.now 0 (min rows most_rows)) (length counts.old) }
 {
-    let n = if rows < base::MOST_ROWS {
-        rows
-    } else {
-        base::MOST_ROWS
-    };
-    let places = counts.len();
-    zero_counts(counts);
-    let mut i: usize = 0;
-    while i < n {
+    let n = rows.min(base::MOST_ROWS);
+    counts.fill(0);
+    for i in 0..n {
         let row = row_at(numbers, i);
         let parent = row.parent as usize;
-        if is_counted(which, row) & (parent < places) {
-            counts[parent] = counts[parent] + 1;
+        if is_counted(which, row) & (parent < counts.len()) {
+            counts[parent] += 1;
         }
-        i += 1;
     }
-}
-
-fn wide(x: u16) -> u32
-    ensures { result ≡ x }
-{
-    x as u32
 }
 
 // What counts tell of a row; 0 of one for which they have no place.
 pub fn count_at(counts: &[u16], row: usize) -> u32
     ensures { result ≡ get_or counts.now row 0 }
 {
-    if row < counts.len() {
-        return wide(counts[row]);
-    }
-    0
+    u32::from(counts.get(row).copied().unwrap_or(0))
 }

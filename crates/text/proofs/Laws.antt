@@ -1,9 +1,11 @@
 -- Laws of texts: what has room, the digits of a number, and their stores from the last to the first.
-use Prim.Native.Nat.{ℕ, zero, suc, ◌+◌, ◌-◌, ◌/◌, ◌%◌, ◌^◌, ◌≤◌, ◌<◌}
-use native.Mathlib.Nat.{add-zero, pow-suc, div-lt_iff_lt-mul}
+use Prim.Native.Nat.{ℕ, zero, suc, ◌+◌, ◌-◌, ◌*◌, ◌/◌, ◌%◌, ◌^◌, ◌≤◌, ◌<◌}
+use native.Mathlib.Nat.{add-zero, pow-suc, pow-le-pow_right, div-lt_iff_lt-mul}
 use native.Mathlib.Omega.{arith}
 use mathlib.Core.Path.{◌≡◌, refl, ap, sym, ◌∙◌}
 use mathlib.Core.List.{List, [], ◌∷◌, ◌++◌}
+use Rattle.std.specs.Prelude.{Option, Some, None, IfSome, unwrap_or}
+use Rattle.std.specs.Option.{IfNone}
 use lib.Dec.{ltb, leb}
 use lib.ListN.{length, get_or, take, drop, set, length-append, drop_of_length-le}
 use lib.Seq.{sets, length-sets, length-take-le, take_all, take-suc, drop-cons, take_at, get_or_at}
@@ -64,22 +66,24 @@ module _ (out : List ℕ) (at : ℕ) (t : List ℕ) where
     written_put = rw room
 
 -- ---- how many digits a number has
-pub one_digit : (left n : ℕ) → 0 < left → n < 10 → digit_count left n ≡ 1
-unfolding digit_count
-one_digit zero n h l = absurd (omega arith)
-one_digit (suc left) n h l = rw (lt-ltb n 10 l)
-
 pub tenth : (k n : ℕ) → n < 10 ^ suc k → n / 10 < 10 ^ k
 tenth k n h = (div-lt_iff_lt-mul {k = 10} {x = n} {y = 10 ^ k} (omega arith)).1 (rw (← pow-suc 10 k) h)
 
-module _ (n : ℕ) (h : 10 ≤ n) where
-  pub more_digits : (left : ℕ) → n < 10 ^ left → (2 ≤ left) × (digit_count left n ≡ suc (digit_count (left - 1) (n / 10))) × (n / 10 < 10 ^ (left - 1))
-  unfolding digit_count
-  more_digits zero l = absurd (omega arith)
-  more_digits (suc zero) l = absurd (omega arith)
-  more_digits (suc (suc m)) l =
-      let e : suc (suc m) - 1 ≡ suc m = omega arith in
-      (omega arith, rw (le-ltb n 10 h, e), rw e (tenth (suc m) n l))
+-- k + 1 digits where 10 ^ k is the greatest power of ten that is not above the number, and one digit of zero
+size_by_log : (most k n : ℕ) → k < most → (1 ≤ k → 10 ^ k ≤ n) → n < 10 * 10 ^ k → digit_count most n ≡ k + 1
+unfolding digit_count
+size_by_log zero k n h low high = absurd (omega arith)
+size_by_log (suc m) zero n h low high = rw (lt-ltb n 10 (omega arith))
+size_by_log (suc m) (suc k) n h low high =
+    let l : 10 ^ k * 10 ≤ n = rw (← pow-suc 10 k) (low (omega arith)) in
+    let g : n < 10 ^ k * 10 * 10 = omega (arith, pow-suc 10 k, high) in
+    let one : 1 ≤ 10 ^ k = omega (arith, pow-le-pow_right {n = 10} (omega arith) {i = 0} {j = k} (omega arith)) in
+    rw (le-ltb n 10 (omega arith), size_by_log m k (n / 10) (omega arith) (λ _. omega arith) (omega arith)) (omega arith)
+
+-- the same by `checked_ilog10`, which has no answer for zero
+pub size_of_log : (n : ℕ) (o : Option ℕ) → IfNone o (n ≡ 0) → IfSome o (λ k. 10 ^ k ≤ n) → IfSome o (λ k. n < 10 * 10 ^ k) → IfSome o (λ k. k < 20) → unwrap_or o 0 + 1 ≡ decimal_size n
+size_of_log n None z low high h = sym (size_by_log 20 0 n (omega arith) (λ k. absurd (omega arith)) (omega arith))
+size_of_log n (Some k) z low high h = sym (size_by_log 20 k n h (λ _. low) high)
 
 size_most : (most n : ℕ) → digit_count most n ≤ most
 unfolding digit_count
@@ -143,10 +147,6 @@ stored_one d at base all out (suc l) rest h s =
           ∙ ap (λ v. sets d (at + l) (v ∷ drop (suc l) all)) last
           ∙ ap (sets d (at + l)) (sym (drop-cons all l 0 here));
     })
-
-pub stored_all : (d : List ℕ) (at base : ℕ) (all out : List ℕ) (left rest : ℕ) → left ≤ 0 → Stored d at base all out left rest → out ≡ sets d at all
-stored_all d at base all out zero rest h s = s.stored ∙ ap (λ k. sets d k all) (add-zero at)
-stored_all d at base all out (suc l) rest h s = absurd (omega arith)
 
 -- ---- a label, and then digits
 pub label_digits : (out : List ℕ) (at : ℕ) (label number : List ℕ) (k : ℕ) {first both : List ℕ} → length number ≡ k → (at + length label) + k ≤ length out

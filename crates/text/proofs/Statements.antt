@@ -1,4 +1,5 @@
 -- Decimal digits read as the number that they are of, and do not start with a zero.
+use Rattle.std.specs.Prelude.{Some, None}
 use Prim.Native.Nat.{ℕ, zero, suc, ◌+◌, ◌-◌, ◌*◌, ◌/◌, ◌%◌, ◌^◌, ◌≤◌, ◌<◌}
 use native.Mathlib.Nat.{pow-suc, div-add-mod', div-lt_iff_lt-mul, mod-lt}
 use native.Mathlib.Omega.{arith}
@@ -9,7 +10,6 @@ use lib.Dec.{ltb}
 use lib.ListN.{length, get_or, get_or-append}
 use borrow.Author.Tests.{lt-ltb, le-leb, ltb-true, ltb-false}
 use Rattle.base.proofs.Tests.{by_test}
-use Rattle.names.specs.declared.Numeral.TheVariants.{Is, Not}
 use Rattle.names.specs.Names.{is_digit}
 use Rattle.names.specs.Names.{read_digits as numeral}
 use Rattle.text.specs.Text.{glyph, digits, digit_count}
@@ -26,21 +26,21 @@ module _ (d : ℕ) (h : d < 10) where
   glyph_digit = rw (glyph_is, le-leb 48 (48 + d) (omega arith), le-leb (48 + d) 57 (omega arith))
 
 -- one more digit is read
-numeral_more : (v : ℕ) (xs : List ℕ) (b m : ℕ) → is_digit b ≡ true → numeral v xs ≡ Is m → numeral v (xs ++ (b ∷ [])) ≡ Is (m * 10 + (b - 48))
+numeral_more : (v : ℕ) (xs : List ℕ) (b m : ℕ) → is_digit b ≡ true → numeral v xs ≡ Some m → numeral v (xs ++ (b ∷ [])) ≡ Some (m * 10 + (b - 48))
 unfolding numeral
-numeral_more v [] b m d e = rw d (ap (λ n. Is (n * 10 + (b - 48))) (cc))
+numeral_more v [] b m d e = rw d (ap (λ n. Some (n * 10 + (b - 48))) (cc))
 numeral_more v (x ∷ xs) b m d e =
     by_test (is_digit x)
     (λ t. rw t (numeral_more (v * 10 + (x - 48)) xs b m d (rw t at e)))
-    (λ t. let no : Not ≡ Is m = rw t at e in cc)
+    (λ t. let no : None ≡ Some m = rw t at e in cc)
 
-digits_read : (k n : ℕ) → n < 10 ^ k → numeral 0 (digits 10 k n) ≡ Is n
+digits_read : (k n : ℕ) → n < 10 ^ k → numeral 0 (digits 10 k n) ≡ Some n
 unfolding numeral digits
-digits_read zero n h = ap Is (omega arith)
+digits_read zero n h = ap Some (omega arith)
 digits_read (suc k) n h =
     let below = mod-lt n {m = 10} (omega arith) in
     numeral_more 0 (digits 10 k (n / 10)) (glyph (n % 10)) (n / 10) (glyph_digit (n % 10) below) (digits_read k (n / 10) (tenth k n h))
-    ∙ ap Is (omega (arith, glyph_is (n % 10) below, div-add-mod' n 10))
+    ∙ ap Some (omega (arith, glyph_is (n % 10) below, div-add-mod' n 10))
 
 -- as many digits as there are hold the number
 size_holds : (most n : ℕ) → n < 10 ^ most → n < 10 ^ digit_count most n

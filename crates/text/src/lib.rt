@@ -6,11 +6,16 @@ ghost use Rattle.std.proofs.lemmas.List.Edits.{sets};
 ghost use Rattle.text.specs.Text.{with_text, place_after, digits, decimal, hexadecimal};
 ghost use Rattle.text.specs.Text.{glyph as Text·glyph, decimal_size as Text·decimalSize};
 
+#[tactic(auto, unfolding(crate::specs::Text::glyph))]
 fn glyph(d: u64) -> u8
     requires { d < 16 }
     ensures { result ≡ Text·glyph d }
 {
-    if d < 10 { 48 + d as u8 } else { 55 + d as u8 }
+    if d < 10 {
+        b'0' + d as u8
+    } else {
+        b'A' - 10 + d as u8
+    }
 }
 
 // How many digits a number has in decimal.
@@ -18,13 +23,7 @@ pub fn decimal_size(n: u64) -> usize
     ensures result { result ≡ Text·decimalSize n }
     ensures bound { result ≤ 20 }
 {
-    let mut k: usize = 1;
-    let mut rest = n;
-    while 10 <= rest {
-        rest = rest / 10;
-        k += 1;
-    }
-    k
+    n.checked_ilog10().unwrap_or(0) as usize + 1
 }
 
 // Writes the k lowest digits of a number in a base, from the last to the first.
@@ -32,12 +31,10 @@ fn write_digits(out: &mut [u8], at: usize, n: u64, base: u64, k: usize)
     requires { (at + k ≤ length out.old) × (2 ≤ base) × (base ≤ 16) }
     ensures { out.new ≡ sets out.old at (digits base k n) }
 {
-    let mut left = k;
     let mut rest = n;
-    while 0 < left {
-        left -= 1;
-        out[at + left] = glyph(rest % base);
-        rest = rest / base;
+    for i in (0..k).rev() {
+        out[at + i] = glyph(rest % base);
+        rest /= base;
     }
 }
 
@@ -86,5 +83,5 @@ pub fn put_hexadecimal(out: &mut [u8], at: usize, label: &[u8], n: u32) -> usize
     ensures place { result ≡ place_after out.old at (label.now ++ hexadecimal n) }
     ensures output { out.new ≡ with_text out.old at (label.now ++ hexadecimal n) }
 {
-    put_number(out, at, label, n as u64, 16, 8)
+    put_number(out, at, label, u64::from(n), 16, 8)
 }

@@ -11,7 +11,7 @@ use Rattle.table.specs.declared.Row.{Row}
 use Rattle.table.specs.Table.{blank, cleared}
 use Rattle.walk.specs.Walk.{limited}
 use Rattle.reader.specs.Reading.{table_after as readTable}
-use Rattle.emit.specs.declared.Written.{Written}
+use Rattle.emit.specs.Emission.{Written}
 use Rattle.emit.specs.Emission.{refused_writing, writing_done, output_left}
 use Rattle.removal.specs.Trimmer.{new_file, removal_of}
 use Rattle.trimmer.specs.Private.{left_without}

@@ -7,7 +7,7 @@ use mathlib.Core.List.{List}
 use borrow.Author.Tests.{eq-eqb, ne_eqb}
 use Rattle.table.specs.declared.Row.{Row}
 use Rattle.table.specs.Table.{row_at, rows_at, with_row, put_rows}
-use Rattle.table.proofs.Rests.{rest, rest_all, rest_next, rest_none, rows_at_with_row}
+use Rattle.table.proofs.Rests.{rest, rest_next, rest_none, rows_at_with_row}
 use Rattle.format.specs.Rows.{own_bytes, all_own_bytes}
 use Rattle.writer.specs.Forest.{moved_to, laid_out}
 use Rattle.removal.specs.Trimmer.{mended, without_from}
@@ -16,9 +16,6 @@ use Rattle.removal.specs.Trimmer.{mended, without_from}
 module _ (first : List ℕ) (n k above : ℕ) where
   abbrev pub Moving : (t : List ℕ) (to i : ℕ) → Type 0
   Moving t to i = put_rows t to (without_from k above i (rest t n i)) ≡ put_rows first 0 (without_from k above 0 (rows_at first 0 n))
-
-  pub moving_begun : Moving first 0 0
-  moving_begun = rw (rest_all first n)
 
   module _ (t : List ℕ) (to i : ℕ) (m : Moving t to i) where
     pub moving_past : i < n → i ≡ k → Moving t to (i + 1)
@@ -39,9 +36,6 @@ module _ (first : List ℕ) (n k above : ℕ) where
 module _ (first : List ℕ) (n : ℕ) where
   abbrev pub Laying : (t : List ℕ) (at i : ℕ) → Type 0
   Laying t at i = put_rows t i (laid_out at (rest t n i)) ≡ put_rows first 0 (laid_out 16 (rows_at first 0 n))
-
-  pub laying_begun : Laying first 16 0
-  laying_begun = rw (rest_all first n)
 
   module _ (t : List ℕ) (at i : ℕ) (l : Laying t at i) where
     pub laying_row : i < n → (t' : List ℕ) → t' ≡ with_row t i (moved_to at (row_at t i)) → Laying t' (at + own_bytes (row_at t i)) (i + 1)

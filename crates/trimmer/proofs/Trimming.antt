@@ -1,24 +1,27 @@
 -- One trimming by its reading: what is lent to the removal, and what becomes of its answer.
 use Prim.Native.Nat.{ℕ, ◌≤◌}
-use mathlib.Core.Path.{◌≡◌, ap, sym, ◌∙◌}
+use mathlib.Core.Path.{◌≡◌, refl, ap, sym, ◌∙◌}
 use mathlib.Core.Bool.{true}
 use mathlib.Core.List.{List}
 use lib.ListN.{length}
+use Rattle.std.specs.Prelude.{Result, Ok, Err}
+use Rattle.base.specs.declared.Refusal.{Refusal as CodeRefusal}
+use Rattle.base.specs.Refusals.{refusal_in}
 use Rattle.le.specs.Le.{AreBytes}
 use Rattle.table.specs.declared.Row.{Row}
 use Rattle.table.specs.Table.{has_room, filled}
 use Rattle.table.proofs.Filled.{room_filled, filled_again, cleared_filled}
 use Rattle.walk.specs.Walk.{limited}
 use Rattle.reader.specs.declared.Account.{Account}
-use Rattle.reader.specs.declared.Reading.{Reading}
-use Rattle.reader.specs.declared.Reading.TheVariants.{Accepted, Refused}
+use Rattle.reader.specs.Reading.{Reading}
+use Rattle.reader.specs.Reading.{Accepted, Refused}
 use Rattle.reader.specs.Reading.{verdict, reading_of}
 use Rattle.reader.specs.Reading.{table_left as readLeft}
 use Rattle.reader.specs.Reading.{table_after as readTable}
 use Rattle.reader.proofs.Exactly.{in_room, has_room_lem}
 use Rattle.reader.proofs.Accepted.{nodes_are, flags_are, table_left_lem, few}
-use Rattle.emit.specs.declared.Written.{Written}
-use Rattle.emit.specs.Emission.{refused_writing}
+use Rattle.emit.specs.Emission.{Written}
+use Rattle.emit.specs.Emission.{refused_writing, written_told}
 use Rattle.removal.specs.Trimmer.{new_file, trimmed_of, trimmed_output, trimmed_table}
 use Rattle.removal.proofs.RefusedFile.{refused_file}
 use Rattle.trimmer.specs.Private.{Read, left_without}
@@ -68,6 +71,11 @@ module _ (s t : List ℕ) (bytes : AreBytes s) (a : Account) (r : reading_of s t
     pub trimmed : (w ≡ trimmed_of s k t (length out)) × ((o ≡ trimmed_output s k t out) × (t' ≡ trimmed_table s k t (length out)))
     unfolding trimmed_output trimmed_table
     trimmed = (answer, (e.1.0 ∙ rw answer, e.1.1 ∙ table ∙ rw answer))
+
+-- the place in a result is that of the answer
+pub place_told : (r : Result ℕ CodeRefusal) → (refusal_in r).place ≡ (written_told r).place
+place_told (Ok n) = refl
+place_told (Err r) = refl
 
 -- a file that is refused
 pub trimmed_refused : (s t : List ℕ) (n place k : ℕ) (out : List ℕ) (t' : List ℕ) → reading_of s t ≡ Refused n place → t' ≡ readTable s t

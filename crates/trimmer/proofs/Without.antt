@@ -17,7 +17,7 @@ use Rattle.format.specs.Rows.{all_own_bytes}
 use Rattle.walk.specs.Walk.{limited}
 use Rattle.reader.specs.Reading.{table_after as readTable}
 use Rattle.reader.proofs.Accepted.{few}
-use Rattle.emit.specs.declared.Written.{Written}
+use Rattle.emit.specs.Emission.{Written}
 use Rattle.emit.specs.Emission.{file_bytes, writing_done, emission, output_left, output_of}
 use Rattle.writer.specs.Forest.{laid_out}
 use Rattle.writer.proofs.Plans.{length_laid}
@@ -58,16 +58,16 @@ module _ {s t : List ℕ} {n f : ℕ} (bytes : AreBytes s) (read : Read s t n f)
   filled_there = read.rows ∙ ap (λ rs. filled rs t) (sym rows_there)
 
 -- ---- a row of them taken out
-module _ {s t : List ℕ} {k p n f room : ℕ} (bytes : AreBytes s) (r : Removes s t k p n f room) where
+module _ {s t : List ℕ} {k p n f room : ℕ} (bytes : AreBytes s) (there : k < n) (r : Removes s t k p n f room) where
   abbrev stay : List Row
   stay = without k (limited s).rows
 
   new : NewFile s k
-  new = new_file_of s bytes r.read.accepted k (omega (arith, r.there, r.read.nodes)) r.unknown
+  new = new_file_of s bytes r.read.accepted k (omega (arith, there, r.read.nodes)) r.unknown
 
   length_stay : length stay + 1 ≡ n
   length_stay =
-      length_from k (get_or (limited s).rows k _).parent 0 (limited s).rows (omega arith) (omega (arith, r.there, r.read.nodes))
+      length_from k (get_or (limited s).rows k _).parent 0 (limited s).rows (omega arith) (omega (arith, there, r.read.nodes))
       ∙ sym r.read.nodes
 
   few_stay : length stay ≤ 1024

@@ -11,18 +11,18 @@ use lib.IntN.{ℤ, pos, negsuc}
 use Rattle.le.specs.Le.{number_at}
 use Rattle.kinds.specs.Kinds.{curve}
 use Rattle.props.specs.Step.{length_at, code_at}
-use Rattle.faces.specs.declared.Values.{Values}
-use Rattle.faces.specs.declared.Values.TheVariants.{Below, NotBelow}
+use Rattle.faces.specs.Faces.{Values}
+use Rattle.faces.specs.Faces.{Below, NotBelow}
 use Rattle.faces.specs.Faces.{width_of, faces_in, below}
 use Rattle.rules.specs.Table.{Held, nothing, flag, one_of, vertices, weights, faces, indices, keys, bone_number, link_to, Line}
 use Rattle.base.specs.Letters.{letters}
 use Rattle.props.specs.Types.{byte, int}
 use Rattle.rules.proofs.Laws.{rule_of}
 use Rattle.rules.specs.Rules.{is_n, takes, lines_of, is_one_of}
-use Rattle.base.specs.declared.Refusal.{Refusal}
+use Rattle.base.specs.Refusals.{Refusal}
 use Rattle.judge.specs.Properties.{Beside, rest_at, value_at}
-use Rattle.judge.specs.declared.valued.Fault.{Fault}
-use Rattle.judge.specs.declared.valued.Fault.TheVariants.{Right, Whole, Element}
+use Rattle.judge.specs.Valued.{Fault}
+use Rattle.judge.specs.Valued.{Right, Whole, Element}
 use Rattle.judge.specs.Valued.{whole, sole, signed, parent_ok, by_values, face_fault, fault_of, fault_number, valued}
 use Rattle.base.specs.Refusals.{refusal, refused_or}
 use Rattle.base.specs.Lists.{Each, Some}

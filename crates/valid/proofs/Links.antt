@@ -17,7 +17,7 @@ use Rattle.base.specs.Refusals.{refused_or}
 use Rattle.base.specs.Lists.{Each}
 use Rattle.format.specs.Layout.{Property, GoodBody}
 use Rattle.base.proofs.Lists.{each_map}
-use Rattle.links.specs.declared.Linked.{Linked}
+use Rattle.links.specs.Links.{Linked}
 use Rattle.links.specs.Links.{reached, links_at, refusal_of, refused_links, resolved}
 use Rattle.valid.specs.Lines.{ByLine}
 use Rattle.valid.specs.Obeys.{FitsLine}

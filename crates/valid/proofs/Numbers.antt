@@ -11,7 +11,7 @@ use Rattle.body.specs.Body.{properties}
 use Rattle.rules.specs.Table.{Line}
 use Rattle.rules.specs.Rules.{lines_of}
 use Rattle.judge.specs.Properties.{Beside, rule_at, beside_of}
-use Rattle.base.specs.declared.Refusal.{Refusal}
+use Rattle.base.specs.Refusals.{Refusal}
 use Rattle.judge.specs.Typed.{is_mistyped, typed}
 use Rattle.judge.specs.Missing.{lacks}
 use Rattle.judge.specs.Valued.{fault_of, fault_number, valued, node_faces, node_links}

@@ -11,8 +11,8 @@ use lib.ListN.{drop}
 use lib.Seq.{drop-drop}
 use borrow.Author.Tests.{ltb-true, lt-ltb}
 use Rattle.le.specs.Le.{number_at}
-use Rattle.faces.specs.declared.Values.{Values}
-use Rattle.faces.specs.declared.Values.TheVariants.{Below, NotBelow}
+use Rattle.faces.specs.Faces.{Values}
+use Rattle.faces.specs.Faces.{Below, NotBelow}
 use Rattle.faces.specs.Faces.{faces_in, below}
 
 passed : (t : Bool) (v : Values) (k : ℕ) → (cond t v (NotBelow k) ≡ Below) ↔ (t ≡ true) × (v ≡ Below)

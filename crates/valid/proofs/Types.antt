@@ -11,7 +11,7 @@ use Rattle.rules.specs.Table.{Line}
 use Rattle.rules.proofs.Laws.{rule_of}
 use Rattle.rules.specs.Rules.{takes, misfits, lines_of}
 use Rattle.judge.specs.Properties.{has}
-use Rattle.base.specs.declared.Refusal.{Refusal}
+use Rattle.base.specs.Refusals.{Refusal}
 use Rattle.judge.specs.Typed.{is_mistyped, typed}
 use Rattle.base.specs.Refusals.{refusal}
 use Rattle.base.specs.Lists.{Each}

@@ -11,7 +11,7 @@ use lib.Seq.{take-append-le, drop-append-le, take_at}
 use borrow.Author.Tests.{eq-eqb, eqb-true}
 use Rattle.le.specs.Le.{val, number_at}
 use Rattle.base.proofs.Tests.{by_test}
-use Rattle.props.specs.declared.Size.TheVariants.{Bytes}
+use Rattle.props.specs.Types.{Bytes}
 use Rattle.props.specs.Types.{element_size, byte, short, int, long, float, v4, string}
 use Rattle.faces.specs.Faces.{width_of}
 use Rattle.rules.specs.Table.{Types, only, N, key_type, any_type}

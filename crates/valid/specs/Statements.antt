@@ -1,6 +1,6 @@
 -- What the definitions of this crate rest on, and the refusals of one node, as named statements.
 use Rattle.std.specs.Prelude.{ℕ, ◌≡◌, ◌↔◌, List}
-use Rattle.props.specs.declared.Size.TheVariants.{Bytes}
+use Rattle.props.specs.Types.{Bytes}
 use Rattle.props.specs.Types.{element_size}
 use Rattle.faces.specs.Faces.{width_of}
 use Rattle.format.specs.Forest.{Forest}

@@ -1,10 +1,9 @@
 -- Acceptance as propositions, with no number, place or order: the layout (format), where kinds may stand, and document 01's
 -- rules of properties and links.
-use Rattle.std.specs.Prelude.{ℕ, suc, ◌+◌, ◌≤◌, ◌≡◌, cond, ◌&&◌, List, eqb, length}
+use Rattle.std.specs.Prelude.{ℕ, suc, ◌+◌, ◌≤◌, ◌≡◌, cond, ◌&&◌, List, eqb, length, None}
 use Rattle.base.specs.Limits.{most_bytes}
 use Rattle.le.specs.Le.{val}
 use Rattle.kinds.specs.Kinds.{bone}
-use Rattle.kinds.specs.declared.Parent.TheVariants.{None}
 use Rattle.rules.specs.Table.{link_to}
 use Rattle.format.specs.Forest.{Forest, end, known, unknown, file_of}
 use Rattle.base.specs.Lists.{Each}

@@ -7,7 +7,7 @@ use mathlib.Core.List.{List, [], ◌∷◌, ◌++◌, append-nil, append_assoc}
 use lib.Dec.{ltb}
 use lib.ListN.{length, length-append, set, replicate}
 use lib.Seq.{sets, length-sets, set_out}
-use borrow.Author.Tests.{ltb-true, ltb-false, lt-ltb, le-ltb}
+use borrow.Author.Tests.{ltb-true, ltb-false, lt-ltb}
 use Rattle.base.proofs.Tests.{by_test}
 use Rattle.base.proofs.Stores.{sets_append}
 use Rattle.vectors.specs.declared.answer.Answer.{Answer}
@@ -18,11 +18,8 @@ made count numbers = record { count = count; numbers = numbers }
 
 -- ---- one number more, where there is room and where there is none
 
-pub pushed_more : (a : Answer) (n : ℕ) → a.count < 12 → made (a.count + 1) (set a.numbers a.count n) ≡ pushed a n
+pushed_more : (a : Answer) (n : ℕ) → a.count < 12 → made (a.count + 1) (set a.numbers a.count n) ≡ pushed a n
 pushed_more a n h = rw (lt-ltb a.count 12 h)
-
-pub pushed_full : (a : Answer) (n : ℕ) → 12 ≤ a.count → a ≡ pushed a n
-pushed_full a n h = rw (le-ltb a.count 12 h)
 
 module _ (ns : List ℕ) (n : ℕ) where
   abbrev zeros : List ℕ
@@ -56,7 +53,7 @@ module _ (ns : List ℕ) (n : ℕ) where
 
 -- ---- some numbers more
 
-pub extended_answered : (ns ms : List ℕ) → extended (answered ns) ms ≡ answered (ns ++ ms)
+extended_answered : (ns ms : List ℕ) → extended (answered ns) ms ≡ answered (ns ++ ms)
 extended_answered ns [] = ap answered (sym (append-nil ns))
 extended_answered ns (m ∷ ms) =
     ap (λ a. extended a ms) (pushed_answered ns m) ∙ extended_answered (ns ++ (m ∷ [])) ms ∙ ap answered (append_assoc ns (m ∷ []) ms)

@@ -3,11 +3,13 @@ use Prim.Native.Nat.{ℕ, zero, suc, ◌+◌, ◌-◌, ◌*◌, ◌%◌, ◌≤�
 use native.Mathlib.Omega.{arith}
 use native.Mathlib.Numerals.{add-one}
 use mathlib.Core.Path.{◌≡◌, refl, ap, sym, ◌∙◌}
-use mathlib.Core.List.{List, [], ◌∷◌, ◌++◌, append-nil, append_assoc}
-use lib.ListN.{length, take, drop, get_or, set, replicate, drop_of_length-le}
-use lib.Seq.{take_all, take-suc-set, drop-cons}
+use mathlib.Core.List.{List, [], ◌∷◌, ◌++◌, append-nil, append_assoc, map}
+use Rattle.std.specs.List.{fold}
+use Rattle.std.proofs.lemmas.List.{map-id}
+use lib.ListN.{length, take, set, replicate}
+use lib.Seq.{take_all, take-suc-set}
 use Rattle.le.specs.Le.{number_at}
-use Rattle.vectors.specs.Buffers.{space, rising, numbers_read, taking, checksum_from}
+use Rattle.vectors.specs.Buffers.{space, rising, numbers_read, taking, checksum_from, checksum}
 
 -- ---- numbers stored one after the other: those that are stored, and those that are left, are the whole
 
@@ -39,17 +41,14 @@ module _ (n i : ℕ) where
 
 -- ---- checksums, for every type of number
 
-module _ (ns : List ℕ) (i sum : ℕ) where
-  pub sum_more : {next : ℕ} → i < length ns → next ≡ taking sum (get_or ns i 0) → checksum_from sum (drop i ns) ≡ checksum_from next (drop (i + 1) ns)
-  unfolding checksum_from
-  sum_more {next} h e =
-      ap (checksum_from sum) (drop-cons ns i 0 h)
-      ∙ ap (λ s. checksum_from s (drop (suc i) ns)) (sym e)
-      ∙ ap (λ k. checksum_from next (drop k ns)) (sym (add-one i))
+-- of numbers of any type, each by its value
+pub folded : {A : Type 0} (value : A → ℕ) (sum : ℕ) (xs : List A) → fold (λ s x. taking s (value x)) sum xs ≡ checksum_from sum (map value xs)
+unfolding checksum_from
+folded value sum [] = refl
+folded value sum (x ∷ xs) = folded value (taking sum (value x)) xs
 
-  pub sum_all : length ns ≤ i → checksum_from sum (drop i ns) ≡ sum
-  unfolding checksum_from
-  sum_all h = ap (checksum_from sum) (drop_of_length-le ns {i = i} h)
+pub plain : (ns : List ℕ) → checksum (map (λ n. n) ns) ≡ checksum ns
+plain ns = ap checksum (map-id ns)
 
 -- ---- the numbers of a lent table
 

@@ -1,3 +1,4 @@
 pub mod Answers
 pub mod Lent
+pub mod Reasons
 pub mod Whole

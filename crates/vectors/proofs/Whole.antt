@@ -1,4 +1,5 @@
 -- No line has more than twelve numbers, so that an answer has all of them.
+use Rattle.std.specs.Prelude.{Option, Some, None}
 use Prim.Native.Nat.{ℕ, ◌+◌, ◌*◌, ◌/◌, ◌%◌, ◌≤◌}
 use native.Mathlib.Omega.{arith}
 use native.Mathlib.Nat.{min-eq_right}
@@ -9,21 +10,12 @@ use lib.Dec.{eqb, ltb}
 use lib.ListN.{length, length-append, take, drop, replicate}
 use lib.Seq.{sets, sets-eq, take-append_seam}
 use Rattle.le.specs.Le.{number_at}
-use Rattle.names.specs.declared.Numeral.{Numeral}
-use Rattle.names.specs.declared.Numeral.TheVariants.{Is, Not}
 use Rattle.names.specs.Names.{number_after}
-use Rattle.props.specs.declared.Size.{Size}
-use Rattle.props.specs.declared.Size.TheVariants.{Bytes, Text, NoSuch}
-use Rattle.props.specs.declared.Step.{Step}
-use Rattle.props.specs.declared.Step.TheVariants.{Past, Refused}
-use Rattle.props.specs.Step.{step_at}
-use Rattle.props.specs.Types.{element_size}
+use Rattle.props.specs.Types.{Size, Bytes, Text, NoSuch, element_size}
+use Rattle.props.specs.Step.{Step, Past, Refused, step_at}
 use Rattle.table.specs.Table.{has_room}
 use Rattle.plan.specs.Plan.{plan_refusal}
-use Rattle.lookup.specs.declared.Found.{Found}
-use Rattle.lookup.specs.declared.Found.TheVariants.{At}
-use Rattle.lookup.specs.declared.Found.TheVariants.{Refused as Refused'}
-use Rattle.lookup.specs.Lookup.{lookup_of, part_of}
+use Rattle.lookup.specs.Lookup.{Found, At, Refused as Refused', lookup_of, part_of}
 use Rattle.vectors.specs.declared.frame.Frame.{Frame}
 use Rattle.vectors.specs.Answers.{answered, told_by}
 use Rattle.vectors.specs.Buffers.{numbers_in, checksum}
@@ -69,10 +61,10 @@ size (Bytes n) = short (omega arith)
 size Text = short (omega arith)
 size NoSuch = short (omega arith)
 
-numeral : (n : Numeral) → AtMost 12 (numeral_line n)
+numeral : (n : Option ℕ) → AtMost 12 (numeral_line n)
 unfolding numeral_line
-numeral (Is n) = short (omega arith)
-numeral Not = short (omega arith)
+numeral (Some n) = short (omega arith)
+numeral None = short (omega arith)
 
 step : (w : Step) → AtMost 12 (step_line w)
 unfolding step_line

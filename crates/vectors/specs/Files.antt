@@ -1,10 +1,8 @@
 -- The lines of the functions 30 and 31: a file, walked or read into a lent table.
 use Rattle.std.specs.Prelude.{ℕ, cond, List, [], ◌∷◌, ◌++◌, eqb, ltb, replicate}
 use Rattle.table.specs.Table.{has_room, cleared}
-use Rattle.walk.specs.declared.Answer.{Answer as Walked}
-use Rattle.walk.specs.Walk.{answer, table_walked}
-use Rattle.reader.specs.declared.Reading.{Reading}
-use Rattle.reader.specs.Reading.{Numbers, numbers_of, reading_of, table_after}
+use Rattle.walk.specs.Walk.{Answer as Walked, answer, table_walked}
+use Rattle.reader.specs.Reading.{Reading, Numbers, numbers_of, reading_of, table_after}
 use Rattle.vectors.specs.declared.frame.Frame.{Frame}
 use Rattle.vectors.specs.Buffers.{checksum}
 

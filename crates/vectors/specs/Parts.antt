@@ -1,17 +1,9 @@
 -- The lines of the functions 10 to 18: properties, names and kinds.
-use Rattle.std.specs.Prelude.{ℕ, ◌-◌, ◌%◌, cond, ◌&&◌, List, [], ◌∷◌, eqb, ltb, length}
-use Rattle.names.specs.declared.Numeral.{Numeral}
-use Rattle.names.specs.declared.Numeral.TheVariants.{Is, Not}
+use Rattle.std.specs.Prelude.{ℕ, ◌-◌, ◌%◌, cond, ◌&&◌, List, [], ◌∷◌, eqb, ltb, length, None, Option, Some}
 use Rattle.names.specs.Names.{size_ok, bytes_ok, same, number_after}
-use Rattle.kinds.specs.declared.Parent.{Parent}
-use Rattle.kinds.specs.declared.Parent.TheVariants.{None, Kind}
 use Rattle.kinds.specs.Kinds.{is_known, may_stand}
-use Rattle.props.specs.declared.Size.{Size}
-use Rattle.props.specs.declared.Size.TheVariants.{Bytes, Text, NoSuch}
-use Rattle.props.specs.declared.Step.{Step}
-use Rattle.props.specs.declared.Step.TheVariants.{Past, Refused}
-use Rattle.props.specs.Types.{element_size}
-use Rattle.props.specs.Step.{step_at}
+use Rattle.props.specs.Types.{Size, Bytes, Text, NoSuch, element_size}
+use Rattle.props.specs.Step.{Step, Past, Refused, step_at}
 use Rattle.body.specs.Body.{PropertyWalk, properties, exactly, end_of, index_of}
 use Rattle.vectors.specs.declared.frame.Frame.{Frame}
 use Rattle.vectors.specs.Answers.{bit}
@@ -28,13 +20,13 @@ unfoldable pub name_line : List ℕ → List ℕ
 name_line s = cond (ltb 65535 (length s)) [] (bit (size_ok (length s) && bytes_ok s) ∷ [])
 
 -- 13: the number in a name
-unfoldable pub numeral_line : Numeral → List ℕ
-numeral_line (Is n) = 1 ∷ n ∷ []
-numeral_line Not = 0 ∷ 0 ∷ []
+unfoldable pub numeral_line : Option ℕ → List ℕ
+numeral_line (Some n) = 1 ∷ n ∷ []
+numeral_line None = 0 ∷ 0 ∷ []
 
 -- 15: a parent is one more than its kind, and none is 0
-unfoldable pub parent_of : ℕ → Parent
-parent_of x = cond (eqb x 0) None (Kind ((x - 1) % 4294967296))
+unfoldable pub parent_of : ℕ → Option ℕ
+parent_of x = cond (eqb x 0) None (Some ((x - 1) % 4294967296))
 
 -- 16: where the name and the data of a property start, and where it ends; or its refusal
 unfoldable pub step_line : Step → List ℕ

@@ -3,9 +3,7 @@ use Rattle.std.specs.Prelude.{ℕ, ◌*◌, ◌/◌, cond, List, [], ◌∷◌, 
 use Rattle.le.specs.Le.{number_at}
 use Rattle.table.specs.declared.Row.{Row}
 use Rattle.table.specs.Table.{fields, has_row, row_at, with_row, has_room, cleared}
-use Rattle.lookup.specs.declared.Found.{Found}
-use Rattle.lookup.specs.declared.Found.TheVariants.{At, Refused}
-use Rattle.lookup.specs.Lookup.{lookup_of, number_of, part_of}
+use Rattle.lookup.specs.Lookup.{Found, At, Refused, lookup_of, number_of, part_of}
 use Rattle.vectors.specs.declared.frame.Frame.{Frame}
 use Rattle.vectors.specs.Answers.{bit}
 use Rattle.vectors.specs.Buffers.{numbers_in, checksum}

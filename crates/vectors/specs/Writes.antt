@@ -4,8 +4,7 @@ use Rattle.base.specs.Limits.{most_rows}
 use Rattle.table.specs.declared.Row.{Row}
 use Rattle.table.specs.Table.{rows_at}
 use Rattle.plan.specs.Plan.{plan_refusal}
-use Rattle.emit.specs.declared.Written.{Written}
-use Rattle.emit.specs.Emission.{emission, output_of}
+use Rattle.emit.specs.Emission.{Written, emission, output_of}
 use Rattle.writer.specs.Writer.{written_of, output_after}
 use Rattle.vectors.specs.declared.frame.Frame.{Frame}
 use Rattle.vectors.specs.Buffers.{numbers_in}

@@ -2,7 +2,7 @@
 ghost use Rattle.std.specs.Prelude.{◌≡◌, [], ◌∷◌};
 ghost use Rattle.vectors.specs.Answers.{answered, extended, bit};
 
-// At most twelve numbers, and zeros after them.
+// At most twelve numbers, and zeros after them: an array with a count, as nothing here has a heap.
 #[derive(Clone, Copy)]
 pub struct Answer {
     pub count: usize,
@@ -34,41 +34,28 @@ impl Answer {
         Self { count, numbers }
     }
 
-    pub fn push_two(self, a: u64, b: u64) -> Self
-        ensures { result ≡ extended self (a ∷ b ∷ []) }
+    // Some numbers more, one after the other.
+    pub fn extend(self, numbers: &[u64]) -> Self
+        ensures { result ≡ extended self numbers.now }
     {
-        self.push(a).push(b)
+        let mut answer = self;
+        for n in numbers {
+            answer = answer.push(*n);
+        }
+        answer
     }
 
-    pub fn push_four(self, a: u64, b: u64, c: u64, d: u64) -> Self
-        ensures { result ≡ extended self (a ∷ b ∷ c ∷ d ∷ []) }
+    pub fn of(numbers: &[u64]) -> Self
+        ensures { result ≡ answered numbers.now }
     {
-        self.push_two(a, b).push_two(c, d)
-    }
-
-    pub fn one(n: u64) -> Self
-        ensures { result ≡ answered (n ∷ []) }
-    {
-        Self::none().push(n)
-    }
-
-    pub fn two(a: u64, b: u64) -> Self
-        ensures { result ≡ answered (a ∷ b ∷ []) }
-    {
-        Self::none().push_two(a, b)
-    }
-
-    pub fn four(a: u64, b: u64, c: u64, d: u64) -> Self
-        ensures { result ≡ answered (a ∷ b ∷ c ∷ d ∷ []) }
-    {
-        Self::none().push_four(a, b, c, d)
+        Self::none().extend(numbers)
     }
 
     // 1 for what holds, 0 for what does not.
     pub fn truth(b: bool) -> Self
         ensures { result ≡ answered (bit b ∷ []) }
     {
-        Self::one(bit(b))
+        Self::of(&[bit(b)])
     }
 }
 

@@ -1,5 +1,5 @@
 // What a lent buffer holds at first, and the checksum of what it holds at last.
-ghost use Rattle.std.specs.Prelude.{◌≡◌, length};
+ghost use Rattle.std.specs.Prelude.{◌≡◌, ℕ, length, map};
 ghost use Rattle.vectors.specs.Buffers.{space, filling, numbers_in, taking, checksum};
 
 // The numbers of which the first are lent as a table.
@@ -14,11 +14,9 @@ pub fn fill(out: &mut [u8], seed: u32)
     ensures { out.new ≡ filling seed (length out.old) }
 {
     let mut v = seed % 256;
-    let mut i = 0;
-    while i < out.len() {
-        out[i] = v as u8;
+    for b in out.iter_mut() {
+        *b = v as u8;
         v = (v + 37) % 256;
-        i += 1;
     }
 }
 
@@ -26,10 +24,8 @@ pub fn fill(out: &mut [u8], seed: u32)
 pub fn numbers(out: &mut [u32], bytes: &[u8])
     ensures { out.new ≡ numbers_in bytes.now (length out.old) }
 {
-    let mut i: usize = 0;
-    while i < out.len() {
-        out[i] = le::u32_at(bytes, i * 4);
-        i += 1;
+    for (i, n) in out.iter_mut().enumerate() {
+        *n = le::read(bytes, i * 4);
     }
 }
 
@@ -42,39 +38,40 @@ fn taking(sum: u64, number: u64) -> u64
     (sum % 4294967296 * 16777619 + number % 4294967296) % 4294967296
 }
 
-// Of bytes, of a table's numbers, and of places in a body.
-pub fn checksum(bytes: &[u8]) -> u64
-    ensures { result ≡ checksum bytes.now }
-{
-    let mut sum = EMPTY;
-    let mut i: usize = 0;
-    while i < bytes.len() {
-        sum = taking(sum, bytes[i] as u64);
-        i += 1;
-    }
-    sum
+// What a checksum takes: a byte, a table's number, or a place in a body.
+pub trait Number: Copy {
+    ghost value: { Self → ℕ };
+
+    fn wide(self) -> u64
+        ensures { result ≡ value self };
 }
 
-pub fn numbers_checksum(numbers: &[u32]) -> u64
-    ensures { result ≡ checksum numbers.now }
-{
-    let mut sum = EMPTY;
-    let mut i: usize = 0;
-    while i < numbers.len() {
-        sum = taking(sum, numbers[i] as u64);
-        i += 1;
+impl Number for u8 {
+    ghost value = { λ n. n };
+
+    fn wide(self) -> u64 {
+        self as u64
     }
-    sum
 }
 
-pub fn places_checksum(places: &[usize]) -> u64
-    ensures { result ≡ checksum places.now }
-{
-    let mut sum = EMPTY;
-    let mut i: usize = 0;
-    while i < places.len() {
-        sum = taking(sum, places[i] as u64);
-        i += 1;
+impl Number for u32 {
+    ghost value = { λ n. n };
+
+    fn wide(self) -> u64 {
+        self as u64
     }
-    sum
+}
+
+impl Number for usize {
+    ghost value = { λ n. n };
+
+    fn wide(self) -> u64 {
+        self as u64
+    }
+}
+
+pub fn checksum<T: Number>(numbers: &[T]) -> u64
+    ensures { result ≡ checksum (map T.value numbers.now) }
+{
+    numbers.iter().fold(EMPTY, |sum, n| taking(sum, n.wide()))
 }

@@ -23,7 +23,7 @@ fn lent(function: u32, table: &mut [u32], file: &[u8]) -> Answer
     ensures { result ≡ answered (into_table function file.now table.old) }
 {
     let answer = passed(function, table, file);
-    answer.push(buffers::numbers_checksum(table))
+    answer.push(buffers::checksum(table))
 }
 
 fn passed(function: u32, table: &mut [u32], file: &[u8]) -> Answer

@@ -23,12 +23,12 @@ pub fn parse(header: &[u8]) -> Frame
     ensures { result ≡ frame_of header.now }
 {
     Frame {
-        function: le::u32_at(header, 0),
-        first: le::u32_at(header, 4),
-        second: le::u32_at(header, 8),
-        seed: le::u32_at(header, 12),
-        x: le::u64_at(header, 16),
-        y: le::u64_at(header, 24),
+        function: le::read(header, 0),
+        first: le::read(header, 4),
+        second: le::read(header, 8),
+        seed: le::read(header, 12),
+        x: le::read(header, 16),
+        y: le::read(header, 24),
     }
 }
 

@@ -16,10 +16,10 @@ pub fn run(f: Frame, bytes: &[u8]) -> Answer
     let at = f.x as usize;
     let function = f.function;
     match function {
-        1 => Answer::one(le::u16_at(bytes, at) as u64),
-        2 => Answer::one(le::u32_at(bytes, at) as u64),
-        3 => Answer::one(le::u64_at(bytes, at)),
-        7 => Answer::one(le::number_at(bytes, at, (f.y % 4294967296) as u32) as u64),
+        1 => Answer::of(&[le::read::<u16>(bytes, at) as u64]),
+        2 => Answer::of(&[le::read::<u32>(bytes, at) as u64]),
+        3 => Answer::of(&[le::read::<u64>(bytes, at)]),
+        7 => Answer::of(&[le::number_at(bytes, at, (f.y % 4294967296) as u32) as u64]),
         _ => written(f, bytes.len()),
     }
 }
@@ -40,19 +40,19 @@ fn lent(f: Frame, out: &mut [u8]) -> Answer
 {
     buffers::fill(out, f.seed);
     store(f.function, f.x as usize, f.y, out);
-    Answer::one(buffers::checksum(out))
+    Answer::of(&[buffers::checksum(out)])
 }
 
 fn store(function: u32, at: usize, y: u64, out: &mut [u8])
     ensures { out.new ≡ stored function at y out.old }
 {
     if function == 4 {
-        le::put_u16(out, at, (y % 65536) as u16);
+        le::write(out, at, (y % 65536) as u16);
         return;
     }
     if function == 5 {
-        le::put_u32(out, at, (y % 4294967296) as u32);
+        le::write(out, at, (y % 4294967296) as u32);
         return;
     }
-    le::put_u64(out, at, y);
+    le::write(out, at, y);
 }

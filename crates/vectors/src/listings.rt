@@ -14,9 +14,9 @@ pub fn run(f: Frame, out: &mut [u8], first: &[u8], second: &[u8]) -> Answer
     ensures output { out.new ≡ list_output f first.now second.now out.old }
 {
     if f.function == 32 {
-        return Answer::one(listing::list(first, out) as u64);
+        return Answer::of(&[listing::list(first, out) as u64]);
     }
-    Answer::one(listing::put(out, line(f.x, first, second)) as u64)
+    Answer::of(&[listing::put(out, line(f.x, first, second)) as u64])
 }
 
 fn line(which: u64, block: &[u8], fields: &[u8]) -> listing::TextLine
@@ -24,23 +24,23 @@ fn line(which: u64, block: &[u8], fields: &[u8]) -> listing::TextLine
 {
     match which {
         0 => listing::TextLine::Summary {
-            flags: le::u32_at(block, 0),
-            nodes: le::u32_at(block, 8),
-            bytes: le::u64_at(block, 16),
+            flags: le::read(block, 0),
+            nodes: le::read(block, 8),
+            bytes: le::read(block, 16),
         },
         1 => listing::TextLine::Node {
-            index: le::u32_at(block, 0),
+            index: le::read(block, 0),
             row: rows::parsed(fields),
         },
         2 => listing::TextLine::FileHeader,
         3 => listing::TextLine::Faces {
-            faces: faces::Faces(le::u64_at(block, 0)),
-            degenerate: le::u64_at(block, 8),
+            faces: faces::Faces(le::read::<u64>(block, 0)),
+            degenerate: le::read(block, 8),
         },
-        4 => listing::TextLine::Total(le::u64_at(block, 0)),
+        4 => listing::TextLine::Total(le::read::<u64>(block, 0)),
         5 => listing::TextLine::Refusal {
-            number: le::u32_at(block, 0),
-            place: le::u32_at(block, 8),
+            number: le::read(block, 0),
+            place: le::read(block, 8),
         },
         _ => listing::TextLine::TooLong,
     }

@@ -22,12 +22,9 @@ use crate::frame::Frame;
 
 fn main() {
     let mut payload = io::large_buffer();
-    let mut cases: u32 = 1000000;
-    while 0 < cases {
-        if one_case(&mut payload) {
-            cases -= 1;
-        } else {
-            cases = 0;
+    for _ in 0..1_000_000 {
+        if !one_case(&mut payload) {
+            break;
         }
     }
 }
@@ -66,14 +63,9 @@ fn run(f: Frame, payload: &[u8]) {
 // A line: the function's number, and the answer's, each after a space.
 fn print(function: u32, answer: Answer) {
     io::print_decimal(1, function as u64);
-    let numbers = answer.numbers;
-    let mut i: usize = 0;
-    while i < 12 {
-        if i < answer.count {
-            io::write_all(1, b" ");
-            io::print_decimal(1, numbers[i]);
-        }
-        i += 1;
+    for n in answer.numbers.iter().take(answer.count) {
+        io::write_all(1, b" ");
+        io::print_decimal(1, *n);
     }
     io::write_all(1, b"\n");
 }

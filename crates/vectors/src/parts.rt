@@ -1,9 +1,9 @@
 // Properties, names and kinds, each by its number.
-ghost use Rattle.std.specs.Prelude.{◌≡◌};
+ghost use Rattle.std.specs.Prelude.{◌≡◌, [], ◌∷◌};
 ghost use Rattle.props.specs.Types.{element_size};
 ghost use Rattle.props.specs.Step.{step_at};
 ghost use Rattle.names.specs.Names.{number_after};
-ghost use Rattle.body.specs.Body.{properties};
+ghost use Rattle.body.specs.Body.{properties, passed_told, stopped_number};
 ghost use Rattle.vectors.specs.Answers.{answered};
 ghost use Rattle.vectors.specs.Parts.{size_line, name_line, numeral_line, parent_of, step_line, index_numbers, part_line};
 
@@ -34,23 +34,20 @@ pub fn run(f: Frame, first: &[u8], second: &[u8]) -> Answer
 }
 
 // A parent is one more than its kind, and none is 0.
-fn above(parent: u64) -> kinds::Parent
+fn above(parent: u64) -> Option<u32>
     ensures { result ≡ parent_of parent }
 {
-    if parent == 0 {
-        return kinds::Parent::None;
-    }
-    let kind = ((parent - 1) % 4294967296) as u32;
-    kinds::Parent::Kind(kind)
+    let kind = parent.checked_sub(1)?;
+    Some((kind % 4294967296) as u32)
 }
 
 fn element(code: u16) -> Answer
     ensures { result ≡ answered (size_line (element_size code)) }
 {
     match props::element_size(code) {
-        props::Size::Bytes(n) => Answer::two(1, n as u64),
-        props::Size::Text => Answer::two(2, 0),
-        props::Size::NoSuch => Answer::two(0, 0),
+        Some(props::Size::Bytes(n)) => Answer::of(&[1, n as u64]),
+        Some(props::Size::Text) => Answer::of(&[2, 0]),
+        None => Answer::of(&[0, 0]),
     }
 }
 
@@ -69,8 +66,8 @@ fn numbered(name: &[u8], prefix: &[u8]) -> Answer
     ensures { result ≡ answered (numeral_line (number_after name.now prefix.now)) }
 {
     match names::number_after(name, prefix) {
-        names::Numeral::Is(n) => Answer::two(1, n as u64),
-        names::Numeral::Not => Answer::two(0, 0),
+        Some(n) => Answer::of(&[1, n as u64]),
+        None => Answer::of(&[0, 0]),
     }
 }
 
@@ -79,13 +76,34 @@ fn step(body: &[u8], at: usize) -> Answer
 {
     let cursor = props::Cursor { at };
     match cursor.step(body) {
-        props::Step::Past { offsets, next } => {
-            let name = offsets.name;
-            let start = offsets.start;
-            let end = next.at;
-            Answer::four(0, name as u64, start as u64, end as u64)
-        }
-        props::Step::Refused(number) => Answer::four(number as u64, 0, 0, 0),
+        Ok(passed) => Answer::of(&[
+            0,
+            passed.offsets.name as u64,
+            passed.offsets.start as u64,
+            passed.next.at as u64,
+        ]),
+        Err(why) => Answer::of(&[why.number() as u64, 0, 0, 0]),
+    }
+}
+
+// The number of what a walk over properties stopped at; 0 where it did not stop.
+fn stopped(why: Option<base::Reason>) -> u64
+    ensures { result ≡ stopped_number why }
+{
+    match why {
+        Some(why) => why.number() as u64,
+        None => 0,
+    }
+}
+
+// The number and the place of how a walk over properties ended.
+fn ended(passed: Result<usize, base::Refusal>) -> (u32, usize)
+    ensures number { result.0 ≡ (passed_told passed).number }
+    ensures place { result.1 ≡ (passed_told passed).at }
+{
+    match passed {
+        Ok(at) => (0, at),
+        Err(refusal) => (refusal.reason.number(), refusal.place),
     }
 }
 
@@ -93,14 +111,13 @@ fn index(body: &[u8], count: u32) -> Answer
     ensures { result ≡ answered (index_numbers (properties body.now count)) }
 {
     let index = body::index_of(body, count);
-    let passed = body::pass(body, count);
+    let (number, at) = ended(body::pass(body, count));
     let starts = index.starts;
-    let sum = buffers::places_checksum(&starts[..]);
-    Answer::four(
-        index.number as u64,
+    Answer::of(&[
+        stopped(index.stopped),
         index.count as u64,
-        passed.number as u64,
-        passed.at as u64,
-    )
-    .push(sum)
+        number as u64,
+        at as u64,
+        buffers::checksum(&starts[..]),
+    ])
 }

@@ -1,5 +1,6 @@
 // The table, and the lookup that goes by one.
 ghost use Rattle.std.specs.Prelude.{◌≡◌, length};
+ghost use Rattle.lookup.specs.Lookup.{found_told};
 ghost use Rattle.vectors.specs.Answers.{answered};
 ghost use Rattle.vectors.specs.Buffers.{numbers_in};
 ghost use Rattle.vectors.specs.Rows.{row_in, seen_numbers, row_table, table_line, found_numbers, lookup_numbers, query_line, row_line};
@@ -7,6 +8,7 @@ ghost use Rattle.vectors.specs.Rows.{row_in, seen_numbers, row_table, table_line
 use crate::answer::Answer;
 use crate::frame::Frame;
 use crate::{answer, buffers};
+use std::ops::Range;
 
 // 19: the table in the first block; row x read, then put from the second block, then all rows cleared.
 // 20: bytes in the first block; y numbers of a table and then a name in the second; row x.
@@ -38,9 +40,9 @@ fn lent(table: &mut [u32], row: usize, numbers: &[u8], fields: &[u8]) -> Answer
     buffers::numbers(table, numbers);
     let seen = seen(table, row);
     table::put_row(table, row, parsed(fields));
-    let put = buffers::numbers_checksum(table);
+    let put = buffers::checksum(table);
     table::clear(table);
-    seen.push_two(put, buffers::numbers_checksum(table))
+    seen.extend(&[put, buffers::checksum(table)])
 }
 
 // Whether the row is there, its numbers, and whether the table has room.
@@ -50,13 +52,13 @@ fn seen(table: &[u32], row: usize) -> Answer
     let there = Answer::truth(table::has_row(table, row));
     let r = table::row_at(table, row);
     there
-        .push_four(r.kind as u64, r.low as u64, r.high as u64, r.parent as u64)
-        .push_four(
+        .extend(&[r.kind as u64, r.low as u64, r.high as u64, r.parent as u64])
+        .extend(&[
             r.start as u64,
             r.end as u64,
             r.properties as u64,
             r.children as u64,
-        )
+        ])
         .push(answer::bit(table::has_room(table)))
 }
 
@@ -65,14 +67,14 @@ pub fn parsed(fields: &[u8]) -> table::Row
     ensures { result ≡ row_in fields.now }
 {
     table::Row {
-        kind: le::u32_at(fields, 0),
-        low: le::u32_at(fields, 4),
-        high: le::u32_at(fields, 8),
-        parent: le::u32_at(fields, 12),
-        start: le::u32_at(fields, 16),
-        end: le::u32_at(fields, 20),
-        properties: le::u32_at(fields, 24),
-        children: le::u32_at(fields, 28),
+        kind: le::read(fields, 0),
+        low: le::read(fields, 4),
+        high: le::read(fields, 8),
+        parent: le::read(fields, 12),
+        start: le::read(fields, 16),
+        end: le::read(fields, 20),
+        properties: le::read(fields, 24),
+        children: le::read(fields, 28),
     }
 }
 
@@ -107,17 +109,11 @@ fn found(bytes: &[u8], table: &[u32], row: usize, name: &[u8]) -> Answer
 }
 
 // The refusal's number, a place of 0, and where the data lies.
-fn place(found: lookup::Found) -> Answer
-    ensures { result ≡ answered (found_numbers found) }
+fn place(found: Result<Range<usize>, base::Reason>) -> Answer
+    ensures { result ≡ answered (found_numbers (found_told found)) }
 {
-    let number = lookup::number(found);
     match found {
-        lookup::Found::At { start, end } => Answer::four(
-            number as u64,
-            0,
-            start as u64,
-            end as u64,
-        ),
-        lookup::Found::Refused(_) => Answer::four(number as u64, 0, 0, 0),
+        Ok(found) => Answer::of(&[0, 0, found.start as u64, found.end as u64]),
+        Err(why) => Answer::of(&[why.number() as u64, 0, 0, 0]),
     }
 }

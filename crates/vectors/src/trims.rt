@@ -14,7 +14,7 @@ pub fn run(f: Frame, out: &mut [u8], file: &[u8], second: &[u8]) -> Answer
     ensures result { result ≡ answered (trim_line f file.now second.now (length out.old)) }
     ensures output { out.new ≡ trim_output f file.now second.now out.old }
 {
-    let n = le::u32_at(second, 0) as usize;
+    let n = le::read::<u32>(second, 0) as usize;
     if 8300 < n {
         return Answer::none();
     }
@@ -27,5 +27,5 @@ fn lent(row: usize, out: &mut [u8], file: &[u8], table: &mut [u32]) -> Answer
     ensures output { out.new ≡ trimmed_output file.now row table.old out.old }
 {
     let written = trimmer::trim(file, row, table, out);
-    writes::with_written(Answer::none(), written).push(buffers::numbers_checksum(table))
+    writes::with_written(Answer::none(), written).push(buffers::checksum(table))
 }

@@ -12,7 +12,7 @@ pub fn run(table: &mut [u32], file: &[u8]) -> Answer
     ensures table { table.new ≡ walk_table file.now table.old }
 {
     if !table::has_room(table) {
-        return Answer::four(1, 0, 0, 0);
+        return Answer::of(&[1, 0, 0, 0]);
     }
     table::clear(table);
     walked(table, file)
@@ -22,21 +22,11 @@ fn walked(table: &mut [u32], file: &[u8]) -> Answer
     ensures result { result ≡ answered (walked_numbers (answer file.now)) }
     ensures table { table.new ≡ walked_table file.now table.old }
 {
-    let w = walk::walk(file, table);
-    if w.number == 0 {
-        return shown(w);
+    match walk::walk(file, table) {
+        Ok(w) => Answer::of(&[0, 0, w.nodes as u64, w.flags as u64]),
+        Err(refusal) => {
+            table::clear(table);
+            Answer::of(&[refusal.reason.number() as u64, refusal.place as u64, 0, 0])
+        }
     }
-    table::clear(table);
-    shown(w)
-}
-
-fn shown(w: walk::Answer) -> Answer
-    ensures { result ≡ answered (walked_numbers w) }
-{
-    Answer::four(
-        w.number as u64,
-        w.place as u64,
-        w.nodes as u64,
-        w.flags as u64,
-    )
 }

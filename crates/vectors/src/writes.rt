@@ -1,5 +1,6 @@
 // The writer, and its two parts, over a lent plan and a lent output.
 ghost use Rattle.std.specs.Prelude.{◌≡◌, length};
+ghost use Rattle.emit.specs.Emission.{written_told};
 ghost use Rattle.vectors.specs.Answers.{answered, extended};
 ghost use Rattle.vectors.specs.Buffers.{numbers_in};
 ghost use Rattle.vectors.specs.Writes.{written_numbers, parts_numbers, parts_output, plan_numbers, plan_output, write_numbers, write_output};
@@ -46,18 +47,24 @@ fn parts(rows: usize, flags: u32, out: &mut [u8], source: &[u8], plan: &[u32]) -
     ensures result { result ≡ answered (parts_numbers plan.now rows flags source.now (length out.old)) }
     ensures output { out.new ≡ parts_output plan.now rows flags source.now out.old }
 {
-    let refusal = plan::plan_refusal(plan, rows, source);
-    let answer = Answer::two(refusal.number as u64, refusal.place as u64);
-    if refusal.number != 0 {
-        return answer.push_two(0, 0).push(0);
+    match plan::check(plan, rows, source) {
+        Ok(()) => with_written(
+            Answer::of(&[0, 0]),
+            emit::emit(plan, rows, source, flags, out),
+        ),
+        Err(refusal) => Answer::of(&[refusal.reason.number() as u64, refusal.place as u64])
+            .extend(&[0, 0])
+            .push(0),
     }
-    with_written(answer, emit::emit(plan, rows, source, flags, out))
 }
 
-pub fn with_written(answer: Answer, w: emit::Written) -> Answer
-    ensures { result ≡ extended answer (written_numbers w) }
+pub fn with_written(answer: Answer, w: Result<u32, base::Refusal>) -> Answer
+    ensures { result ≡ extended answer (written_numbers (written_told w)) }
 {
-    answer
-        .push_two(w.number as u64, w.place as u64)
-        .push(w.length as u64)
+    match w {
+        Ok(length) => answer.extend(&[0, 0]).push(length as u64),
+        Err(refusal) => answer
+            .extend(&[refusal.reason.number() as u64, refusal.place as u64])
+            .push(0),
+    }
 }

@@ -1,4 +1,5 @@
 -- Complete: the bytes of a well-formed forest walk to that forest, or to 6 or 7.
+use Rattle.std.specs.Prelude.{Option, Some, None}
 use Prim.Native.Nat.{ℕ, suc, ◌+◌, ◌-◌, ◌≤◌, ◌<◌}
 use native.Mathlib.Omega.{arith}
 use mathlib.Core.Path.{◌≡◌, refl, ap, sym, ◌∙◌, subst}
@@ -9,8 +10,6 @@ use lib.Dec.{leb}
 use lib.ListN.{length, take, drop, length-append}
 use lib.Seq.{take_at, drop_at, drop-append_seam}
 use borrow.Author.Tests.{le-ltb, le-leb}
-use Rattle.kinds.specs.declared.Parent.{Parent}
-use Rattle.kinds.specs.declared.Parent.TheVariants.{None, Kind}
 use Rattle.kinds.specs.Kinds.{may_stand}
 use Rattle.table.specs.declared.Row.{Row}
 use Rattle.table.specs.Table.{no_parent}
@@ -26,7 +25,7 @@ use Rattle.walk.proofs.Laws.{node_unknown, node_passed, list_done}
 use Rattle.walk.proofs.Outcomes.{headed, header_at_lem, verdict, Shallow, shallow_most, shallow_below, Whole, Bars, bars_more, told, Barred, Outcome, list_barred, Begins, list_on, judged}
 
 -- ---- an unknown node, and those next to it
-module _ (parent : Parent) (above depth at row : ℕ) (k h p c : ℕ) (rest : List ℕ) (next : Forest) (wf : WellFormed (unknown k h p c rest next))
+module _ (parent : Option ℕ) (above depth at row : ℕ) (k h p c : ℕ) (rest : List ℕ) (next : Forest) (wf : WellFormed (unknown k h p c rest next))
     (sh : Shallow parent depth) where
   abbrev unknown_size : ℕ
   unknown_size = 24 + length rest
@@ -70,7 +69,7 @@ module _ (parent : Parent) (above depth at row : ℕ) (k h p c : ℕ) (rest : Li
       (o q))
 
 -- ---- a known node, the nodes below it, and those next to it
-module _ (parent : Parent) (above depth at row : ℕ) (k h p : ℕ) (body : List ℕ) (kids next : Forest) (wf : WellFormed (known k h p body kids next))
+module _ (parent : Option ℕ) (above depth at row : ℕ) (k h p : ℕ) (body : List ℕ) (kids next : Forest) (wf : WellFormed (known k h p body kids next))
     (sh : Shallow parent depth) where
   abbrev known_size : ℕ
   known_size = 24 + length body + length (encode kids)
@@ -95,7 +94,7 @@ module _ (parent : Parent) (above depth at row : ℕ) (k h p : ℕ) (body : List
   known_listed : length (rows kids row (row + 1) (at + 24 + length body)) ≡ nodes kids
   known_listed = length_rows kids row (row + 1) (at + 24 + length body)
 
-  known_begins : may_stand parent k ≡ true → Placed (Kind k) kids
+  known_begins : may_stand parent k ≡ true → Placed (Some k) kids
       → Begins parent above at row known_bytes (known k h p body kids next) next known_size known_rows
   known_begins m below =
       record {
@@ -111,7 +110,7 @@ module _ (parent : Parent) (above depth at row : ℕ) (k h p : ℕ) (body : List
       }
 
   abbrev below : Walked
-  below = children_at (Kind k) row (depth + 1) (count kids) (at + 24 + length body) (row + 1) (encode kids)
+  below = children_at (Some k) row (depth + 1) (count kids) (at + 24 + length body) (row + 1) (encode kids)
 
   known_inside : take (known_size - 24) (drop 24 known_bytes) ≡ body ++ encode kids
   known_inside =
@@ -128,7 +127,7 @@ module _ (parent : Parent) (above depth at row : ℕ) (k h p : ℕ) (body : List
       node_passed parent above depth at row known_bytes known_head (rw known_head at e) wf.0 (rw known_inside good.0)
       ∙ rw (known_inside, good.1, drop-append_seam body (encode kids))
 
-  known_outcome : (may_stand parent k ≡ true → row < 1024 → Outcome (Kind k) row (at + 24 + length body) (row + 1) kids below)
+  known_outcome : (may_stand parent k ≡ true → row < 1024 → Outcome (Some k) row (at + 24 + length body) (row + 1) kids below)
       → (row + length known_rows ≤ 1024 → Outcome parent above (at + known_size) (row + length known_rows) next
       (children_at parent above depth (count next) (at + known_size) (row + length known_rows) (encode next)))
       → Outcome parent above at row (known k h p body kids next) (children_at parent above depth (suc (count next)) at row known_bytes)
@@ -138,7 +137,7 @@ module _ (parent : Parent) (above depth at row : ℕ) (k h p : ℕ) (body : List
     where
       by : may_stand parent k ≡ true → node_at parent above depth at row known_bytes
           ≡ after_rows (node_row k h above (at + 24) (at + 24 + length body) p (count kids) ∷ []) below
-          → Outcome (Kind k) row (at + 24 + length body) (row + 1) kids below
+          → Outcome (Some k) row (at + 24 + length body) (row + 1) kids below
           → Outcome parent above at row (known k h p body kids next) (children_at parent above depth (suc (count next)) at row known_bytes)
       by m e (inl o) =
           let far : at + 24 + length body + length (encode kids) ≡ at + known_size = omega arith in
@@ -151,7 +150,7 @@ module _ (parent : Parent) (above depth at row : ℕ) (k h p : ℕ) (body : List
           (λ q n. o.barred q.1 (omega (arith, n)))
 
 -- ---- any nodes
-list_complete : (f : Forest) (parent : Parent) (above depth at row : ℕ) → WellFormed f → Shallow parent depth → row ≤ 1024
+list_complete : (f : Forest) (parent : Option ℕ) (above depth at row : ℕ) → WellFormed f → Shallow parent depth → row ≤ 1024
     → Outcome parent above at row f (children_at parent above depth (count f) at row (encode f))
 list_complete end parent above depth at row wf sh r =
     let here : at + 0 ≡ at = omega arith in
@@ -161,7 +160,7 @@ list_complete (unknown k h p c rest next) parent above depth at row wf sh r =
     (λ q. list_complete next parent above depth (at + (24 + length rest)) (row + 1) wf.3 sh (omega (arith, q)))
 list_complete (known k h p body kids next) parent above depth at row wf sh r =
     known_outcome parent above depth at row k h p body kids next wf sh
-    (λ m q. list_complete kids (Kind k) row (depth + 1) (at + 24 + length body) (row + 1) wf.4 (shallow_below parent k depth wf.0 m sh)
+    (λ m q. list_complete kids (Some k) row (depth + 1) (at + 24 + length body) (row + 1) wf.4 (shallow_below parent k depth wf.0 m sh)
     (omega (arith, q)))
     (λ q. list_complete next parent above depth (at + (24 + length body + length (encode kids))) _ wf.5 sh q)
 

@@ -1,4 +1,5 @@
 -- No bytes are refused for depth (8): the kinds end before, and no other stage gives that number.
+use Rattle.std.specs.Prelude.{Option, Some, None}
 use Prim.Native.Nat.{ℕ, zero, suc, ◌+◌, ◌-◌, ◌≤◌}
 use native.Mathlib.Omega.{arith}
 use mathlib.Core.Path.{◌≡◌}
@@ -11,12 +12,10 @@ use Rattle.le.specs.Le.{number_at}
 use Rattle.base.proofs.Refusals.{by_refusal}
 use Rattle.base.proofs.Tests.{by_test}
 use Rattle.names.specs.Names.{size_ok, bytes_ok}
-use Rattle.kinds.specs.declared.Parent.{Parent}
-use Rattle.kinds.specs.declared.Parent.TheVariants.{None, Kind}
 use Rattle.kinds.specs.Kinds.{is_known, may_stand}
 use Rattle.table.specs.Table.{no_parent}
-use Rattle.props.specs.declared.Step.{Step}
-use Rattle.props.specs.declared.Step.TheVariants.{Past, Refused}
+use Rattle.props.specs.Step.{Step}
+use Rattle.props.specs.Step.{Past, Refused}
 use Rattle.props.specs.Types.{element_size, no_such}
 use Rattle.props.specs.Step.{length_ok, data_size, code_at, size_at, length_at, name_at, start_at, step_at}
 use Rattle.body.specs.Body.{by_step, pass, properties}
@@ -86,7 +85,7 @@ unfolding and_then
 then_not w next h g = by_refusal OfWalk w.number w (after_rows w.rows (next w.at (length w.rows))) (λ r. h) (λ z. g w.at (length w.rows))
 
 -- ---- a node's header
-module _ (h : Header) (room : ℕ) (parent : Parent) (row depth : ℕ) where
+module _ (h : Header) (room : ℕ) (parent : Option ℕ) (row depth : ℕ) where
   refusal_not : depth ≤ 8 → Not8 (node_refusal h room parent row depth)
   unfolding node_refusal
   refusal_not d =
@@ -107,7 +106,7 @@ module _ (h : Header) (room : ℕ) (parent : Parent) (row depth : ℕ) where
 mutual
   unfolding node
 
-  node_not : (n : ℕ) (parent : Parent) (above depth at row : ℕ) (bs : List ℕ) → Shallow parent depth → OfWalk (node n parent above depth at row bs)
+  node_not : (n : ℕ) (parent : Option ℕ) (above depth at row : ℕ) (bs : List ℕ) → Shallow parent depth → OfWalk (node n parent above depth at row bs)
   node_not zero parent above depth at row bs d = λ e. omega (arith, e)
   node_not (suc n) parent above depth at row bs d =
       let h = header_at bs in
@@ -116,11 +115,11 @@ mutual
       (λ right. by_test (is_known h.kind)
       (λ t. rw t
       (by_refusal OfWalk p.number _ _ (λ r. properties_not (inside h bs) h.properties)
-      (λ good. children_not n (Kind h.kind) row (depth + 1) h.children (at + 24 + p.at) (row + 1) (drop p.at (inside h bs))
+      (λ good. children_not n (Some h.kind) row (depth + 1) h.children (at + 24 + p.at) (row + 1) (drop p.at (inside h bs))
       (shallow_below parent h.kind depth t (stands h (length bs) parent row depth right) d))))
       (λ t. rw t none))
 
-  children_not : (n : ℕ) (parent : Parent) (above depth count at row : ℕ) (bs : List ℕ) → Shallow parent depth
+  children_not : (n : ℕ) (parent : Option ℕ) (above depth count at row : ℕ) (bs : List ℕ) → Shallow parent depth
       → OfWalk (children n parent above depth count at row bs)
   children_not zero parent above depth count at row bs d = λ e. omega (arith, e)
   children_not (suc n) parent above depth zero at row bs d = by_test (ltb 0 (length bs)) (λ t. rw t (λ e. omega (arith, e))) (λ t. rw t none)

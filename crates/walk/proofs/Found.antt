@@ -1,4 +1,5 @@
 -- Nodes that were walked: a list of them is a forest, made of its first node and the others.
+use Rattle.std.specs.Prelude.{Option, Some}
 use Prim.Native.Nat.{ℕ, zero, suc, ◌+◌, ◌-◌, ◌≤◌, ◌<◌}
 use native.Mathlib.Omega.{arith}
 use mathlib.Core.Path.{◌≡◌, refl, ap, sym, ◌∙◌, subst}
@@ -7,8 +8,6 @@ use mathlib.Core.List.{List, [], ◌∷◌, ◌++◌}
 use lib.ListN.{length, take, drop, take-append-drop, length-drop}
 use Rattle.le.specs.Le.{AreBytes}
 use Rattle.le.proofs.Laws.{bytes_drop}
-use Rattle.kinds.specs.declared.Parent.{Parent}
-use Rattle.kinds.specs.declared.Parent.TheVariants.{Kind}
 use Rattle.kinds.specs.Kinds.{is_known, may_stand}
 use Rattle.format.specs.Forest.{Forest, end, known, unknown, count, nodes, encode, header}
 use Rattle.format.specs.Rows.{node_row, rows}
@@ -19,7 +18,7 @@ use Rattle.walk.proofs.Laws.{list_over, list_done, list_next, list_first}
 
 -- ---- the nodes of a list, and the first of them
 -- c nodes fill the bytes
-pub record Nodes (parent : Parent) (above c at row : ℕ) (bs : List ℕ) (w : Walked) : Type 0 where
+pub record Nodes (parent : Option ℕ) (above c at row : ℕ) (bs : List ℕ) (w : Walked) : Type 0 where
   pub forest : Forest
   pub bytes : bs ≡ encode forest
   pub counted : count forest ≡ c
@@ -30,7 +29,7 @@ pub record Nodes (parent : Parent) (above c at row : ℕ) (bs : List ℕ) (w : W
   pub walked : w.rows ≡ rows forest above row at
 
 -- one node is at their start, and any others may come next to it
-pub record First (parent : Parent) (above at row : ℕ) (bs : List ℕ) (w : Walked) : Type 0 where
+pub record First (parent : Option ℕ) (above at row : ℕ) (bs : List ℕ) (w : Walked) : Type 0 where
   pub before : Forest → Forest
   pub size : ℕ
   pub fits : size ≤ length bs
@@ -43,7 +42,7 @@ pub record First (parent : Parent) (above at row : ℕ) (bs : List ℕ) (w : Wal
   pub numbered : (next : Forest) → nodes (before next) ≡ length w.rows + nodes next
   pub walked : (next : Forest) → w.rows ++ rows next above (row + length w.rows) w.at ≡ rows (before next) above row at
 
-module _ (parent : Parent) (above at row : ℕ) (bs : List ℕ) (k s h p c : ℕ) (stands : may_stand parent k ≡ true) (fits : Fits k s h p c)
+module _ (parent : Option ℕ) (above at row : ℕ) (bs : List ℕ) (k s h p c : ℕ) (stands : may_stand parent k ≡ true) (fits : Fits k s h p c)
     (within : s ≤ length bs) where
   pub unknown_first : (rest : List ℕ) → is_known k ≡ false → AreBytes rest → 24 + length rest ≡ s → row < 1024
       → ((x : List ℕ) → take s bs ++ x ≡ header k s h p c ++ (rest ++ x))
@@ -63,7 +62,7 @@ module _ (parent : Parent) (above at row : ℕ) (bs : List ℕ) (k s h p c : ℕ
         walked = λ next. rows_unknown k h p next above row at s c rest e;
       }
 
-  pub known_first : (body : List ℕ) (kids : Forest) → is_known k ≡ true → AreBytes body → GoodBody p body → WellFormed kids → Placed (Kind k) kids
+  pub known_first : (body : List ℕ) (kids : Forest) → is_known k ≡ true → AreBytes body → GoodBody p body → WellFormed kids → Placed (Some k) kids
       → count kids ≡ c → 24 + length body + length (encode kids) ≡ s → row + 1 + nodes kids ≤ 1024
       → ((x : List ℕ) → take s bs ++ x ≡ header k s h p c ++ (body ++ (encode kids ++ x)))
       → First parent above at row bs
@@ -90,7 +89,7 @@ module _ (parent : Parent) (above at row : ℕ) (bs : List ℕ) (k s h p c : ℕ
       }
 
 -- ---- a list, from its first node and the rest
-list_none : (parent : Parent) (above depth at row : ℕ) (bs : List ℕ) → row ≤ 1024 → (children_at parent above depth 0 at row bs).number ≡ 0
+list_none : (parent : Option ℕ) (above depth at row : ℕ) (bs : List ℕ) → row ≤ 1024 → (children_at parent above depth 0 at row bs).number ≡ 0
     → Nodes parent above 0 at row bs (children_at parent above depth 0 at row bs)
 list_none parent above depth at row [] r e =
     rw (list_done parent above depth at row [] (omega arith))
@@ -98,7 +97,7 @@ list_none parent above depth at row [] r e =
 list_none parent above depth at row (b ∷ bs) r e =
     absurd (omega (arith, sym (ap (λ w. w.number) (list_over parent above depth at row (b ∷ bs) (omega arith))) ∙ e))
 
-list_more : (parent : Parent) (above c at row : ℕ) (bs : List ℕ) (v w : Walked) → (f : First parent above at row bs v)
+list_more : (parent : Option ℕ) (above c at row : ℕ) (bs : List ℕ) (v w : Walked) → (f : First parent above at row bs v)
     → Nodes parent above c v.at (row + length v.rows) (drop (v.at - at) bs) w → Nodes parent above (suc c) at row bs (after_rows v.rows w)
 list_more parent above c at row bs v w f n =
     let taken : v.at - at ≡ f.size = omega (arith, f.reached) in
@@ -116,10 +115,10 @@ list_more parent above c at row bs v w f n =
 
 -- a node that is walked is one
 abbrev pub NodeSound : ℕ → Type 0
-NodeSound n = (parent : Parent) (above depth at row : ℕ) (bs : List ℕ) → length bs ≤ n → AreBytes bs
+NodeSound n = (parent : Option ℕ) (above depth at row : ℕ) (bs : List ℕ) → length bs ≤ n → AreBytes bs
     → (node_at parent above depth at row bs).number ≡ 0 → First parent above at row bs (node_at parent above depth at row bs)
 
-pub list_sound : (n : ℕ) → NodeSound n → (parent : Parent) (above depth c at row : ℕ) (bs : List ℕ) → length bs ≤ n → AreBytes bs → row ≤ 1024
+pub list_sound : (n : ℕ) → NodeSound n → (parent : Option ℕ) (above depth c at row : ℕ) (bs : List ℕ) → length bs ≤ n → AreBytes bs → row ≤ 1024
     → (children_at parent above depth c at row bs).number ≡ 0 → Nodes parent above c at row bs (children_at parent above depth c at row bs)
 list_sound n one parent above depth zero at row bs l y r e = list_none parent above depth at row bs r e
 list_sound n one parent above depth (suc c) at row bs l y r e =

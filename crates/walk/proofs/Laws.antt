@@ -1,4 +1,5 @@
 -- The walk's own laws: its bound never speaks; and what each case of a node comes to.
+use Rattle.std.specs.Prelude.{Option, Some}
 use Prim.Native.Nat.{ℕ, zero, suc, ◌+◌, ◌-◌, ◌≤◌, ◌<◌}
 use native.Mathlib.Omega.{arith}
 use mathlib.Core.Path.{◌≡◌, refl, ap, sym, ◌∙◌}
@@ -10,8 +11,6 @@ use borrow.Author.Tests.{lt-ltb, le-ltb, ltb-true, ltb-false}
 use Rattle.base.specs.Refusals.{refused_or}
 use Rattle.base.proofs.Refusals.{goes_on, is_refused, by_refusal}
 use Rattle.base.proofs.Tests.{by_test}
-use Rattle.kinds.specs.declared.Parent.{Parent}
-use Rattle.kinds.specs.declared.Parent.TheVariants.{Kind}
 use Rattle.kinds.specs.Kinds.{is_known}
 use Rattle.body.specs.Body.{PropertyWalk, properties}
 use Rattle.walk.specs.declared.Header.{Header}
@@ -31,7 +30,7 @@ then_onward at w next h g =
 mutual
   unfolding node
 
-  node_onward : (n : ℕ) (parent : Parent) (above depth at row : ℕ) (bs : List ℕ) → Onward (at + 24) (node n parent above depth at row bs)
+  node_onward : (n : ℕ) (parent : Option ℕ) (above depth at row : ℕ) (bs : List ℕ) → Onward (at + 24) (node n parent above depth at row bs)
   node_onward zero parent above depth at row bs = λ z. absurd (omega (arith, z))
   node_onward (suc n) parent above depth at row bs =
       let h = header_at bs in
@@ -40,10 +39,10 @@ mutual
       (λ right. by_test (is_known h.kind)
       (λ t. rw t
       (by_refusal (Onward (at + 24)) p.number _ _ (λ r z. absurd (r z))
-      (λ good z. omega (arith, children_onward n (Kind h.kind) row (depth + 1) h.children (at + 24 + p.at) (row + 1) (drop p.at (inside h bs)) z))))
+      (λ good z. omega (arith, children_onward n (Some h.kind) row (depth + 1) h.children (at + 24 + p.at) (row + 1) (drop p.at (inside h bs)) z))))
       (λ t. rw t (λ z. omega (arith, (passes h (length bs) parent row depth right).own))))
 
-  children_onward : (n : ℕ) (parent : Parent) (above depth count at row : ℕ) (bs : List ℕ) → Onward at (children n parent above depth count at row bs)
+  children_onward : (n : ℕ) (parent : Option ℕ) (above depth count at row : ℕ) (bs : List ℕ) → Onward at (children n parent above depth count at row bs)
   children_onward zero parent above depth count at row bs = λ z. absurd (omega (arith, z))
   children_onward (suc n) parent above depth zero at row bs = by_test (ltb 0 (length bs)) (λ t. rw t (λ z. absurd (omega (arith, z)))) (λ t. rw t (λ z. omega arith))
   children_onward (suc n) parent above depth (suc k) at row bs =
@@ -52,12 +51,12 @@ mutual
 
 -- ---- any bound will do that is greater than the number of bytes; for a node, also one that is equal to it
 -- under 24 bytes
-no_header : (n : ℕ) (parent : Parent) (above depth at row : ℕ) (bs : List ℕ) → length bs < 24 → node n parent above depth at row bs ≡ refused_walk 5 at
+no_header : (n : ℕ) (parent : Option ℕ) (above depth at row : ℕ) (bs : List ℕ) → length bs < 24 → node n parent above depth at row bs ≡ refused_walk 5 at
 unfolding node node_refusal
 no_header zero parent above depth at row bs l = refl
 no_header (suc n) parent above depth at row bs l = rw (lt-ltb (length bs) 24 l)
 
-some_bytes : (n : ℕ) (parent : Parent) (above depth at row : ℕ) (bs : List ℕ) → (node n parent above depth at row bs).number ≡ 0 → 24 ≤ length bs
+some_bytes : (n : ℕ) (parent : Option ℕ) (above depth at row : ℕ) (bs : List ℕ) → (node n parent above depth at row bs).number ≡ 0 → 24 ≤ length bs
 some_bytes n parent above depth at row bs z =
     by_test (ltb (length bs) 24)
     (λ t. absurd (omega (arith, sym (ap (λ w. w.number) (no_header n parent above depth at row bs (ltb-true _ _ t))) ∙ z))) (ltb-false _ _)
@@ -77,7 +76,7 @@ then_same w f g = by w.number
 mutual
   unfolding node
 
-  node_same : (n m : ℕ) (parent : Parent) (above depth at row : ℕ) (bs : List ℕ) → length bs ≤ n → length bs ≤ m
+  node_same : (n m : ℕ) (parent : Option ℕ) (above depth at row : ℕ) (bs : List ℕ) → length bs ≤ n → length bs ≤ m
       → node n parent above depth at row bs ≡ node m parent above depth at row bs
   node_same zero m parent above depth at row bs l k = sym (no_header m parent above depth at row bs (omega arith))
   node_same (suc n) zero parent above depth at row bs l k = no_header (suc n) parent above depth at row bs (omega arith)
@@ -87,10 +86,10 @@ mutual
       by_test (ltb (length bs) 24)
       (λ t. no_header (suc n) parent above depth at row bs (ltb-true _ _ t) ∙ sym (no_header (suc m) parent above depth at row bs (ltb-true _ _ t)))
       (λ t. let short = length_below h bs p.at in
-      rw (children_same n m (Kind h.kind) row (depth + 1) h.children (at + 24 + p.at) (row + 1) (drop p.at (inside h bs))
+      rw (children_same n m (Some h.kind) row (depth + 1) h.children (at + 24 + p.at) (row + 1) (drop p.at (inside h bs))
       (omega (arith, short, ltb-false (length bs) 24 t)) (omega (arith, short, ltb-false (length bs) 24 t))))
 
-  children_same : (n m : ℕ) (parent : Parent) (above depth count at row : ℕ) (bs : List ℕ) → length bs < n → length bs < m
+  children_same : (n m : ℕ) (parent : Option ℕ) (above depth count at row : ℕ) (bs : List ℕ) → length bs < n → length bs < m
       → children n parent above depth count at row bs ≡ children m parent above depth count at row bs
   children_same zero m parent above depth count at row bs l k = absurd (omega arith)
   children_same (suc n) zero parent above depth count at row bs l k = absurd (omega arith)
@@ -116,11 +115,11 @@ unfolding limited
 limited_is s = (λ h. rw (le-ltb 16777216 (length s) h), λ h. rw (lt-ltb 16777216 (length s) h))
 
 -- ---- the cases of a node: no header, or this one
-pub node_short : (parent : Parent) (above depth at row : ℕ) (bs : List ℕ) → length bs < 24 → node_at parent above depth at row bs ≡ refused_walk 5 at
+pub node_short : (parent : Option ℕ) (above depth at row : ℕ) (bs : List ℕ) → length bs < 24 → node_at parent above depth at row bs ≡ refused_walk 5 at
 unfolding node_at
 node_short parent above depth at row bs = no_header (suc (length bs)) parent above depth at row bs
 
-module _ (parent : Parent) (above depth at row : ℕ) (bs : List ℕ) {h : Header} (is : header_at bs ≡ h) where
+module _ (parent : Option ℕ) (above depth at row : ℕ) (bs : List ℕ) {h : Header} (is : header_at bs ≡ h) where
   pub node_refused : {n : ℕ} → node_refusal h (length bs) parent row depth ≡ n → (n ≡ 0 → ⊥) → node_at parent above depth at row bs ≡ refused_walk n at
   unfolding node_at node
   node_refused {n} e z = rw (is, e) (is_refused n _ _ z)
@@ -142,17 +141,17 @@ module _ (parent : Parent) (above depth at row : ℕ) (bs : List ℕ) {h : Heade
 
       pub node_passed : p.number ≡ 0 → node_at parent above depth at row bs
           ≡ after_rows (row_of_header h above (at + 24) (at + 24 + p.at) ∷ [])
-          (children_at (Kind h.kind) row (depth + 1) h.children (at + 24 + p.at) (row + 1) (drop p.at (inside h bs)))
+          (children_at (Some h.kind) row (depth + 1) h.children (at + 24 + p.at) (row + 1) (drop p.at (inside h bs)))
       unfolding node_at node
       node_passed e =
           let room = passes h (length bs) parent row depth right in
           rw (is, right, known, e)
           (ap (after_rows (row_of_header h above (at + 24) (at + 24 + p.at) ∷ []))
-          (unbounded (length bs) (Kind h.kind) row (depth + 1) h.children (at + 24 + p.at) (row + 1) (drop p.at (inside h bs))
+          (unbounded (length bs) (Some h.kind) row (depth + 1) h.children (at + 24 + p.at) (row + 1) (drop p.at (inside h bs))
           (omega (arith, room.own, room.within, length_below h bs p.at))).1)
 
 -- ---- the cases of a list of nodes
-module _ (parent : Parent) (above depth at row : ℕ) (bs : List ℕ) where
+module _ (parent : Option ℕ) (above depth at row : ℕ) (bs : List ℕ) where
   -- none are left
   pub list_over : 0 < length bs → children_at parent above depth 0 at row bs ≡ refused_walk 12 at
   unfolding children_at children

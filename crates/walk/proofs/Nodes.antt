@@ -1,4 +1,5 @@
 -- What the walk over one node promises, in each of its cases, from what was read of it.
+use Rattle.std.specs.Prelude.{Option, Some}
 use Prim.Native.Nat.{ℕ, ◌+◌, ◌-◌, ◌<◌, ◌≤◌}
 use native.Mathlib.Omega.{arith}
 use native.Mathlib.Nat.{add-zero}
@@ -12,15 +13,13 @@ use borrow.Author.Tests.{lt-ltb, le-ltb}
 use Rattle.base.proofs.Tests.{by_test}
 use Rattle.le.specs.Le.{number_at}
 use Rattle.le.proofs.Laws.{drop_take}
-use Rattle.kinds.specs.declared.Parent.{Parent}
-use Rattle.kinds.specs.declared.Parent.TheVariants.{Kind}
 use Rattle.kinds.specs.Kinds.{is_known}
 use Rattle.table.specs.Table.{with_row}
-use Rattle.body.specs.declared.Passed.{Passed}
+use Rattle.body.specs.Body.{Passed}
 use Rattle.body.specs.Body.{PropertyWalk, pass, properties, end_of}
 use Rattle.body.proofs.Places.{properties_end}
 use Rattle.walk.specs.declared.Header.{Header}
-use Rattle.walk.specs.declared.Reached.{Reached}
+use Rattle.walk.specs.Private.{Reached}
 use Rattle.walk.specs.Walk.{header_at, node_refusal, too_many, row_of_header, inside, node_at, children_at}
 use Rattle.walk.specs.Private.{passed_at, left_over, Came}
 use Rattle.walk.proofs.Laws.{node_short, node_refused, node_unknown, node_bad, node_passed}
@@ -71,7 +70,7 @@ pub header_front : (bs : List ℕ) → 24 ≤ length bs → header_at (take 24 b
 header_front bs l = sym (header_of_lem (take 24 bs) (drop 24 bs) (omega (arith, length-take-le 24 bs l))) ∙ ap header_at (take-append-drop 24 bs)
 
 -- it has no header
-pub no_room_lem : (parent : Parent) (above depth at row : ℕ) (bs t : List ℕ) → length bs < 24 → row ≤ 1024
+pub no_room_lem : (parent : Option ℕ) (above depth at row : ℕ) (bs t : List ℕ) → length bs < 24 → row ≤ 1024
     → Came (record { number = 5; at = at; rows = row }) (node_at parent above depth at row bs) at row bs t t
 no_room_lem parent above depth at row bs t short few = stops (node_short parent above depth at row bs short) few (omega arith) (omega arith)
 
@@ -103,7 +102,7 @@ module _ (at : ℕ) (s : List ℕ) {count : ℕ} where
   unfolding passed_at
   passed_few h e = rw (le-ltb 64 count h, e)
 
-module _ (parent : Parent) (above depth at row : ℕ) (bs t : List ℕ) {h : Header} (is : h ≡ header_at bs) where
+module _ (parent : Option ℕ) (above depth at row : ℕ) (bs t : List ℕ) {h : Header} (is : h ≡ header_at bs) where
   -- its header is refused
   pub header_refused : {n : ℕ} → n ≡ node_refusal h (length bs) parent row depth → (n ≡ 0 → ⊥) → row ≤ 1024
       → Came (record { number = n; at = at; rows = row }) (node_at parent above depth at row bs) at row bs t t
@@ -153,7 +152,7 @@ module _ (parent : Parent) (above depth at row : ℕ) (bs t : List ℕ) {h : Hea
         -- its row, and its children
         pub with_children : {u t' cs : List ℕ} {r : Reached} → u ≡ with_row t row (row_of_header h above (at + 24) q.at)
             → cs ≡ drop (q.at - (at + 24)) (inside h bs)
-            → Came r (children_at (Kind h.kind) row (depth + 1) h.children q.at (row + 1) cs) q.at (row + 1) cs u t'
+            → Came r (children_at (Some h.kind) row (depth + 1) h.children q.at (row + 1) cs) q.at (row + 1) cs u t'
             → Came r (node_at parent above depth at row bs) at row bs t t'
         with_children put part c =
             let whole = node_passed parent above depth at row bs (sym is) on.0 known on.1 in
@@ -169,4 +168,4 @@ module _ (parent : Parent) (above depth at row : ℕ) (bs t : List ℕ) {h : Hea
         childless none put l =
             let left : length (drop (q.at - (at + 24)) (inside h bs)) ≡ at + h.size - q.at
             = omega (arith, ends, length-drop (q.at - (at + 24)) (inside h bs), length_inside h bs found.within, found.own) in
-            with_children put refl (rw none (none_left (Kind h.kind) row (depth + 1) (l ∙ ap left_over (sym left)) (omega (arith, found.few))))
+            with_children put refl (rw none (none_left (Some h.kind) row (depth + 1) (l ∙ ap left_over (sym left)) (omega (arith, found.few))))

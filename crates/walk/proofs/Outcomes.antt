@@ -1,4 +1,5 @@
 -- What the bytes of a well-formed list of nodes walk to: the list, or a refusal for its kinds or number.
+use Rattle.std.specs.Prelude.{Option, Some, None}
 use Prim.Native.Nat.{ℕ, suc, ◌+◌, ◌-◌, ◌/◌, ◌%◌, ◌^◌, ◌≤◌, ◌<◌}
 use native.Mathlib.Omega.{arith}
 use mathlib.Core.Path.{◌≡◌, refl, ap, sym, ◌∙◌}
@@ -9,8 +10,6 @@ use lib.Dec.{leb}
 use lib.ListN.{length, drop}
 use borrow.Author.Tests.{leb-true, leb-false, le-ltb}
 use Rattle.base.proofs.Tests.{by_test}
-use Rattle.kinds.specs.declared.Parent.{Parent}
-use Rattle.kinds.specs.declared.Parent.TheVariants.{None, Kind}
 use Rattle.kinds.specs.Kinds.{is_known, may_stand}
 use Rattle.kinds.proofs.Levels.{level, level_bounds, deeper}
 use Rattle.table.specs.declared.Row.{Row}
@@ -23,19 +22,19 @@ use Rattle.walk.specs.Walk.{Walked, after_rows, node_at, children_at, header_at,
 use Rattle.walk.proofs.Laws.{node_refused, list_next, list_refused}
 
 -- ---- how deep the rule of kinds lets a child lie
-abbrev pub Shallow : Parent → ℕ → Type 0
+abbrev pub Shallow : Option ℕ → ℕ → Type 0
 Shallow None depth = depth ≤ 1
-Shallow (Kind p) depth = depth ≤ level p + 1
+Shallow (Some p) depth = depth ≤ level p + 1
 
-pub shallow_most : (parent : Parent) (depth : ℕ) → Shallow parent depth → depth ≤ 8
+pub shallow_most : (parent : Option ℕ) (depth : ℕ) → Shallow parent depth → depth ≤ 8
 shallow_most None depth h = omega (arith, h)
-shallow_most (Kind p) depth h = omega (arith, h, (level_bounds p).1)
+shallow_most (Some p) depth h = omega (arith, h, (level_bounds p).1)
 
-pub shallow_below : (parent : Parent) (k depth : ℕ) → is_known k ≡ true → may_stand parent k ≡ true → Shallow parent depth
-    → Shallow (Kind k) (depth + 1)
+pub shallow_below : (parent : Option ℕ) (k depth : ℕ) → is_known k ≡ true → may_stand parent k ≡ true → Shallow parent depth
+    → Shallow (Some k) (depth + 1)
 unfolding may_stand
 shallow_below None k depth n e h = omega (arith, h, (level_bounds k).0)
-shallow_below (Kind p) k depth n e h = omega (arith, h, deeper p k n e)
+shallow_below (Some p) k depth n e h = omega (arith, h, deeper p k n e)
 
 -- ---- a well-formed header is refused for its kind or its row
 abbrev pub headed : ℕ → ℕ → ℕ → ℕ → ℕ → Header
@@ -53,7 +52,7 @@ header_at_lem k s h p c rest f =
       header_children k s h p c rest f,
     )
 
-pub verdict : (h : Header) (room : ℕ) (parent : Parent) (row depth : ℕ) → 24 ≤ h.size → h.size ≤ room → depth ≤ 8
+pub verdict : (h : Header) (room : ℕ) (parent : Option ℕ) (row depth : ℕ) → 24 ≤ h.size → h.size ≤ room → depth ≤ 8
     → too_many h.kind h.properties ≡ false
     → node_refusal h room parent row depth ≡ cond (not (may_stand parent h.kind)) 6 (cond (leb 1024 row) 7 0)
 unfolding node_refusal
@@ -64,7 +63,7 @@ verdict h room parent row depth own within deep few =
 abbrev pub whole : Forest → ℕ → ℕ → ℕ → Walked
 whole f above row at = record { number = 0; at = at + length (encode f); rows = rows f above row at }
 
-pub record Whole (parent : Parent) (above at row : ℕ) (f : Forest) (w : Walked) : Type 0 where
+pub record Whole (parent : Option ℕ) (above at row : ℕ) (f : Forest) (w : Walked) : Type 0 where
   pub is : w ≡ whole f above row at
   pub placed : Placed parent f
   pub few : row + nodes f ≤ 1024
@@ -77,11 +76,11 @@ pub bars_more : (many more n : ℕ) → many ≤ more → Bars many n → Bars m
 bars_more many more n h (inl e) = inl e
 bars_more many more n h (inr e) = inr (e.0, omega (arith, e.1))
 
-pub record Barred (parent : Parent) (row : ℕ) (f : Forest) (w : Walked) : Type 0 where
+pub record Barred (parent : Option ℕ) (row : ℕ) (f : Forest) (w : Walked) : Type 0 where
   pub number : Bars (row + nodes f) w.number
   pub barred : Placed parent f → row + nodes f ≤ 1024 → ⊥
 
-abbrev pub Outcome : Parent → ℕ → ℕ → ℕ → Forest → Walked → Type 0
+abbrev pub Outcome : Option ℕ → ℕ → ℕ → ℕ → Forest → Walked → Type 0
 Outcome parent above at row f w = Whole parent above at row f w ⊎ Barred parent row f w
 
 -- which is a refusal
@@ -90,7 +89,7 @@ told many n (inl e) z = omega (arith, e, z)
 told many n (inr e) z = omega (arith, e.0, z)
 
 -- the first node of a list is refused, and with it the list
-module _ (parent : Parent) (above depth at row : ℕ) (bs : List ℕ) (f : Forest) (c : ℕ) where
+module _ (parent : Option ℕ) (above depth at row : ℕ) (bs : List ℕ) (f : Forest) (c : ℕ) where
   pub list_barred : Bars (row + nodes f) (node_at parent above depth at row bs).number
       → (Placed parent f → row + nodes f ≤ 1024 → ⊥) → Outcome parent above at row f (children_at parent above depth (suc c) at row bs)
   list_barred n b =
@@ -98,7 +97,7 @@ module _ (parent : Parent) (above depth at row : ℕ) (bs : List ℕ) (f : Fores
       (inr (record { number = n; barred = b }))
 
 -- the first node is done, and the outcome is that of the others
-pub record Begins (parent : Parent) (above at row : ℕ) (bs : List ℕ) (f next : Forest) (size : ℕ) (rs : List Row) : Type 0 where
+pub record Begins (parent : Option ℕ) (above at row : ℕ) (bs : List ℕ) (f next : Forest) (size : ℕ) (rs : List Row) : Type 0 where
   pub rest : drop size bs ≡ encode next
   pub long : length (encode f) ≡ size + length (encode next)
   pub listed : rs ++ rows next above (row + length rs) (at + size) ≡ rows f above row at
@@ -106,7 +105,7 @@ pub record Begins (parent : Parent) (above at row : ℕ) (bs : List ℕ) (f next
   pub placed : Placed parent next → Placed parent f
   pub others : Placed parent f → Placed parent next
 
-module _ (parent : Parent) (above depth at row : ℕ) (bs : List ℕ) (f next : Forest) (size : ℕ) (rs : List Row)
+module _ (parent : Option ℕ) (above depth at row : ℕ) (bs : List ℕ) (f next : Forest) (size : ℕ) (rs : List Row)
     (b : Begins parent above at row bs f next size rs) where
   abbrev w : Walked
   w = children_at parent above depth (count next) (at + size) (row + length rs) (encode next)
@@ -125,7 +124,7 @@ module _ (parent : Parent) (above depth at row : ℕ) (bs : List ℕ) (f next : 
       by w (inr o) = inr (record { number = bars_more _ (row + nodes f) w.number (omega (arith, b.numbered)) o.number; barred = λ p q. o.barred (b.others p) (omega (arith, q, b.numbered)) })
 
 -- the first node by its kind and its row
-pub judged : (parent : Parent) (above depth at row : ℕ) (bs : List ℕ) (f : Forest) (c k : ℕ)
+pub judged : (parent : Option ℕ) (above depth at row : ℕ) (bs : List ℕ) (f : Forest) (c k : ℕ)
     → node_refusal (header_at bs) (length bs) parent row depth ≡ cond (not (may_stand parent k)) 6 (cond (leb 1024 row) 7 0)
     → (Placed parent f → may_stand parent k ≡ true) → 1 ≤ nodes f
     → (may_stand parent k ≡ true → node_refusal (header_at bs) (length bs) parent row depth ≡ 0 → row < 1024

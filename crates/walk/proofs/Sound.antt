@@ -1,4 +1,5 @@
 -- Sound: what is walked without a refusal is the encoding of a well-formed forest.
+use Rattle.std.specs.Prelude.{Option, Some, None}
 use Prim.Native.Nat.{ℕ, zero, suc, ◌+◌, ◌-◌, ◌^◌, ◌≤◌, ◌<◌}
 use native.Mathlib.Omega.{arith}
 use native.Mathlib.Nat.{min-eq_left}
@@ -12,8 +13,6 @@ use borrow.Author.Tests.{eqb-true}
 use Rattle.le.specs.Le.{number_at, AreBytes}
 use Rattle.le.proofs.Laws.{bytes_take, bytes_drop, number_at_lt, number_at_short, number_at_high}
 use Rattle.base.proofs.Tests.{by_test}
-use Rattle.kinds.specs.declared.Parent.{Parent}
-use Rattle.kinds.specs.declared.Parent.TheVariants.{None, Kind}
 use Rattle.kinds.specs.Kinds.{is_known}
 use Rattle.table.specs.declared.Row.{Row}
 use Rattle.table.specs.Table.{no_parent}
@@ -34,7 +33,7 @@ use Rattle.walk.proofs.Whole.{header_there}
 use Rattle.walk.proofs.Found.{Nodes, First, unknown_first, known_first, NodeSound, list_sound}
 
 -- ---- a node
-module _ (parent : Parent) (above depth at row : ℕ) (bs : List ℕ) where
+module _ (parent : Option ℕ) (above depth at row : ℕ) (bs : List ℕ) where
   header_right : (n : ℕ) → node_refusal (header_at bs) (length bs) parent row depth ≡ n → (node_at parent above depth at row bs).number ≡ 0 → n ≡ 0
   header_right zero e z = refl
   header_right (suc n) e z =
@@ -70,7 +69,7 @@ walked_is : (r q : Row) (w : Walked) (to : ℕ) (qs : List Row) → r ≡ q → 
     → record { number = 0; at = to; rows = q ∷ qs } ≡ after_rows (r ∷ []) w
 walked_is r q w to qs e n a s = sym (rw (e, n, a, s))
 
-module _ (parent : Parent) (above depth at row : ℕ) (bs : List ℕ) (y : AreBytes bs) (e : node_refusal (header_at bs) (length bs) parent row depth ≡ 0)
+module _ (parent : Option ℕ) (above depth at row : ℕ) (bs : List ℕ) (y : AreBytes bs) (e : node_refusal (header_at bs) (length bs) parent row depth ≡ 0)
   where
     abbrev h : Header
     h = header_at bs
@@ -107,12 +106,12 @@ module _ (parent : Parent) (above depth at row : ℕ) (bs : List ℕ) (y : AreBy
       to = (properties x h.properties).at
 
       abbrev w : Walked
-      w = children_at (Kind h.kind) row (depth + 1) h.children (at + 24 + to) (row + 1) (drop to x)
+      w = children_at (Some h.kind) row (depth + 1) h.children (at + 24 + to) (row + 1) (drop to x)
 
       is : node_at parent above depth at row bs ≡ after_rows (row_of_header h above (at + 24) (at + 24 + to) ∷ []) w
       is = node_passed parent above depth at row bs refl e u pass
 
-      known_sound : w.number ≡ 0 → Nodes (Kind h.kind) row h.children (at + 24 + to) (row + 1) (drop to x) w
+      known_sound : w.number ≡ 0 → Nodes (Some h.kind) row h.children (at + 24 + to) (row + 1) (drop to x) w
           → First parent above at row bs (node_at parent above depth at row bs)
       known_sound z kids =
           let body = take to x in
@@ -145,11 +144,11 @@ module _ (parent : Parent) (above depth at row : ℕ) (bs : List ℕ) (y : AreBy
         let number : (properties x h.properties).number ≡ 0 = body_right u (properties x h.properties).number refl z in
         let done : (w u number).number ≡ 0 = sym (ap (λ v. v.number) (is u number)) ∙ z in
         known_sound u number done
-        (list_sound n one (Kind h.kind) row (depth + 1) h.children (at + 24 + to u number) (row + 1) (drop (to u number) x)
+        (list_sound n one (Some h.kind) row (depth + 1) h.children (at + 24 + to u number) (row + 1) (drop (to u number) x)
         (omega (arith, l, room, length-drop (to u number) x, rest_size, r.within))
         (bytes_drop (to u number) x (bytes_take (h.size - 24) (drop 24 bs) (bytes_drop 24 bs y))) (omega (arith, r.few)) done)
 
-header_zero : (parent : Parent) (above depth at row : ℕ) (bs : List ℕ) → (node_at parent above depth at row bs).number ≡ 0
+header_zero : (parent : Option ℕ) (above depth at row : ℕ) (bs : List ℕ) → (node_at parent above depth at row bs).number ≡ 0
     → node_refusal (header_at bs) (length bs) parent row depth ≡ 0
 header_zero parent above depth at row bs z = header_right parent above depth at row bs (node_refusal (header_at bs) (length bs) parent row depth) refl z
 

@@ -1,4 +1,5 @@
 -- How the walk over a file ends: its answer, the rows put into the table, and that they are at most 1,024.
+use Rattle.std.specs.Prelude.{None}
 use Prim.Native.Nat.{ℕ, suc, ◌<◌, ◌≤◌}
 use native.Mathlib.Omega.{arith}
 use native.Mathlib.Nat.{zero-add}
@@ -11,10 +12,9 @@ use borrow.Author.Tests.{eq-eqb, ne_eqb, leb-true}
 use Rattle.base.specs.Refusals.{refused_or}
 use Rattle.base.proofs.Refusals.{goes_on, is_refused}
 use Rattle.le.specs.Le.{number_at}
-use Rattle.kinds.specs.declared.Parent.TheVariants.{None}
 use Rattle.table.specs.Table.{no_parent, put_rows}
-use Rattle.walk.specs.declared.Answer.{Answer}
-use Rattle.walk.specs.declared.Reached.{Reached}
+use Rattle.walk.specs.Walk.{Answer}
+use Rattle.walk.specs.Private.{Reached}
 use Rattle.walk.specs.Walk.{Walked, refused_walk, is_cast, walk_of, limited, flags_of, refused_answer, accepted_answer, answer, table_walked, children_at}
 use Rattle.walk.specs.Private.{Came}
 use Rattle.walk.proofs.Laws.{limited_is}

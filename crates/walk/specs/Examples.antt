@@ -1,16 +1,14 @@
 -- Walks over small files, computed by the definition.
-use Rattle.std.specs.Prelude.{ℕ, ◌≡◌, refl, List, [], ◌∷◌, ◌++◌, map, take, replicate}
+use Rattle.std.specs.Prelude.{ℕ, ◌≡◌, refl, List, [], ◌∷◌, ◌++◌, map, take, replicate, None, Option, Some}
 use Rattle.le.specs.Le.{val, number_at, le}
 use Rattle.names.specs.Names.{bytes_ok}
-use Rattle.kinds.specs.declared.Parent.{Parent}
-use Rattle.kinds.specs.declared.Parent.TheVariants.{None, Kind}
 use Rattle.kinds.specs.Kinds.{root, model, mesh, parents_table, parents_in, parents_of, is_known, stands_at_top, stands_under, may_stand}
 use Rattle.props.specs.Step.{to_zero, name_at, step_at}
 use Rattle.body.specs.Body.{pass, properties}
 use Rattle.table.specs.declared.Row.{Row}
 use Rattle.table.specs.Table.{no_parent}
 use Rattle.format.specs.Forest.{header, file_header}
-use Rattle.walk.specs.declared.Answer.{Answer}
+use Rattle.walk.specs.Walk.{Answer}
 use Rattle.walk.specs.Walk.{Walked, refused_walk, header_at, node_refusal, and_then, children, node, children_at, walk_of, limited, answer}
 
 unfoldable walk : List ℕ → Walked
@@ -92,7 +90,7 @@ unfolding answered walk cast head one
 bodies = refl
 
 -- the order 5, 6, 7, 8, 9, each refused also for the next: of kind, size, property count, room, parent, row and depth
-unfoldable verdict : ℕ → ℕ → ℕ → ℕ → Parent → ℕ → ℕ → ℕ
+unfoldable verdict : ℕ → ℕ → ℕ → ℕ → Option ℕ → ℕ → ℕ → ℕ
 unfolding parents_table parents_in parents_of is_known stands_at_top stands_under may_stand node_refusal
 verdict kind size count room parent row depth =
     node_refusal (record { kind = kind; size = size; low = 0; high = 0; properties = count; children = 0 }) room parent row depth
@@ -103,7 +101,7 @@ unfolding verdict
 ordered = (refl, refl, refl, refl, refl)
 
 -- the last of each that is taken; 65 properties of an unknown node; and a size one past the end
-limits : (verdict root 24 64 24 None 1023 8 ≡ 0) × (verdict 0 24 65 24 (Kind root) 0 2 ≡ 0) × (verdict root 25 0 24 None 0 1 ≡ 5)
+limits : (verdict root 24 64 24 None 1023 8 ≡ 0) × (verdict 0 24 65 24 (Some root) 0 2 ≡ 0) × (verdict root 25 0 24 None 0 1 ≡ 5)
 unfolding verdict
 limits = (refl, refl, refl)
 

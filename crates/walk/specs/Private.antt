@@ -1,12 +1,14 @@
 -- What private functions promise each other; nothing here need be believed.
-use Rattle.std.specs.Prelude.{◌≡◌, Bool, true, false, cond, ℕ, ◌+◌, ◌≤◌, List, leb, ltb, length}
+use Rattle.std.specs.Prelude.{◌≡◌, Bool, true, false, cond, ℕ, ◌+◌, ◌≤◌, List, leb, ltb, length, Result, Ok, Err}
 use Rattle.base.specs.Limits.{most_properties, most_rows}
 use Rattle.kinds.specs.declared.Standing.{Standing}
 use Rattle.kinds.specs.declared.Standing.TheVariants.{Barred, Known, Unknown}
 use Rattle.table.specs.Table.{put_rows}
-use Rattle.body.specs.declared.Passed.{Passed}
+use Rattle.body.specs.Body.{Passed}
 use Rattle.body.specs.Body.{properties}
-use Rattle.walk.specs.declared.Reached.{Reached}
+use Rattle.base.specs.declared.Refusal.{Refusal}
+use Rattle.base.specs.Refusals.{reason_number}
+use Rattle.walk.specs.declared.Reached.{Reached as CodeReached}
 use Rattle.walk.specs.Walk.{Walked, ill_sized}
 
 -- ---- the refusal of a header, 5 to 8, from how its node stands
@@ -38,6 +40,18 @@ passed_at at s count =
 abbrev pub left_over : ℕ → ℕ
 left_over left = cond (ltb 0 left) 12 0
 
+-- where a walk came to: with number 0 just past what it walked, with another at what it is refused for; and how many rows
+-- the table then has
+pub record Reached : Type 0 where
+  pub number : ℕ
+  pub at : ℕ
+  pub rows : ℕ
+
+-- as the code has it, which tells no rows of a walk that is refused: they are given
+abbrev pub reached_told : Result CodeReached Refusal → (rows : ℕ) → Reached
+reached_told (Ok r) n = record { number = 0; at = r.at; rows = r.rows }
+reached_told (Err r) n = record { number = reason_number r.reason; at = r.place; rows = n }
+
 -- from a place and a row on it came to w in these bytes, and the table t became t'
 pub record Came (r : Reached) (w : Walked) (at row : ℕ) (bs t t' : List ℕ) : Type 0 where
   pub number : r.number ≡ w.number
@@ -47,3 +61,6 @@ pub record Came (r : Reached) (w : Walked) (at row : ℕ) (bs t t' : List ℕ) :
   pub few : r.rows ≤ most_rows
   pub onward : at ≤ r.at
   pub within : r.at ≤ at + length bs
+
+abbrev pub CameTo : Result CodeReached Refusal → Walked → (at row : ℕ) → (bs t t' : List ℕ) → Type 0
+CameTo r w at row bs t t' = Came (reached_told r (row + length w.rows)) w at row bs t t'

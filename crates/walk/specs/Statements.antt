@@ -1,10 +1,8 @@
 -- The walk and the layout, as named statements about `walk_of`, which gives refusals 3 to 12 of any bytes. The code answers by
 -- `limited` (the contract of `walk::walk`), which is `walk_of` but for files that 2 refuses.
-use Rattle.std.specs.Prelude.{ℕ, ◌≤◌, ◌<◌, ◌≡◌, ◌⊎◌, List, length}
+use Rattle.std.specs.Prelude.{ℕ, ◌≤◌, ◌<◌, ◌≡◌, ◌⊎◌, List, length, None, Option}
 use Rattle.base.specs.Limits.{most_bytes}
 use Rattle.le.specs.Le.{AreBytes}
-use Rattle.kinds.specs.declared.Parent.{Parent}
-use Rattle.kinds.specs.declared.Parent.TheVariants.{None}
 use Rattle.format.specs.Forest.{Forest, file_of}
 use Rattle.format.specs.Rows.{rows_of}
 use Rattle.format.specs.Layout.{WellFormedFile, Placed, Few}
@@ -40,7 +38,7 @@ Others = (flags : ℕ) (f : Forest) → WellFormedFile flags f → (Placed None 
 -- The bound that `node` and `children` recurse on decides nothing: any that is greater than the number of bytes gives the same walk, so
 -- that the two may be read as calling each other without it.
 abbrev pub Unbounded : Type 0
-Unbounded = (n : ℕ) (parent : Parent) (above depth count at row : ℕ) (bs : List ℕ) → length bs < n
+Unbounded = (n : ℕ) (parent : Option ℕ) (above depth count at row : ℕ) (bs : List ℕ) → length bs < n
     → (node n parent above depth at row bs ≡ node_at parent above depth at row bs)
     × (children n parent above depth count at row bs ≡ children_at parent above depth count at row bs)
 

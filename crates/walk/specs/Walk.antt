@@ -1,18 +1,17 @@
 -- Document 01's refusals 2 to 12 over any bytes: "1 to 4; then nodes as they come, each with 5, 6, 7, 8 and, if known, 9,
 -- its properties (header fits, type, name size, name fits, name bytes, string length, data fits), its children, 12." The
 -- verdict on a node's header goes by its numbers and the room left, as that on a property's does (props).
-use Rattle.std.specs.Prelude.{ℕ, zero, suc, ◌+◌, ◌-◌, Bool, cond, not, ◌&&◌, ◌||◌, List, [], ◌∷◌, ◌++◌, eqb, leb, ltb, length, take, drop}
+use Rattle.std.specs.Prelude.{ℕ, zero, suc, ◌+◌, ◌-◌, Bool, cond, not, ◌&&◌, ◌||◌, List, [], ◌∷◌, ◌++◌, eqb, leb, ltb, length, take, drop, None, Option, Some, Result, Ok, Err}
 use Rattle.base.specs.Limits.{most_bytes, most_properties, most_rows}
-use Rattle.base.specs.Refusals.{refused_or}
+use Rattle.base.specs.declared.Refusal.{Refusal}
+use Rattle.base.specs.Refusals.{refused_or, reason_number}
 use Rattle.le.specs.Le.{number_at}
-use Rattle.kinds.specs.declared.Parent.{Parent}
-use Rattle.kinds.specs.declared.Parent.TheVariants.{None, Kind}
 use Rattle.kinds.specs.Kinds.{is_known, may_stand}
 use Rattle.table.specs.declared.Row.{Row}
 use Rattle.table.specs.Table.{no_parent, put_rows}
 use Rattle.body.specs.Body.{properties}
 use Rattle.walk.specs.declared.Header.{Header}
-use Rattle.walk.specs.declared.Answer.{Answer}
+use Rattle.walk.specs.declared.Walked.{Walked as CodeWalked}
 
 -- ---- one node's header
 
@@ -38,7 +37,7 @@ too_many kind count = is_known kind && ltb most_properties count
 
 -- 5 to 9, in their order, from the header's numbers, the bytes left from its start to the end of what encloses it, the
 -- parent's kind, the node's row and its depth. 0 is no refusal.
-unfoldable pub node_refusal : Header → (room : ℕ) → Parent → (row depth : ℕ) → ℕ
+unfoldable pub node_refusal : Header → (room : ℕ) → Option ℕ → (row depth : ℕ) → ℕ
 node_refusal h room parent row depth =
     cond (ill_sized h.size room) 5
     (cond (not (may_stand parent h.kind)) 6  -- "kind not allowed there"
@@ -90,7 +89,7 @@ inside h bs = take (h.size - 24) (drop 24 bs)
 -- for the recursion alone: any that is greater than the number of bytes gives the same walk (the statement `Unbounded`).
 unfoldable mutual
   -- the node at the start of the bytes, from its parent's kind and row, its depth, its place and its row
-  pub node : (bound : ℕ) → Parent → (above depth at row : ℕ) → List ℕ → Walked
+  pub node : (bound : ℕ) → Option ℕ → (above depth at row : ℕ) → List ℕ → Walked
   node zero parent above depth at row bs = refused_walk 5 at
   node (suc n) parent above depth at row bs =
       let h = header_at bs in
@@ -103,10 +102,10 @@ unfoldable mutual
       (cond (not (is_known h.kind)) (after_rows (row_of_header h above start (at + h.size) ∷ []) (walked_to (at + h.size)))
       (refused_or p.number (refused_walk p.number end)  -- "its properties", 10 and 11
       (after_rows (row_of_header h above start end ∷ [])  -- "its children"
-      (children n (Kind h.kind) row (depth + 1) h.children end (row + 1) (drop p.at (inside h bs))))))
+      (children n (Some h.kind) row (depth + 1) h.children end (row + 1) (drop p.at (inside h bs))))))
 
   -- exactly `count` nodes, one after the other, which fill the bytes
-  pub children : (bound : ℕ) → Parent → (above depth count at row : ℕ) → List ℕ → Walked
+  pub children : (bound : ℕ) → Option ℕ → (above depth count at row : ℕ) → List ℕ → Walked
   children zero parent above depth count at row bs = refused_walk 5 at
   -- 12: "bytes after the last child of a known node, or the last root"
   children (suc n) parent above depth zero at row bs = cond (ltb 0 (length bs)) (refused_walk 12 at) (walked_to at)
@@ -115,10 +114,10 @@ unfoldable mutual
       (λ next rows. children n parent above depth k next (row + rows) (drop (next - at) bs))
 
 -- with a bound that is enough
-unfoldable pub node_at : Parent → (above depth at row : ℕ) → List ℕ → Walked
+unfoldable pub node_at : Option ℕ → (above depth at row : ℕ) → List ℕ → Walked
 node_at parent above depth at row bs = node (suc (length bs)) parent above depth at row bs
 
-unfoldable pub children_at : Parent → (above depth count at row : ℕ) → List ℕ → Walked
+unfoldable pub children_at : Option ℕ → (above depth count at row : ℕ) → List ℕ → Walked
 children_at parent above depth count at row bs = children (suc (length bs)) parent above depth count at row bs
 
 -- ---- the file
@@ -143,12 +142,24 @@ flags_of s = number_at 4 s 12
 unfoldable pub limited : List ℕ → Walked
 limited s = cond (ltb most_bytes (length s)) (refused_walk 2 0) (walk_of s)
 
--- what is answered: "all other numbers of it are 0"
+-- what is answered: number 0, how many nodes there are, and the flags; or a refusal's number and place
+pub record Answer : Type 0 where
+  pub number : ℕ
+  pub place : ℕ
+  pub nodes : ℕ
+  pub flags : ℕ
+
+-- "all other numbers of it are 0"
 abbrev pub refused_answer : (number place : ℕ) → Answer
 refused_answer n place = record { number = n; place = place; nodes = 0; flags = 0 }
 
 abbrev pub accepted_answer : (nodes flags : ℕ) → Answer
 accepted_answer nodes flags = record { number = 0; place = 0; nodes = nodes; flags = flags }
+
+-- as the code has it
+abbrev pub answer_told : Result CodeWalked Refusal → Answer
+answer_told (Ok w) = accepted_answer w.nodes w.flags
+answer_told (Err r) = refused_answer (reason_number r.reason) r.place
 
 unfoldable pub answer : List ℕ → Answer
 answer s =

@@ -4,11 +4,16 @@
 ghost use Rattle.std.specs.Prelude.{◌≡◌, ◌+◌, ◌≤◌, length, drop};
 ghost use Rattle.base.specs.Limits.{most_bytes, most_rows};
 ghost use Rattle.table.specs.Table.{with_row};
-ghost use Rattle.walk.specs.Walk.{header_at, ill_sized, row_of_header, node_at, children_at, is_cast, limited, refused_answer, answer, table_walked};
-ghost use Rattle.walk.specs.Private.{is_barred, known_there, refusal_there, passed_at, left_over, Came};
+ghost use Rattle.base.specs.Refusals.{number_in, refusal_in};
+ghost use Rattle.body.specs.Body.{passed_told};
+ghost use Rattle.walk.specs.Walk.{header_at, ill_sized, row_of_header, node_at, children_at, is_cast, limited, answer, answer_told, table_walked};
+ghost use Rattle.walk.specs.Private.{refusal_there, passed_at, CameTo};
+
+use base::{Reason, Refusal};
+use kinds::Standing;
 
 // The numbers of a node's header, the hash in its halves.
-#[derive(Clone, Copy)]
+#[derive(Clone, Copy, Debug, PartialEq, Eq)]
 pub struct Header {
     pub kind: u32,
     pub size: u32,
@@ -22,19 +27,13 @@ pub struct Header {
 pub fn header_at(bytes: &[u8]) -> Header
     ensures { result ≡ header_at bytes.now }
 {
-    let kind = le::u32_at(bytes, 0);
-    let size = le::u32_at(bytes, 4);
-    let low = le::u32_at(bytes, 8);
-    let high = le::u32_at(bytes, 12);
-    let properties = le::u32_at(bytes, 16);
-    let children = le::u32_at(bytes, 20);
     Header {
-        kind,
-        size,
-        low,
-        high,
-        properties,
-        children,
+        kind: le::read(bytes, 0),
+        size: le::read(bytes, 4),
+        low: le::read(bytes, 8),
+        high: le::read(bytes, 12),
+        properties: le::read(bytes, 16),
+        children: le::read(bytes, 20),
     }
 }
 
@@ -45,79 +44,53 @@ fn ill_sized(size: u32, room: usize) -> bool
     (room < 24) | (size < 24) | (room < size as usize)
 }
 
-fn is_barred(standing: kinds::Standing) -> bool
-    ensures { result ≡ is_barred standing }
-{
-    match standing {
-        kinds::Standing::Barred => true,
-        kinds::Standing::Known => false,
-        kinds::Standing::Unknown => false,
-    }
-}
-
-fn is_known(standing: kinds::Standing) -> bool
-    ensures { result ≡ known_there standing }
-{
-    match standing {
-        kinds::Standing::Barred => false,
-        kinds::Standing::Known => true,
-        kinds::Standing::Unknown => false,
-    }
-}
-
-// What a node's header is refused with, 5 to 8, where `room` bytes are left from it on: 0 for nothing.
-fn node_refusal(size: u32, room: usize, standing: kinds::Standing, row: usize, depth: u32) -> u32
-    ensures { result ≡ refusal_there size room standing row depth }
+// What a node's header is refused with, 5 to 8, where `room` bytes are left from it on.
+fn check_header(
+    size: u32,
+    room: usize,
+    standing: Standing,
+    row: usize,
+    depth: u32,
+) -> Result<(), Reason>
+    ensures { number_in result ≡ refusal_there size room standing row depth }
 {
     if ill_sized(size, room) {
-        return 5;
+        return Err(Reason::NodeSize);
     }
-    if is_barred(standing) {
-        return 6;
+    if standing == Standing::Barred {
+        return Err(Reason::Misplaced);
     }
     if base::MOST_ROWS <= row {
-        return 7;
+        return Err(Reason::TooManyNodes);
     }
     if 8 < depth {
-        return 8;
+        return Err(Reason::TooDeep);
     }
-    0
+    Ok(())
 }
 
-// The properties of a known node at `at`, in what follows its header: 0 and where they end; or 9 at the node, or 10 or 11 at a property.
+// Where the properties of a known node at `at` end, in what follows its header; or 9 at the node, or 10 or 11 at a property.
 // Without any, the body is not looked at.
-fn pass_properties(inside: &[u8], at: usize, count: u32) -> body::Passed
+fn pass_properties(inside: &[u8], at: usize, count: u32) -> Result<usize, Refusal>
     requires { at + 24 + length inside.now ≤ most_bytes }
-    ensures { result ≡ passed_at at inside.now count }
+    ensures { passed_told result ≡ passed_at at inside.now count }
 {
     let start = at + 24;
     if count == 0 {
-        return body::Passed {
-            number: 0,
-            at: start,
-        };
+        return Ok(start);
     }
     if base::MOST_PROPERTIES < count {
-        return body::Passed { number: 9, at };
+        return Err(Reason::TooManyProperties.at(at));
     }
-    let p = body::pass(inside, count);
-    let number = p.number;
-    let end = start + p.at;
-    body::Passed { number, at: end }
+    match body::pass(inside, count) {
+        Ok(end) => Ok(start + end),
+        Err(refusal) => Err(refusal.reason.at(start + refusal.place)),
+    }
 }
 
-// What bytes after the last of some nodes are refused with: 0 for nothing, where none are left.
-fn left_over(left: usize) -> u32
-    ensures { result ≡ left_over left }
-{
-    if 0 < left { 12 } else { 0 }
-}
-
-// Where a walk came to: with number 0 just past what it walked, with another at what it is refused for; and how many rows
-// the table then has.
-#[derive(Clone, Copy)]
+// Where a walk came to, just past what it walked, and how many rows the table then has.
+#[derive(Clone, Copy, Debug, PartialEq, Eq)]
 struct Reached {
-    number: u32,
     at: usize,
     rows: usize,
 }
@@ -135,12 +108,10 @@ fn put_node(
     requires { (h ≡ header_at head.now) × (start ≤ most_bytes) × (end ≤ most_bytes) }
     ensures { table.new ≡ with_row table.old row (row_of_header h above start end) }
 {
-    let low = le::u32_at(head, 8);
-    let high = le::u32_at(head, 12);
     let r = table::Row {
         kind: h.kind,
-        low,
-        high,
+        low: le::read(head, 8),
+        high: le::read(head, 12),
         parent: above,
         start: start as u32,
         end: end as u32,
@@ -150,88 +121,59 @@ fn put_node(
     table::put_row(table, row, r);
 }
 
+// What a node lies in: the kind and the row of the node around it; and the node's own depth, at most one more than the last that is allowed.
+#[derive(Clone, Copy, Debug, PartialEq, Eq)]
+struct Around {
+    kind: Option<u32>,
+    row: u32,
+    depth: u32,
+    ghost shallow: { depth ≤ 9 },
+}
+
 // The node at `at`, whose row is `row`. The bytes are the file's, up to where what encloses the node ends.
 #[cycle(walk_children_walk_node)]
 fn walk_node(
     bytes: &[u8],
     table: &mut [u32],
+    around: Around,
     at: usize,
-    parent: kinds::Parent,
-    above: u32,
     row: usize,
-    depth: u32,
-) -> Reached
-    requires { (at ≤ length bytes.now) × (length bytes.now ≤ most_bytes) × (row ≤ most_rows) × (depth ≤ row + 1) }
-    ensures { Came result
-        (node_at parent above depth at row (drop at bytes.now))
+) -> Result<Reached, Refusal>
+    requires { (at ≤ length bytes.now) × (length bytes.now ≤ most_bytes) × (row ≤ most_rows) }
+    ensures { CameTo result
+        (node_at around.kind around.row around.depth at row (drop at bytes.now))
         at row (drop at bytes.now) table.old table.new }
 {
     let room = bytes.len() - at;
     if room < 24 {
-        return Reached {
-            number: 5,
-            at,
-            rows: row,
-        };
+        return Err(Reason::NodeSize.at(at));
     }
     let start = at + 24;
     let head = &bytes[at..start];
     let h = header_at(head);
-    let standing = kinds::standing_of(parent, h.kind);
-    let number = node_refusal(h.size, room, standing, row, depth);
-    if number != 0 {
-        return Reached {
-            number,
-            at,
-            rows: row,
-        };
-    }
+    let standing = kinds::standing_of(around.kind, h.kind);
+    check_header(h.size, room, standing, row, around.depth).map_err(|why| why.at(at))?;
     let size = h.size as usize;
     let past = at + size;
     let rows = row + 1;
-    if !is_known(standing) {
-        put_node(table, row, h, head, above, start, past);
-        return Reached {
-            number: 0,
-            at: past,
-            rows,
-        };
+    if standing == Standing::Unknown {
+        put_node(table, row, h, head, around.row, start, past);
+        return Ok(Reached { at: past, rows });
     }
-    let p = pass_properties(&bytes[start..past], at, h.properties);
-    let number = p.number;
-    let end = p.at;
-    if number != 0 {
-        return Reached {
-            number,
-            at: end,
-            rows: row,
-        };
-    }
-    put_node(table, row, h, head, above, start, end);
+    let end = pass_properties(&bytes[start..past], at, h.properties)?;
+    put_node(table, row, h, head, around.row, start, end);
     if h.children == 0 {
         if end < past {
-            return Reached {
-                number: 12,
-                at: end,
-                rows,
-            };
+            return Err(Reason::BytesLeft.at(end));
         }
-        return Reached {
-            number: 0,
-            at: end,
-            rows,
-        };
+        return Ok(Reached { at: end, rows });
     }
-    walk_children(
-        &bytes[..past],
-        table,
-        end,
-        kinds::Parent::Kind(h.kind),
-        row as u32,
-        rows,
-        depth + 1,
-        h.children,
-    )
+    let inner = Around {
+        kind: Some(h.kind),
+        row: row as u32,
+        depth: around.depth + 1,
+    };
+    walk_children(&bytes[..past], table, inner, end, rows, h.children)
 }
 
 // `count` nodes, one after the other, from `start` on, which fill the bytes. The first one's row is `row`.
@@ -239,97 +181,68 @@ fn walk_node(
 fn walk_children(
     bytes: &[u8],
     table: &mut [u32],
+    around: Around,
     start: usize,
-    parent: kinds::Parent,
-    above: u32,
     row: usize,
-    depth: u32,
     count: u32,
-) -> Reached
-    requires { (start ≤ length bytes.now) × (length bytes.now ≤ most_bytes) × (row ≤ most_rows) × (depth ≤ row + 1) }
-    ensures { Came result
-        (children_at parent above depth count start row (drop start bytes.now))
+) -> Result<Reached, Refusal>
+    requires { (start ≤ length bytes.now) × (length bytes.now ≤ most_bytes) × (row ≤ most_rows) }
+    ensures { CameTo result
+        (children_at around.kind around.row around.depth count start row (drop start bytes.now))
         start row (drop start bytes.now) table.old table.new }
 {
     let mut at = start;
     let mut rows = row;
-    let mut left = count;
-    while 0 < left {
-        let w = walk_node(bytes, table, at, parent, above, rows, depth);
-        if w.number != 0 {
-            return w;
-        }
+    for _ in 0..count {
+        let w = walk_node(bytes, table, around, at, rows)?;
         at = w.at;
         rows = w.rows;
-        left -= 1;
     }
-    let number = left_over(bytes.len() - at);
-    Reached { number, at, rows }
+    if at < bytes.len() {
+        return Err(Reason::BytesLeft.at(at));
+    }
+    Ok(Reached { at, rows })
 }
 
-// What a walk over a file answers: number 0, how many nodes it has, and its flags; or the refusal's number and place.
-#[derive(Clone, Copy)]
-pub struct Answer {
-    pub number: u32,
-    pub place: u32,
+// What a walk over a file answers: how many nodes it has, and its flags.
+#[derive(Clone, Copy, Debug, PartialEq, Eq)]
+pub struct Walked {
     pub nodes: u32,
     pub flags: u32,
-}
-
-fn refused_answer(number: u32, place: u32) -> Answer
-    ensures { result ≡ refused_answer number place }
-{
-    Answer {
-        number,
-        place,
-        nodes: 0,
-        flags: 0,
-    }
 }
 
 // Whether the file has a header, and its first four bytes are right.
 fn is_cast(file: &[u8]) -> bool
     ensures { result ≡ is_cast file.now }
 {
-    (16 <= file.len()) & (le::u32_at(file, 0) == format::FIRST_FOUR)
+    (16 <= file.len()) & (le::read::<u32>(file, 0) == format::FIRST_FOUR)
 }
 
 // Walks over a file, and puts a row for each node into the table, as far as it lies in it. A refused file leaves the rows of
 // the nodes whose body's end was found.
-pub fn walk(file: &[u8], table: &mut [u32]) -> Answer
-    ensures result { result ≡ answer file.now }
+pub fn walk(file: &[u8], table: &mut [u32]) -> Result<Walked, Refusal>
+    ensures result { answer_told result ≡ answer file.now }
     ensures table { table.new ≡ table_walked file.now table.old }
     ensures bound { length (limited file.now).rows ≤ most_rows }
+    ensures place { (refusal_in result).place ≤ most_bytes }
 {
     if base::MOST_BYTES < file.len() {
-        return refused_answer(2, 0);
+        return Err(Reason::FileTooLong.at(0));
     }
     if !is_cast(file) {
-        return refused_answer(3, 0);
+        return Err(Reason::NotCast.at(0));
     }
-    if le::u32_at(file, 4) != 1 {
-        return refused_answer(4, 4);
+    if le::read::<u32>(file, 4) != 1 {
+        return Err(Reason::OtherVersion.at(4));
     }
-    let roots = le::u32_at(file, 8);
-    let flags = le::u32_at(file, 12);
-    let w = walk_children(
-        file,
-        table,
-        16,
-        kinds::Parent::None,
-        table::NO_PARENT,
-        0,
-        1,
-        roots,
-    );
-    if w.number != 0 {
-        return refused_answer(w.number, w.at as u32);
-    }
+    let roots: u32 = le::read(file, 8);
+    let flags: u32 = le::read(file, 12);
+    let outermost = Around {
+        kind: None,
+        row: table::NO_PARENT,
+        depth: 1,
+    };
+    let w = walk_children(file, table, outermost, 16, 0, roots)?;
     let nodes = w.rows as u32;
-    Answer {
-        number: 0,
-        place: 0,
-        nodes,
-        flags,
-    }
+    Ok(Walked { nodes, flags })
 }

@@ -24,10 +24,10 @@ use Rattle.judge.specs.Judge.{verdict_at, judged_at, judged}
 use Rattle.format.specs.Forest.{header, file_header}
 use Rattle.links.specs.Links.{reached, links_at, links_from, resolved, linked}
 use Rattle.walk.specs.Walk.{header_at, node_refusal, and_then, children, node, children_at, walk_of, limited}
-use Rattle.reader.specs.declared.Reading.{Reading}
-use Rattle.reader.specs.declared.Reading.TheVariants.{Accepted, Refused}
+use Rattle.reader.specs.Reading.{Reading}
+use Rattle.reader.specs.Reading.{Accepted, Refused}
 use Rattle.reader.specs.Reading.{Numbers, numbers_of, judged_with, ruled, own_known, own_unknown, checked, verdict, reading_of}
-use Rattle.emit.specs.declared.Written.{Written}
+use Rattle.emit.specs.Emission.{Written}
 use Rattle.emit.specs.Emission.{sizes_under, nodes_bytes, roots, file_bytes}
 use Rattle.emit.specs.Emission.{output_left as emitLeft}
 use Rattle.removal.specs.Trimmer.{without_from, new_file, trimmed_of, trimmed_output}

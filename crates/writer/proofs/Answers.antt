@@ -10,7 +10,7 @@ use Rattle.base.proofs.Tests.{by_test}
 use Rattle.table.specs.Table.{is_plan}
 use Rattle.plan.specs.Plan.{plan_refusal}
 use Rattle.format.specs.Rows.{all_own_bytes}
-use Rattle.emit.specs.declared.Written.{Written}
+use Rattle.emit.specs.Emission.{Written}
 use Rattle.emit.specs.Emission.{refused_writing, writing_done, by_length, file_bytes, emission, output_left}
 use Rattle.writer.specs.Writer.{plan_rows, written_of, output_after}
 use Rattle.writer.specs.Writable.{Writable}

@@ -12,11 +12,11 @@ use Rattle.le.specs.Le.{AreBytes}
 use Rattle.base.proofs.Tests.{by_test}
 use Rattle.table.specs.declared.Row.{Row}
 use Rattle.table.specs.Table.{row_count, is_plan}
-use Rattle.base.specs.declared.Refusal.{Refusal}
+use Rattle.base.specs.Refusals.{Refusal}
 use Rattle.base.proofs.Refusals.{is_refused}
 use Rattle.plan.specs.Plan.{plan_refusal}
 use Rattle.format.specs.Rows.{all_own_bytes}
-use Rattle.emit.specs.declared.Written.{Written}
+use Rattle.emit.specs.Emission.{Written}
 use Rattle.emit.specs.Emission.{refused_writing, writing_done, by_length, file_bytes, emission}
 use Rattle.writer.specs.Writer.{plan_rows, written_of}
 use Rattle.writer.specs.Answers.{IsPlan, Reaches, AllRight, WriterAnswers, AnswersExactly}

@@ -16,7 +16,7 @@ use Rattle.kinds.specs.Kinds.{is_known}
 use Rattle.table.specs.declared.Row.{Row}
 use Rattle.body.specs.Body.{exactly}
 use Rattle.format.specs.Rows.{body_of, outside}
-use Rattle.base.specs.declared.Refusal.{Refusal}
+use Rattle.base.specs.Refusals.{Refusal}
 use Rattle.plan.specs.Plan.{path_of, right_parent, naming, row_refusal, plan_refusal_from, plan_refusal}
 use Rattle.writer.specs.Writable.{nth_row, RightParent, RightRow}
 use Rattle.format.specs.Layout.{InBytes}

@@ -1,5 +1,6 @@
 -- What a plan that is judged right has: each row under a row of the path, its body in the source and of its count of
 -- properties, its child count the rows naming it.
+use Rattle.std.specs.Prelude.{None}
 use Prim.Native.Nat.{ℕ, zero, suc, ◌+◌, ◌≤◌, ◌<◌}
 use native.Mathlib.Omega.{arith}
 use mathlib.Core.Path.{◌≡◌, refl, ap, sym, subst, ◌∙◌}
@@ -13,14 +14,13 @@ use Rattle.base.specs.Refusals.{refusal, no_refusal, refused_or}
 use Rattle.base.proofs.Tests.{by_test}
 use Rattle.kinds.specs.Kinds.{root, is_known}
 use Rattle.table.specs.declared.Row.{Row}
-use Rattle.table.specs.declared.Which.TheVariants.{All}
 use Rattle.table.specs.Table.{no_parent}
 use Rattle.table.specs.Counts.{count_under}
 use Rattle.body.specs.Body.{exactly}
 use Rattle.format.specs.Rows.{body_of, outside}
 use Rattle.base.specs.Lists.{Each}
 use Rattle.base.proofs.Lists.{each_append, each_map}
-use Rattle.base.specs.declared.Refusal.{Refusal}
+use Rattle.base.specs.Refusals.{Refusal}
 use Rattle.plan.specs.Plan.{up_from, path_of, is_on, right_parent, naming, row_refusal, plan_refusal_from, plan_refusal}
 use Rattle.emit.specs.Emission.{roots}
 use Rattle.table.proofs.Counts.{counted_other}
@@ -201,7 +201,7 @@ module _ (all : List Row) where
   named_counts k path (r ∷ rs) w o few h =
       let older : Older k r.parent = (split k path r rs w (Older k) o).1.0 in
       let later : (j : ℕ) → k ≤ j → j < 1024 → naming all j ≡ naming rs j
-      = λ j a b. h j a b ∙ counted_other All r rs j (λ e. omega (arith, older (omega (arith, e)), e)) in
+      = λ j a b. h j a b ∙ counted_other None r rs j (λ e. omega (arith, older (omega (arith, e)), e)) in
       let ih = named_counts (suc k) (onward k r w.1) rs w.3 (older_onward k path r rs w o) (omega (arith, few)) (λ j a b. later j (omega arith) b) in
       let here = later k (omega arith) (omega (arith, few)) in
       (λ c. (λ t. c.0 t ∙ here, ih.0 c.1), λ c. (λ t. c.0 t ∙ sym here, ih.1 c.1))

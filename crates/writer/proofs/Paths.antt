@@ -1,4 +1,5 @@
 -- Rows that come parent before child: each is under a row of the path, and those that the path has left get no more.
+use Rattle.std.specs.Prelude.{None}
 use Prim.Native.Nat.{ℕ, suc, ◌+◌, ◌≤◌, ◌<◌}
 use native.Mathlib.Omega.{arith}
 use mathlib.Core.Path.{◌≡◌, refl, ap, sym, ◌∙◌}
@@ -10,7 +11,6 @@ use borrow.Author.Tests.{eqb-true, eqb-false}
 use Rattle.base.proofs.Tests.{by_test}
 use Rattle.kinds.specs.Kinds.{is_known}
 use Rattle.table.specs.declared.Row.{Row}
-use Rattle.table.specs.declared.Which.TheVariants.{All}
 use Rattle.table.proofs.Counts.{counted_other}
 use Rattle.table.specs.Counts.{count_under}
 use Rattle.format.specs.Forest.{encode}
@@ -89,7 +89,7 @@ closed k path [] w p n o few = refl
 closed k path (r ∷ rs) w p n o few =
     let here = (split k path r rs w (Not p) n).1 in
     let new : Not p k = λ f. omega (arith, o (omega (arith, f))) in
-    counted_other All r rs p here.0
+    counted_other None r rs p here.0
     ∙ closed (suc k) (onward k r w.1) rs w.3 p (each_onward (Not p) k r w.1 (λ t. new) here.0 here.1) (λ b. o (omega arith)) (omega (arith, few))
 
 -- ---- so what is under an unknown row is nothing, and sizes are those of the nodes' bytes

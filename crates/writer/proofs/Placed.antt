@@ -1,4 +1,5 @@
 -- Each row of a forest whose Roots are at the top, and nowhere else, has a right parent.
+use Rattle.std.specs.Prelude.{Option, Some, None}
 use Prim.Native.Nat.{ℕ, suc, ◌+◌, ◌≤◌, ◌<◌}
 use native.Mathlib.Omega.{arith}
 use mathlib.Core.Path.{◌≡◌, refl, ap, sym, subst, ◌∙◌}
@@ -8,8 +9,6 @@ use lib.Dec.{eqb}
 use lib.ListN.{length}
 use borrow.Author.Tests.{eq-eqb, ne_eqb}
 use Rattle.base.proofs.Tests.{by_test}
-use Rattle.kinds.specs.declared.Parent.{Parent}
-use Rattle.kinds.specs.declared.Parent.TheVariants.{None, Kind}
 use Rattle.kinds.specs.Kinds.{root, is_known, may_stand}
 use Rattle.kinds.proofs.Tops.{top_root, below_other}
 use Rattle.table.specs.declared.Row.{Row}
@@ -50,39 +49,39 @@ unfolding path_of
 path_unknown k r path above t e = rw (t, e)
 
 -- the path of a parent: none at the top; else its row, and those above it
-abbrev pub Stand : Parent → (p : ℕ) (path : List ℕ) → Type 0
+abbrev pub Stand : Option ℕ → (p : ℕ) (path : List ℕ) → Type 0
 Stand None p path = (p ≡ no_parent) × (path ≡ [])
-Stand (Kind q) p path = (above : List ℕ) × (path ≡ p ∷ above)
+Stand (Some q) p path = (above : List ℕ) × (path ≡ p ∷ above)
 
-stand_up : (parent : Parent) (p : ℕ) (path : List ℕ) → Stand parent p path → up_from p path ≡ path
+stand_up : (parent : Option ℕ) (p : ℕ) (path : List ℕ) → Stand parent p path → up_from p path ≡ path
 unfolding up_from
 stand_up None p path st = rw st.1
-stand_up (Kind q) p path st = rw st.1 (up_first p st.0)
+stand_up (Some q) p path st = rw st.1 (up_first p st.0)
 
 -- Roots at the top, and nowhere else
-abbrev pub Top : Parent → (kind : ℕ) → Type 0
+abbrev pub Top : Option ℕ → (kind : ℕ) → Type 0
 Top None k = k ≡ root
-Top (Kind q) k = k ≡ root → ⊥
+Top (Some q) k = k ≡ root → ⊥
 
-abbrev pub Tops : Parent → Forest → Type 0
+abbrev pub Tops : Option ℕ → Forest → Type 0
 Tops parent end = Unit {0}
-Tops parent (known k h p body kids next) = Top parent k × Tops (Kind k) kids × Tops parent next
+Tops parent (known k h p body kids next) = Top parent k × Tops (Some k) kids × Tops parent next
 Tops parent (unknown k h p c rest next) = Top parent k × Tops parent next
 
-may_top : (parent : Parent) (k : ℕ) → may_stand parent k ≡ true → Top parent k
+may_top : (parent : Option ℕ) (k : ℕ) → may_stand parent k ≡ true → Top parent k
 may_top None k m = top_root k m
-may_top (Kind q) k m = below_other q k m
+may_top (Some q) k m = below_other q k m
 
-pub placed_tops : (f : Forest) (parent : Parent) → Placed parent f → Tops parent f
+pub placed_tops : (f : Forest) (parent : Option ℕ) → Placed parent f → Tops parent f
 placed_tops end parent p = tt
-placed_tops (known k h ps body kids next) parent p = (may_top parent k p.0, placed_tops kids (Kind k) p.1, placed_tops next parent p.2)
+placed_tops (known k h ps body kids next) parent p = (may_top parent k p.0, placed_tops kids (Some k) p.1, placed_tops next parent p.2)
 placed_tops (unknown k h ps c rest next) parent p = (may_top parent k p.0, placed_tops next parent p.1)
 
-right : (parent : Parent) (r : Row) (previous path : List ℕ) → Top parent r.kind → Stand parent r.parent path → up_from r.parent previous ≡ path
+right : (parent : Option ℕ) (r : Row) (previous path : List ℕ) → Top parent r.kind → Stand parent r.parent path → up_from r.parent previous ≡ path
     → right_parent r previous ≡ true
 unfolding right_parent
 right None r previous path m st e = rw (eq-eqb r.kind root m) (eq-eqb r.parent no_parent st.0)
-right (Kind q) r previous path m st e =
+right (Some q) r previous path m st e =
     rw (ne_eqb r.kind root m) (up_on r.parent previous st.0 (e ∙ st.1))
 
 -- a path, with rows on it that came later
@@ -91,7 +90,7 @@ pub record Over (base : ℕ) (path now : List ℕ) : Type 0 where
   pub parts : now ≡ top ++ path
   pub later : Each (λ q. (base ≤ q) × (q < 1024)) top
 
-over_up : (base : ℕ) (parent : Parent) (p : ℕ) (path now : List ℕ) → Stand parent p path → Older base p → Over base path now → up_from p now ≡ path
+over_up : (base : ℕ) (parent : Option ℕ) (p : ℕ) (path now : List ℕ) → Stand parent p path → Older base p → Over base path now → up_from p now ≡ path
 over_up base parent p path now st o v =
     ap (up_from p) v.parts
     ∙ up_past p v.top path (each_map (λ q h e. omega (arith, h.0, h.1, e, o (omega (arith, h.0, e)))) v.top v.later)
@@ -109,7 +108,7 @@ over_less base k path now h few v =
     }
 
 -- ---- the rows of nodes side by side, and rows after them
-pub rows_parents : (f : Forest) (parent : Parent) (p base k at : ℕ) (path now : List ℕ) (rs : List Row) → WellFormed f → Tops parent f → Stand parent p path → Older base p
+pub rows_parents : (f : Forest) (parent : Option ℕ) (p base k at : ℕ) (path now : List ℕ) (rs : List Row) → WellFormed f → Tops parent f → Stand parent p path → Older base p
     → base ≤ k → Over base path now → k + nodes f ≤ 1024 → ((then : List ℕ) → Over base path then → Parents (k + nodes f) then rs)
     → Parents k now (rows f p k at ++ rs)
 rows_parents end parent p base k at path now rs well tops st o b v few on =
@@ -124,7 +123,7 @@ rows_parents (known kind h ps body kids next) parent p base k at path now rs wel
     let below = rows kids k (suc k) here in
     let beside = rows next p (suc k + nodes kids) there in
     let rest : Parents (suc k) (k ∷ path) (below ++ (beside ++ rs))
-    = rows_parents kids (Kind kind) k (suc k) (suc k) here (k ∷ path) (k ∷ path) (beside ++ rs) well.4 tops.1 (path, refl) (λ c. omega arith) (omega arith)
+    = rows_parents kids (Some kind) k (suc k) (suc k) here (k ∷ path) (k ∷ path) (beside ++ rs) well.4 tops.1 (path, refl) (λ c. omega arith) (omega arith)
     (over_self (suc k) (k ∷ path)) (omega (arith, few))
     (λ then w. rows_parents next parent p base (suc k + nodes kids) there path then rs well.5 tops.2 st o (omega arith)
     (over_less base k path then b (omega (arith, few)) w) (omega (arith, few))

@@ -1,4 +1,5 @@
 -- The rows of a forest tell that forest again, and are a right plan over the file's bytes.
+use Rattle.std.specs.Prelude.{None}
 use Prim.Native.Nat.{ℕ, suc, ◌+◌, ◌≤◌, ◌<◌}
 use native.Mathlib.Omega.{arith}
 use mathlib.Core.Path.{◌≡◌, refl, ap, sym, subst, ◌∙◌}
@@ -10,7 +11,6 @@ use borrow.Author.Tests.{eqb-true, eqb-false, le-ltb}
 use Rattle.base.proofs.Tests.{by_test}
 use Rattle.kinds.specs.Kinds.{is_known}
 use Rattle.table.specs.declared.Row.{Row}
-use Rattle.table.specs.declared.Which.TheVariants.{All}
 use Rattle.table.proofs.Counts.{counted_append}
 use Rattle.body.specs.Body.{exactly}
 use Rattle.format.specs.Forest.{Forest, end, known, unknown, count, nodes, header, encode}
@@ -86,7 +86,7 @@ counts_append k [] ys a c d = rw (zero_after k) at d
 counts_append k (x ∷ xs) ys a c d =
     let n : k + suc (length xs) ≡ suc k + length xs = omega arith in
     let none : naming xs k + naming ys k ≡ naming xs k = omega (arith, a k (omega arith) (omega arith)) in
-    (λ t. c.0 t ∙ sym (counted_append All xs ys k ∙ none), counts_append (suc k) xs ys (λ j b e. a j (omega arith) (omega (arith, e))) c.1 (rw n at d))
+    (λ t. c.0 t ∙ sym (counted_append None xs ys k ∙ none), counts_append (suc k) xs ys (λ j b e. a j (omega arith) (omega (arith, e))) c.1 (rw n at d))
 
 -- ---- the rows of a forest
 
@@ -129,19 +129,19 @@ rebuilt s (known kind h ps body kids next) pre post p k at well e a o few =
     let is = row_body s (pre ++ hd) body (encode kids ++ (encode next ++ post)) kind h p at ps (count kids) e1 a1 in
     let long : length below ≡ nodes kids = length_rows kids k (suc k) here in
     let apart : Apart (suc k) below beside
-    = λ j b c. rows_none All next p (suc k + nodes kids) there j (λ q. omega (arith, o (omega (arith, q)), c, long, q, few)) (λ q. absurd (omega (arith, q, c, long))) in
+    = λ j b c. rows_none None next p (suc k + nodes kids) there j (λ q. omega (arith, o (omega (arith, q)), c, long, q, few)) (λ q. absurd (omega (arith, q, c, long))) in
     let numbered : suc k + length below ≡ suc k + nodes kids = omega (arith, long) in
     let following : (q : ℕ) → nodes_under s (suc k) (below ++ beside) q ≡ graft (nodes_under s (suc k) below q) (nodes_under s (suc k + nodes kids) beside q)
     = λ q. under_append s (suc k) below beside apart q ∙ ap (λ n. graft (nodes_under s (suc k) below q) (nodes_under s n beside q)) numbered in
-    let no-k : naming beside k ≡ 0 = rows_none All next p (suc k + nodes kids) there k (λ q. omega (arith, o (omega (arith, q)), q, few)) (λ q. absurd (omega (arith, q))) in
-    let no-p : naming below p ≡ 0 = rows_none All kids k (suc k) here p (λ q. omega (arith, o (omega (arith, q)), q, few)) (λ q. omega (arith, o (omega (arith, q)), few)) in
+    let no-k : naming beside k ≡ 0 = rows_none None next p (suc k + nodes kids) there k (λ q. omega (arith, o (omega (arith, q)), q, few)) (λ q. absurd (omega (arith, q))) in
+    let no-p : naming below p ≡ 0 = rows_none None kids k (suc k) here p (λ q. omega (arith, o (omega (arith, q)), q, few)) (λ q. omega (arith, o (omega (arith, q)), few)) in
     let the-kids : nodes_under s (suc k) (below ++ beside) k ≡ kids
     = following k ∙ ap (graft (nodes_under s (suc k) below k)) (none_named s (suc k + nodes kids) beside k no-k) ∙ graft_end (nodes_under s (suc k) below k) ∙ ih-kids.same in
     let the-next : nodes_under s (suc k) (below ++ beside) p ≡ next
     = following p ∙ ap (λ f. graft f (nodes_under s (suc k + nodes kids) beside p)) (none_named s (suc k) below p no-p) ∙ graft_none _ ∙ ih-next.same in
     let node : node_of s r kids next ≡ known kind h ps body kids next = rw (well.0, is, hash_back h) in
     let all : naming (below ++ beside) k ≡ count kids
-    = counted_append All below beside k ∙ (let own = sym (count_under_lem s (suc k) below k) ∙ ap count ih-kids.same in omega (arith, own, no-k)) in
+    = counted_append None below beside k ∙ (let own = sym (count_under_lem s (suc k) below k) ∙ ap count ih-kids.same in omega (arith, own, no-k)) in
     record {
       same = under_own s k r (below ++ beside) p refl ∙ ap (λ f. node_of s r f (nodes_under s (suc k) (below ++ beside) p)) the-kids ∙ ap (node_of s r kids) the-next ∙ node;
       fitting = (

@@ -1,4 +1,5 @@
 -- Demand 2, second half: write after read, and read after write.
+use Rattle.std.specs.Prelude.{None}
 use Prim.Native.Nat.{ℕ, ◌≤◌, ◌<◌}
 use native.Mathlib.Omega.{arith}
 use mathlib.Core.Path.{◌≡◌, refl, ap, sym, subst, ◌∙◌}
@@ -8,7 +9,6 @@ use lib.ListN.{length, take, drop}
 use lib.Seq.{take_at}
 use Rattle.base.specs.Refusals.{no_refusal}
 use Rattle.base.proofs.Tests.{by_test}
-use Rattle.kinds.specs.declared.Parent.TheVariants.{None}
 use Rattle.table.specs.declared.Row.{Row}
 use Rattle.table.specs.Table.{no_parent, has_room, rows_at, row_count, first_rows, flat, filled}
 use Rattle.table.proofs.Plans.{rows_filled, first_filled, count_flat, plan_flat, rows_flat}
@@ -22,13 +22,13 @@ use Rattle.format.proofs.Rows.{length_rows}
 use Rattle.walk.specs.Walk.{walk_of, limited, flags_of}
 use Rattle.walk.proofs.Laws.{limited_is}
 use Rattle.walk.proofs.Complete.{complete, others, walked_back}
-use Rattle.base.specs.declared.Refusal.{Refusal}
+use Rattle.base.specs.Refusals.{Refusal}
 use Rattle.plan.specs.Plan.{plan_refusal}
-use Rattle.emit.specs.declared.Written.{Written}
+use Rattle.emit.specs.Emission.{Written}
 use Rattle.emit.specs.Emission.{writing_done, file_bytes, output_left}
 use Rattle.valid.specs.Valid.{Valid}
 use Rattle.reader.specs.declared.Account.{Account}
-use Rattle.reader.specs.declared.Reading.TheVariants.{Accepted, Refused}
+use Rattle.reader.specs.Reading.{Accepted, Refused}
 use Rattle.reader.specs.Reading.{reading_of, table_after, verdict, checked}
 use Rattle.reader.proofs.Accepted.{nodes_are, flags_are, table_left_lem}
 use Rattle.reader.proofs.Exactly.{verdict_valid, in_room, has_room_lem, accepted_parts, answers_the_rules}

@@ -19,7 +19,7 @@ use Rattle.body.specs.Body.{exactly}
 use Rattle.format.specs.Rows.{body_of, all_own_bytes}
 use Rattle.base.specs.Lists.{Each}
 use Rattle.base.proofs.Lists.{each_map}
-use Rattle.base.specs.declared.Refusal.{Refusal}
+use Rattle.base.specs.Refusals.{Refusal}
 use Rattle.plan.specs.Plan.{naming, plan_refusal}
 use Rattle.emit.specs.Emission.{file_bytes}
 use Rattle.emit.proofs.Sizes.{owns, length_nodes_bytes}

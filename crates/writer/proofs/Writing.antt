@@ -10,10 +10,10 @@ use lib.ListN.{length}
 use borrow.Author.Tests.{leb-true, ne_eqb, le-ltb}
 use Rattle.table.specs.declared.Row.{Row}
 use Rattle.table.specs.Table.{rows_at, row_count, is_plan}
-use Rattle.base.specs.declared.Refusal.{Refusal}
+use Rattle.base.specs.Refusals.{Refusal}
 use Rattle.base.proofs.Refusals.{is_refused}
 use Rattle.plan.specs.Plan.{plan_refusal}
-use Rattle.emit.specs.declared.Written.{Written}
+use Rattle.emit.specs.Emission.{Written}
 use Rattle.emit.specs.Emission.{refused_writing, writing_done, file_bytes, emission, output_left, output_of}
 use Rattle.writer.specs.Writer.{plan_rows, written_of, output_after}
 

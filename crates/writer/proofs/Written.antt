@@ -12,7 +12,7 @@ use Rattle.base.proofs.Tests.{by_test}
 use Rattle.table.specs.Table.{has_row, row_at, rows_at, row_count, is_plan}
 use Rattle.base.specs.Lists.{Each}
 use Rattle.plan.specs.Plan.{plan_refusal}
-use Rattle.emit.specs.declared.Written.{Written}
+use Rattle.emit.specs.Emission.{Written}
 use Rattle.emit.specs.Emission.{refused_writing, writing_done, by_length, file_bytes, emission}
 use Rattle.table.proofs.Rests.{length_rows_at}
 use Rattle.reader.proofs.Whole.{each_rows}

@@ -12,7 +12,7 @@ use Rattle.table.specs.Table.{no_parent, has_row, row_at, rows_at}
 use Rattle.table.specs.Counts.{count_under}
 use Rattle.format.specs.Forest.{end, known, unknown, header, file_header}
 use Rattle.plan.specs.Plan.{up_from, path_of, is_on, right_parent, row_refusal, plan_refusal_from, plan_refusal}
-use Rattle.emit.specs.declared.Written.{Written}
+use Rattle.emit.specs.Emission.{Written}
 use Rattle.emit.specs.Emission.{sizes_under, nodes_bytes, roots, file_bytes, refused_writing, writing_done, emission, output_left}
 use Rattle.writer.specs.Writer.{plan_rows, written_of, output_after}
 use Rattle.writer.specs.Forest.{nodes_under, forest_of, laid_out}

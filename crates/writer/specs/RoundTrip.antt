@@ -10,7 +10,7 @@ use Rattle.format.specs.Forest.{file_of}
 use Rattle.format.specs.Rows.{rows_of, body_of}
 use Rattle.format.specs.Layout.{WellFormedFile, Few}
 use Rattle.reader.specs.declared.Account.{Account}
-use Rattle.reader.specs.declared.Reading.TheVariants.{Accepted, Refused}
+use Rattle.reader.specs.Reading.{Accepted, Refused}
 use Rattle.reader.specs.Reading.{reading_of, table_after}
 use Rattle.emit.specs.Emission.{writing_done}
 use Rattle.writer.specs.Writer.{plan_rows, written_of, output_after}

@@ -6,7 +6,7 @@ use Rattle.base.specs.Refusals.{refused_or}
 use Rattle.table.specs.declared.Row.{Row}
 use Rattle.table.specs.Table.{rows_at, row_count, is_plan}
 use Rattle.plan.specs.Plan.{plan_refusal}
-use Rattle.emit.specs.declared.Written.{Written}
+use Rattle.emit.specs.Emission.{Written}
 use Rattle.emit.specs.Emission.{refused_writing, file_bytes, emission, output_left}
 
 -- the rows of a plan's numbers

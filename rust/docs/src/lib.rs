@@ -7,11 +7,13 @@ use std::{
 };
 
 /// Words that a span may have and that the repository does not declare.
-const FOREIGN: [&str; 4] = [
+const FOREIGN: [&str; 5] = [
     // Rattle's language, and its words for what a lent buffer holds
     "pub fn self requires ensures now old new",
     // the kit: its command, what a check prints, its `io`
     "rt ci axioms io read_full write_all",
+    // the library's types
+    "Result Option u16 u32 u64",
     // the proof library
     "sets take drop map min get_or",
     // bytes, which are no names
@@ -142,7 +144,7 @@ impl Names {
         let ending = path.extension().and_then(|ending| ending.to_str());
         let (comment, before): (_, &[&str]) = match ending {
             Some("antt") => ("--", &["record", "data", "mod"]),
-            Some("rt" | "rs") => ("//", &["fn", "struct", "enum", "const", "type", "mod"]),
+            Some("rt" | "rs") => ("//", &["fn", "struct", "enum", "trait", "const", "type", "mod"]),
             _ => return,
         };
         let mut in_enum = false;

@@ -1,24 +1,16 @@
--- `body::first_named`: what the rest holds is what the whole holds.
-use native.Mathlib.Omega.{arith}
-use borrow.Author.Rules.{rules}
-use mathlib.Core.Path.{sym, ◌∙◌}
-use Rattle.body.proofs.Laws.{found, other, nowhere}
+-- `body::first_named`: where the first property of the name is found.
+use Rattle.std.proofs.Common.{rules, ◌∙◌}
+use Rattle.std.proofs.lemmas.Iterator.{YieldsList-from_slice}
+use Rattle.std.proofs.lemmas.Iterator.Search.{position_from_yields_List}
+use borrow.Author.Tests.{tests}
+use Rattle.names.specs.Names.{same}
+use Rattle.props.specs.Step.{name_at}
+use Rattle.body.proofs.Laws.{found_first}
 use Rattle.body.proofs.first_named.Goals as goal
 
-pub loop-i-init : goal.loop-i-init
-loop-i-init c = (search rules, omega arith)
-
-pub returns-then-same : goal.returns-then-same
-returns-then-same c =
+pub returns-clause-result : goal.returns-clause-result
+returns-clause-result c =
     let a = c.args in
-    record { result = sym (found a.body.now a.name.now a.starts.now c.loop-i.i (omega arith) (cc)) ∙ c.loop-i.invariant.1; within = c.loop-i.invariant.0 }
-
-pub loop-i-preserved : goal.loop-i-preserved
-loop-i-preserved c =
-    let a = c.args in
-    (omega arith, sym (other a.body.now a.name.now a.starts.now c.loop-i.i (omega arith) (cc)) ∙ c.loop-i.invariant.1)
-
-pub returns : goal.returns
-returns c =
-    let a = c.args in
-    record { result = sym (nowhere a.body.now a.name.now a.starts.now c.loop-i.i (omega arith)) ∙ c.loop-i.invariant.1; within = c.loop-i.invariant.0 }
+    c.unwrap_or.ensures
+    ∙ found_first a.body.now a.name.now a.starts.now
+    (position_from_yields_List (λ at. same (name_at a.body.now at) a.name.now) _ _ c.position.result c.position.ensures.ran (YieldsList-from_slice a.starts.now cc) (λ x b q k. search (rules, tests)))

@@ -1,32 +1,40 @@
 -- `body::index_of`: the array so far, and the starts of the rest, are the index of the whole.
-use native.Mathlib.Omega.{arith}
-use mathlib.Core.Path.{sym, ap, ◌∙◌}
-use Prim.Native.Nat.{◌-◌}
+use Rattle.std.proofs.Common.{◌≡◌, ◌+◌, ◌-◌, arith, sym, ap, ◌∙◌}
+use native.Mathlib.Nat.{sub-zero}
 use Rattle.body.specs.Body.{pass, index_of}
 use Rattle.body.proofs.Laws.{many, few, done, passed, refused, index_from, index_whole, index_after, index_stop}
 use Rattle.body.proofs.index_of.Goals as goal
 
-pub returns-then-count-gt-MOST_PROPERTIES : goal.returns-then-count-gt-MOST_PROPERTIES
-returns-then-count-gt-MOST_PROPERTIES c =
+pub returns-then-count-gt-MOST_PROPERTIES-clause-result : goal.returns-then-count-gt-MOST_PROPERTIES-clause-result
+returns-then-count-gt-MOST_PROPERTIES-clause-result c =
     let a = c.args in
-    record { result = ap index_of (many a.body.now a.count c.if-count-gt-MOST_PROPERTIES.true); bound = omega arith }
+    ap index_of (many a.body.now a.count c.if-count-gt-MOST_PROPERTIES.true)
 
-pub loop-left-init : goal.loop-left-init
-loop-left-init c =
+pub loop-i-init : goal.loop-i-init
+loop-i-init c =
     let a = c.args in
-    (omega arith, index_whole (pass a.body.now a.count 0) ∙ ap index_of (few a.body.now a.count c.if-count-gt-MOST_PROPERTIES.false))
+    rw (sub-zero a.count) (index_whole (pass a.body.now a.count 0) ∙ ap index_of (few a.body.now a.count c.if-count-gt-MOST_PROPERTIES.false))
 
-pub loop-left-preserved : goal.loop-left-preserved
-loop-left-preserved c =
-    let a = c.args in
-    (omega arith, sym (ap (index_from c.loop-left.starts c.loop-left.i) (passed a.body.now c.loop-left.left c.loop-left.at c.loop-left-test.true (sym c.step.ensures.result ∙ c.in-Past.is)) ∙ index_after c.loop-left.starts c.loop-left.i c.loop-left.at (pass a.body.now (c.loop-left.left - 1) c.in-Past.next.at)) ∙ c.loop-left.invariant.1)
+pub loop-i-preserved : goal.loop-i-preserved
+loop-i-preserved c =
+    let s = c.args.body.now in
+    let l = c.loop-i in
+    let k = c.args.count - l.i in
+    let next : c.args.count - (l.i + 1) ≡ k - 1 = omega arith in
+    rw next
+    (sym (ap (index_from l.starts l.i) (passed s k l.at (omega arith) (sym c.in-Ok.ensures.result)) ∙ index_after l.starts l.i l.at (pass s (k - 1) c.in-Ok.passed.next.at))
+    ∙ l.invariant)
 
-pub returns-in-Refused : goal.returns-in-Refused
-returns-in-Refused c =
-    let a = c.args in
-    record { result = sym (ap (index_from c.loop-left.starts c.loop-left.i) (refused a.body.now c.loop-left.left c.loop-left.at c.loop-left-test.true (sym c.step.ensures.result ∙ c.in-Refused.is)) ∙ index_stop c.loop-left.starts c.loop-left.i _ c.loop-left.at) ∙ c.loop-left.invariant.1; bound = omega arith }
+pub returns-in-Err-clause-result : goal.returns-in-Err-clause-result
+returns-in-Err-clause-result c =
+    let s = c.args.body.now in
+    let l = c.loop-i in
+    sym (ap (index_from l.starts l.i) (refused s (c.args.count - l.i) l.at (omega arith) (sym c.in-Err.ensures.result)) ∙ index_stop l.starts l.i _ l.at)
+    ∙ l.invariant
 
-pub returns : goal.returns
-returns c =
-    let a = c.args in
-    record { result = sym (ap (index_from c.loop-left.starts c.loop-left.i) (done a.body.now c.loop-left.left c.loop-left.at c.loop-left-test.false) ∙ index_stop c.loop-left.starts c.loop-left.i 0 c.loop-left.at) ∙ c.loop-left.invariant.1; bound = omega arith }
+pub returns-clause-result : goal.returns-clause-result
+returns-clause-result c =
+    let s = c.args.body.now in
+    let l = c.loop-i in
+    let all : l.i ≡ c.args.count = omega arith in
+    rw all at (sym (ap (index_from l.starts l.i) (done s (c.args.count - l.i) l.at (omega arith)) ∙ index_stop l.starts l.i 0 l.at) ∙ l.invariant)

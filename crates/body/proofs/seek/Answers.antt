@@ -1,38 +1,38 @@
 -- `body::seek`: what the rest answers is what the whole answers.
-use mathlib.Core.Path.{◌≡◌, sym, ap, ◌∙◌}
-use Prim.Native.Nat.{◌≤◌}
-use lib.ListN.{length}
+use Rattle.std.proofs.Common.{◌≡◌, ◌≤◌, length, Ok, Err, sym, ap, ◌∙◌, rules}
+use Rattle.std.proofs.lemmas.Result.{err_from_is_err_and, MatchResult-weaker}
+use Rattle.base.specs.Refusals.{reason_number}
 use Rattle.base.proofs.Answers.{told}
 use Rattle.names.specs.Names.{same}
-use Rattle.props.specs.declared.Step.TheVariants.{Past}
+use Rattle.props.specs.Step.{Past}
 use Rattle.props.specs.Step.{step_at, name_at}
-use Rattle.body.specs.Body.{sought_numbers}
-use Rattle.body.proofs.Search.{passed_within, passed_name, sought_done, sought_refused, sought_here, sought_later}
+use Rattle.body.specs.Body.{RefusedAt, sought_numbers}
+use Rattle.body.proofs.Search.{passed_within, passed_name, stepped_at, sought_done, sought_refused, sought_here, sought_later}
 use Rattle.body.proofs.seek.Goals as goal
-use Rattle.body.proofs.seek.Goals.{After-same, In-Past}
+use Rattle.body.proofs.seek.Goals.{After-same, In_ok-passed}
 
 -- past a property
-stepped : (c : In-Past) → step_at c.args.body.now c.loop-left.at ≡ Past c.in-Past.offsets c.in-Past.next
-stepped c = sym c.step.ensures.result ∙ c.in-Past.is
+stepped : (c : In_ok-passed) → step_at c.args.body.now c.loop-left.at ≡ Past c.in_ok-passed.passed.offsets c.in_ok-passed.passed.next
+stepped c = stepped_at c.args.body.now c.loop-left.at c.step.result (Ok c.in_ok-passed.passed) c.step.ensures.result c.in_ok-passed.ensures.cases
 
-within : (c : In-Past) →
-    (c.in-Past.offsets.name ≤ c.in-Past.offsets.start) × (c.in-Past.offsets.start ≤ length c.args.body.now) × (c.in-Past.next.at ≤ length c.args.body.now)
+within : (c : In_ok-passed) → let p = c.in_ok-passed.passed in
+    (p.offsets.name ≤ p.offsets.start) × (p.offsets.start ≤ length c.args.body.now) × (p.next.at ≤ length c.args.body.now)
 within c = passed_within c.args.body.now c.loop-left.at (stepped c)
 
 -- the name that was compared is the property's
 named : (c : After-same) → same (name_at c.args.body.now c.loop-left.at) c.args.name.now ≡ c.same.result
 named c =
-    ap (λ n. same n c.args.name.now) (sym (passed_name c.args.body.now c.loop-left.at (stepped (goal.at.After-same c).In-Past)))
+    ap (λ n. same n c.args.name.now) (sym (passed_name c.args.body.now c.loop-left.at (stepped (goal.at.After-same c).In_ok-passed)))
     ∙ sym c.same.ensures
 
 pub slice_bounds-same-count : goal.slice_bounds-same-count
-slice_bounds-same-count c = (within (goal.at.slice_bounds-same-count c).In-Past).0
+slice_bounds-same-count c = (within (goal.at.slice_bounds-same-count c).In_ok-passed).0
 
 pub slice_bounds-same-start : goal.slice_bounds-same-start
-slice_bounds-same-start c = (within (goal.at.slice_bounds-same-start c).In-Past).0
+slice_bounds-same-start c = (within (goal.at.slice_bounds-same-start c).In_ok-passed).0
 
 pub slice_bounds-same-end : goal.slice_bounds-same-end
-slice_bounds-same-end c = (within (goal.at.slice_bounds-same-end c).In-Past).1
+slice_bounds-same-end c = (within (goal.at.slice_bounds-same-end c).In_ok-passed).1
 
 pub returns-then-same : goal.returns-then-same
 returns-then-same c =
@@ -40,7 +40,7 @@ returns-then-same c =
     let l = c.loop-left in
     let at = goal.at.returns-then-same c in
     let all = told sought_numbers
-    (sought_here a.body.now a.name.now l.left l.at c.loop-left-test.true (stepped at.In-Past) (named at.After-same ∙ c.if-same.true) ∙ l.invariant) in
+    (sought_here a.body.now a.name.now l.left l.at c.loop-left-test.true (stepped at.In_ok-passed) (named at.After-same ∙ c.if-same.true) ∙ l.invariant) in
     record { result = all.0; numbers = all.1 }
 
 pub loop-left-preserved : goal.loop-left-preserved
@@ -48,15 +48,18 @@ loop-left-preserved c =
     let a = c.args in
     let l = c.loop-left in
     let at = goal.at.loop-left-preserved c in
-    sought_later a.body.now a.name.now l.left l.at c.loop-left-test.true (stepped at.In-Past) (named at.After-same ∙ c.if-same.false) ∙ l.invariant
+    sought_later a.body.now a.name.now l.left l.at c.loop-left-test.true (stepped at.In_ok-passed) (named at.After-same ∙ c.if-same.false) ∙ l.invariant
 
-pub returns-in-Refused : goal.returns-in-Refused
-returns-in-Refused c =
+pub returns-in_err-passed : goal.returns-in_err-passed
+returns-in_err-passed c =
     let a = c.args in
     let l = c.loop-left in
+    let p = err_from_is_err_and c.from_residual.result c.from_residual.ensures.1 in
+    let at = stepped_at a.body.now l.at c.step.result (Err c.in_err-passed.field-0.0) c.step.ensures.result
+    (MatchResult-weaker c.step.result c.in_err-passed.ensures.cases (λ p e. e) (λ why e. search rules)) in
     let all = told sought_numbers
-    (sought_refused a.body.now a.name.now l.left l.at c.loop-left-test.true (sym c.step.ensures.result ∙ c.in-Refused.is) ∙ l.invariant) in
-    record { result = all.0; numbers = all.1 }
+    (ap (RefusedAt (reason_number c.in_err-passed.field-0.0.reason)) at.1 ∙ sought_refused a.body.now a.name.now l.left l.at c.loop-left-test.true at.0 ∙ l.invariant) in
+    rw (p.1, p.2) (record { result = all.0; numbers = all.1 })
 
 pub returns : goal.returns
 returns c =

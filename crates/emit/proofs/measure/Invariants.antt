@@ -1,7 +1,5 @@
 -- `emit::measure`: the numbers tell the sizes so far, and the length is that of the rows passed.
-use Prim.Native.Nat.{◌+◌, ◌-◌, ◌≤◌}
-use mathlib.Core.Path.{◌≡◌}
-use lib.ListN.{length}
+use Rattle.std.proofs.Common.{◌≡◌, ◌+◌, ◌-◌, ◌≤◌}
 use Rattle.emit.specs.Emission.{roots}
 use Rattle.table.proofs.Rests.{rest}
 use Rattle.emit.proofs.Sizes.{owns}
@@ -10,9 +8,6 @@ use Rattle.emit.proofs.measure.Given as goal
 
 abbrev pub invariant-loop-i : goal.invariant-loop-i
 invariant-loop-i l =
-    (l.i ≤ l.rows) × (length l.sizes ≡ 1024) × Measuring l.sizes l.source l.plan l.rows l.i
+    Measuring l.sizes l.source l.plan l.rows l.i
     × (l.length ≡ 16 + owns l.source (rest l.plan l.rows l.i)) × (l.length ≤ 16777216)
     × (l.roots ≡ roots (rest l.plan l.rows l.i)) × (l.roots ≤ l.rows - l.i)
-
-abbrev pub decreases-loop-i : goal.decreases-loop-i
-decreases-loop-i l = l.i

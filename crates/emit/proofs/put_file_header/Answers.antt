@@ -4,5 +4,5 @@ use Rattle.emit.proofs.put_file_header.Goals as goal
 
 pub returns : goal.returns
 returns c =
-    file_header_put c.args.out.now c.args.roots c.args.flags c.put_u32.ensures c.put_u32-2.ensures c.put_u32-3.ensures
-    c.put_u32-4.ensures
+    file_header_put c.args.out.now c.args.roots c.args.flags c.write.ensures c.write-2.ensures c.write-3.ensures
+    c.write-4.ensures

@@ -2,6 +2,7 @@
 use Rattle.std.proofs.Common.{◌≡◌, ◌≤◌, ap, ◌∙◌, arith}
 use Rattle.body.specs.Body.{skim, skimmed}
 use Rattle.body.proofs.Skimmed.{skim_none, skim_all}
+use Rattle.rules.specs.Packing.{lines_from}
 use Rattle.judge.specs.ByLine.{judged_by_line}
 use Rattle.judge.proofs.Typing.{noted_for}
 use Rattle.judge.proofs.judge.Goals as goal
@@ -31,7 +32,7 @@ returns c =
     let x = c.judge_first.ensures in
     let noted = noted_for skims x.noted in
     record {
-      result = x.result ∙ ap (λ ps. judged_by_line a.kind a.wanted a.lines.now a.body.now ps a.bones) skims;
+      result = x.result ∙ ap (λ ps. judged_by_line a.kind a.wanted (lines_from a.lines.now) a.body.now ps a.bones) skims;
       starts = noted.starts;
       numbers = noted.numbers;
       keys = noted.keys;

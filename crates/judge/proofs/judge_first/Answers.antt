@@ -1,28 +1,24 @@
 -- `judge::judge_first`: the first of 13, 14 and 15; what was noted are the places and the lines of the properties.
-use Rattle.std.proofs.Common.{◌≡◌, ℕ, ◌≤◌, Bool, List, map, length, get_or, take, sym, ap, ◌∙◌, subst, arith}
-use lib.ListN.{length-map}
+use Rattle.std.proofs.Common.{◌≡◌, ℕ, ◌≤◌, List, map, length, get_or, take, refl, sym, ap, ◌∙◌, subst, rules, arith}
+use Rattle.std.specs.Prelude.{Err}
 use Rattle.body.specs.Body.{skim}
 use Rattle.body.proofs.Skimmed.{length_skim, skim_within}
 use Rattle.rules.specs.Table.{Line}
 use Rattle.rules.specs.Packing.{lines_from}
 use Rattle.judge.specs.Properties.{line_number}
+use Rattle.judge.specs.Judge.{judged_told}
 use Rattle.judge.specs.ByLine.{required_among, lacks_by_line, beside_by_line}
+use Rattle.base.proofs.Refusals.{numbered}
 use Rattle.judge.specs.Private.{valued_to}
 use Rattle.judge.proofs.Typing.{starts_noted, numbers_noted}
-use Rattle.judge.proofs.Values.{mistyped, lacking, by_values_lem, refused_bounded}
+use Rattle.judge.proofs.Values.{mistyped, lacking, by_values_lem}
 use Rattle.judge.proofs.judge_first.Goals as goal
-use Rattle.judge.proofs.judge_first.Goals.{After-typed-t}
+use Rattle.judge.proofs.judge_first.Goals.{After-lacks}
 
-pub typed-t-requires : goal.typed-t-requires
-typed-t-requires c = let p = c.requires in (p.0, omega (arith, p.1), omega (arith, p.2), omega (arith, p.3), omega (arith, p.4))
-
--- after 13: the node, and what was noted
-module _ (t : After-typed-t) where
-  abbrev rows : List (List ℕ)
-  rows = t.args.lines.now
-
+-- after 13, which refuses none: the node, and what was noted
+module _ (t : After-lacks) where
   abbrev lines : List Line
-  lines = lines_from rows
+  lines = lines_from t.args.lines.now
 
   abbrev body : List ℕ
   body = t.args.body.now
@@ -36,77 +32,49 @@ module _ (t : After-typed-t) where
   abbrev numbers : List ℕ
   numbers = map (line_number lines body) all
 
-  module _ (z : t.typed-t.result.refusal.number ≡ 0) where
-    starts_are : take count t.typed-t.new.starts ≡ all
-    starts_are = starts_noted t.typed-t.ensures.noted t.typed-t.ensures.result z count (sym (length_skim body count 0)) (omega (arith, t.requires.0, t.requires.1))
+  starts_are : take count t.typed.new.starts ≡ all
+  starts_are = starts_noted t.typed.ensures.noted t.in_ok-required.ensures.result refl count (sym (length_skim body count 0)) (omega (arith, t.requires.0, t.requires.1))
 
-    numbers_are : take count t.typed-t.new.numbers ≡ numbers
-    numbers_are = numbers_noted t.typed-t.ensures.noted t.typed-t.ensures.result z count (sym (length_skim body count 0)) (omega (arith, t.requires.0, t.requires.2))
+  numbers_are : take count t.typed.new.numbers ≡ numbers
+  numbers_are = numbers_noted t.typed.ensures.noted t.in_ok-required.ensures.result refl count (sym (length_skim body count 0)) (omega (arith, t.requires.0, t.requires.2))
 
-    starts_many : count ≡ length (take count t.typed-t.new.starts)
-    starts_many = sym (ap length starts_are ∙ length_skim body count 0)
+  -- 14, of all properties
+  lacked : lacks_by_line t.args.kind t.args.wanted (required_among lines numbers) numbers ≡ t.lacks.result
+  lacked =
+      sym (t.lacks.ensures ∙ ap (λ k. lacks_by_line t.args.kind t.args.wanted k (take count t.typed.new.numbers)) t.in_ok-required.ensures.required
+      ∙ ap (lacks_by_line t.args.kind t.args.wanted (required_among lines numbers)) numbers_are)
 
-    numbers_many : count ≡ length (take count t.typed-t.new.numbers)
-    numbers_many = sym (ap length numbers_are ∙ length-map all (line_number lines body) ∙ length_skim body count 0)
-
-    -- 14, of all properties
-    lacked : {r : Bool} → r ≡ lacks_by_line t.args.kind t.args.wanted t.typed-t.result.required (take count t.typed-t.new.numbers)
-        → lacks_by_line t.args.kind t.args.wanted (required_among rows numbers) numbers ≡ r
-    lacked e =
-        sym (e ∙ ap (λ k. lacks_by_line t.args.kind t.args.wanted k (take count t.typed-t.new.numbers)) (t.typed-t.ensures.required z)
-        ∙ ap (lacks_by_line t.args.kind t.args.wanted (required_among rows numbers)) numbers_are)
-
-pub returns-then-v-ne0 : goal.returns-then-v-ne0
-returns-then-v-ne0 c =
-    let t = (goal.at.returns-then-v-ne0 c).After-typed-t in
+pub returns-in_err-required-clause-result : goal.returns-in_err-required-clause-result
+returns-in_err-required-clause-result c =
     let a = c.args in
-    record {
-      result = c.refused_node.ensures ∙ mistyped a.kind a.wanted (rows t) (body t) (all t) a.bones c.typed-t.ensures.result c.if-v-ne0.true;
-      noted = c.typed-t.ensures.noted;
-      bounds = refused_bounded _ _ (length (body t)) c.typed-t.ensures.place c.refused_node.ensures;
-    }
+    let told : c.from_residual.result ≡ Err c.in_err-required.field-0.0 = search rules in
+    ap judged_told told
+    ∙ mistyped a.kind a.wanted (lines_from a.lines.now) a.body.now (skim a.body.now a.count 0) a.bones c.in_err-required.ensures.result
+    (numbered c.in_err-required.field-0.0.reason)
 
-pub slice_bounds-lacks-end-2 : goal.slice_bounds-lacks-end-2
-slice_bounds-lacks-end-2 c = numbers_many (goal.at.slice_bounds-lacks-end-2 c).After-typed-t c.if-v-ne0.false
-
-pub returns-then-lacks : goal.returns-then-lacks
-returns-then-lacks c =
-    let t = (goal.at.returns-then-lacks c).After-typed-t in
+pub returns-then-lacks-clause-result : goal.returns-then-lacks-clause-result
+returns-then-lacks-clause-result c =
+    let t = (goal.at.returns-then-lacks-clause-result c).After-lacks in
     let a = c.args in
-    record {
-      result = c.refused_node-then-lacks.ensures
-          ∙ lacking a.kind a.wanted (rows t) (body t) (all t) a.bones c.typed-t.ensures.result c.if-v-ne0.false (lacked t c.if-v-ne0.false c.lacks.ensures ∙ c.if-lacks.true);
-      noted = c.typed-t.ensures.noted;
-      bounds = refused_bounded 14 0 (length (body t)) (omega arith) c.refused_node-then-lacks.ensures;
-    }
+    ap (λ r. judged_told (Err r)) c.at.ensures
+    ∙ lacking a.kind a.wanted (lines t) (body t) (all t) a.bones c.in_ok-required.ensures.result refl (lacked t ∙ c.if-lacks.true)
 
-pub slice_bounds-valued-end-2 : goal.slice_bounds-valued-end-2
-slice_bounds-valued-end-2 c = starts_many (goal.at.slice_bounds-valued-end-2 c).After-typed-t c.if-v-ne0.false
+pub valued-requires-clause-numbers : goal.valued-requires-clause-numbers
+valued-requires-clause-numbers c =
+    let t = (goal.at.valued-requires-clause-numbers c).After-lacks in
+    numbers_are t ∙ ap (map (line_number (lines t) (body t))) (sym (starts_are t))
 
-pub slice_bounds-valued-end-4 : goal.slice_bounds-valued-end-4
-slice_bounds-valued-end-4 c = numbers_many (goal.at.slice_bounds-valued-end-4 c).After-typed-t c.if-v-ne0.false
+pub valued-requires-clause-places : goal.valued-requires-clause-places
+valued-requires-clause-places c =
+    let t = (goal.at.valued-requires-clause-places c).After-lacks in
+    λ i. subst (λ ps. get_or ps i 0 ≤ length (body t)) (sym (starts_are t)) (skim_within (body t) (count t) 0 (omega arith) i)
 
-pub valued-requires : goal.valued-requires
-valued-requires c =
-    let t = (goal.at.valued-requires c).After-typed-t in
-    let z = c.if-v-ne0.false in
-    record {
-      count = omega (arith, starts_many t z, c.requires.0);
-      numbers = numbers_are t z ∙ ap (map (line_number (lines t) (body t))) (sym (starts_are t z));
-      places = λ i. subst (λ ps. get_or ps i 0 ≤ length (body t)) (sym (starts_are t z)) (skim_within (body t) (count t) 0 (omega arith) i);
-    }
-
-pub returns : goal.returns
-returns c =
-    let t = (goal.at.returns c).After-typed-t in
+pub returns-clause-result : goal.returns-clause-result
+returns-clause-result c =
+    let t = (goal.at.returns-clause-result c).After-lacks in
     let a = c.args in
-    let z = c.if-v-ne0.false in
-    let first = take (count t) c.typed-t.new.starts in
-    record {
-      result = c.valued.ensures.result
-          ∙ ap (λ ns. valued_to (lines t) (body t) (beside_by_line a.kind (body t) first ns a.bones) first) (numbers_are t z)
-          ∙ ap (λ starts. valued_to (lines t) (body t) (beside_by_line a.kind (body t) starts (numbers t) a.bones) starts) (starts_are t z)
-          ∙ by_values_lem a.kind a.wanted (rows t) (body t) (all t) a.bones c.typed-t.ensures.result z (lacked t z c.lacks.ensures ∙ c.if-lacks.false);
-      noted = c.typed-t.ensures.noted;
-      bounds = c.valued.ensures.bounds;
-    }
+    let first = take (count t) c.typed.new.starts in
+    c.valued.ensures.result
+    ∙ ap (λ ns. valued_to (lines t) (body t) (beside_by_line a.kind (body t) first ns a.bones) first) (numbers_are t)
+    ∙ ap (λ starts. valued_to (lines t) (body t) (beside_by_line a.kind (body t) starts (numbers t) a.bones) starts) (starts_are t)
+    ∙ by_values_lem a.kind a.wanted (lines t) (body t) (all t) a.bones c.in_ok-required.ensures.result refl (lacked t ∙ c.if-lacks.false)

@@ -1,19 +1,13 @@
 -- `kinds::standing_of`: may stand or not, known or not.
+use mathlib.Core.Path.{refl}
 use Rattle.kinds.proofs.Standings.{standing}
 use Rattle.kinds.proofs.standing_of.Goals as goal
 
-pub returns-then-may : goal.returns-then-may
-returns-then-may c =
-    standing _ _ c.parents_of-parents.ensures c.stands-may.ensures c.is_listed.ensures c.if-may.true c.if-is_listed.true
+pub returns-then-not-stands : goal.returns-then-not-stands
+returns-then-not-stands c = standing c.args.parent c.args.kind c.parents_of-parents.result c.parents_of-parents.ensures c.if-not-stands.ensures refl
 
-pub returns-else-may : goal.returns-else-may
-returns-else-may c =
-    standing _ _ c.parents_of-parents.ensures c.stands-may.ensures c.is_listed.ensures c.if-may.false c.if-is_listed.true
+pub returns-then-is_some : goal.returns-then-is_some
+returns-then-is_some c = standing c.args.parent c.args.kind c.parents_of-parents.result c.parents_of-parents.ensures c.if-not-stands.ensures c.if-is_some.ensures
 
-pub returns-then-may-2 : goal.returns-then-may-2
-returns-then-may-2 c =
-    standing _ _ c.parents_of-parents.ensures c.stands-may.ensures c.is_listed.ensures c.if-may-2.true c.if-is_listed.false
-
-pub returns-else-may-2 : goal.returns-else-may-2
-returns-else-may-2 c =
-    standing _ _ c.parents_of-parents.ensures c.stands-may.ensures c.is_listed.ensures c.if-may-2.false c.if-is_listed.false
+pub returns-else-is_some : goal.returns-else-is_some
+returns-else-is_some c = standing c.args.parent c.args.kind c.parents_of-parents.result c.parents_of-parents.ensures c.if-not-stands.ensures c.if-is_some.ensures

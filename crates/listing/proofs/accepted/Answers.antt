@@ -7,7 +7,7 @@ use lib.ListN.{length}
 use Rattle.table.specs.declared.Row.{Row}
 use Rattle.table.specs.Table.{rows_at}
 use Rattle.reader.specs.declared.Account.{Account}
-use Rattle.reader.specs.declared.Reading.TheVariants.{Accepted}
+use Rattle.reader.specs.Reading.{Accepted}
 use Rattle.text.proofs.Laws.{put_short}
 use Rattle.listing.specs.Listing.{text_of, node_lines, file_lines, printed}
 use Rattle.listing.proofs.Laws.{puts_written, passed_none, passed_more, passed_all}

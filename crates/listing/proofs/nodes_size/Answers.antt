@@ -8,23 +8,17 @@ use Rattle.listing.specs.Listing.{text_of}
 use Rattle.listing.proofs.Whole.{nodes_from, nodes_all, nodes_more, nodes_none}
 use Rattle.listing.proofs.nodes_size.Goals as goal
 
-pub loop-i-init : goal.loop-i-init
-loop-i-init c = (omega arith, omega arith, omega arith)
-
-pub overflow_add-sum : goal.overflow_add-sum
-overflow_add-sum c = omega (arith, c.size-sum.ensures.1)
-
-pub loop-i-preserved : goal.loop-i-preserved
-loop-i-preserved c =
+pub loop-index-preserved : goal.loop-index-preserved
+loop-index-preserved c =
     let a = c.args in
-    let i = c.loop-i.i in
+    let i = c.loop-index.index in
     let r = c.row_at-row.result in
-    let more = ap length (nodes_more a.table.now a.nodes i c.loop-i-test.true c.row_at-row.ensures)
+    let more = ap length (nodes_more a.table.now a.nodes i c.loop-index-test.true c.row_at-row.ensures)
     ∙ length-append (text_of (Node i r)) (nodes_from a.table.now a.nodes (i + 1)) in
-    (omega arith, omega (arith, c.size-sum.ensures.1), omega (arith, more, c.size-sum.ensures.0, c.loop-i.invariant.2))
+    (omega (arith, c.size-sum.ensures.1), omega (arith, more, c.size-sum.ensures.0, c.loop-index.invariant.1))
 
 pub returns : goal.returns
 returns c =
     let a = c.args in
-    let none = ap length (nodes_none a.table.now a.nodes c.loop-i.i c.loop-i-test.false) in
-    (omega (arith, none, c.loop-i.invariant.2, ap length (nodes_all a.table.now a.nodes)), omega arith)
+    let none = ap length (nodes_none a.table.now a.nodes c.loop-index.index c.loop-index-test.false) in
+    (omega (arith, none, c.loop-index.invariant.1, ap length (nodes_all a.table.now a.nodes)), omega arith)

@@ -1,20 +1,13 @@
--- `names::each_ok`: what the bytes from i on say is what all say.
-use native.Mathlib.Omega.{arith}
-use mathlib.Core.Path.{refl, sym, ◌∙◌}
-use Rattle.names.proofs.Laws.{bytes_passed, bytes_refused, bytes_ended}
+-- `names::each_ok`: what `all` says of the bytes.
+use mathlib.Core.Path.{◌∙◌}
+use Rattle.std.proofs.Common.{rules, tests}
+use Rattle.std.proofs.lemmas.Iterator.{YieldsList-from_slice}
+use Rattle.std.proofs.lemmas.Iterator.Search.{all_from_yields_List}
+use Rattle.names.specs.Names.{byte_ok}
+use Rattle.names.proofs.Laws.{bytes_all}
 use Rattle.names.proofs.each_ok.Goals as goal
-
-pub loop-i-init : goal.loop-i-init
-loop-i-init c = (omega arith, refl)
-
-pub returns-then-not-byte_ok : goal.returns-then-not-byte_ok
-returns-then-not-byte_ok c =
-    sym (bytes_refused c.args.name.now c.loop-i.i (omega arith) (sym c.byte_ok.ensures ∙ c.if-not-byte_ok.true)) ∙ c.loop-i.invariant.1
-
-pub loop-i-preserved : goal.loop-i-preserved
-loop-i-preserved c =
-    (omega arith, sym (bytes_passed c.args.name.now c.loop-i.i (omega arith) (sym c.byte_ok.ensures ∙ c.if-not-byte_ok.false)) ∙ c.loop-i.invariant.1)
 
 pub returns : goal.returns
 returns c =
-    sym (bytes_ended c.args.name.now c.loop-i.i (omega arith)) ∙ c.loop-i.invariant.1
+    let l = c.args.name.now in
+    all_from_yields_List byte_ok _ _ c.all.result c.all.ensures.ran (YieldsList-from_slice l cc) (λ x b q k. search (rules, tests)) ∙ bytes_all l

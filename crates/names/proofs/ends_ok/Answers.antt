@@ -3,7 +3,7 @@ use Prim.Native.Nat.{◌-◌}
 use mathlib.Core.Path.{sym, ap, ◌∙◌}
 use lib.ListN.{length}
 use lib.Seq.{length-take-le}
-use Rattle.le.proofs.Laws.{rest_drop}
+use Rattle.std.proofs.lemmas.List.{take_rest}
 use Rattle.names.specs.Names.{bytes_ok}
 use Rattle.names.proofs.Laws.{ends_are}
 use Rattle.names.proofs.ends_ok.Goals as goal
@@ -16,5 +16,5 @@ pub returns : goal.returns
 returns c =
     let k = c.args.k in
     let name = c.args.name.now in
-    rw (c.block_ok.ensures, c.block_ok-2.ensures ∙ ap bytes_ok (rest_drop name (length name - k)))
+    rw (c.block_ok.ensures, c.block_ok-2.ensures ∙ ap bytes_ok (take_rest name (length name - k)))
     (ends_are k name c.requires.0 c.requires.1)

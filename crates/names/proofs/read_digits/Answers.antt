@@ -1,35 +1,24 @@
--- `names::read_digits`: the value so far and the digits from i on give what all give, and the value is below 10 ^ i.
-use native.Mathlib.Omega.{arith}
-use mathlib.Core.Path.{refl, sym, ◌∙◌}
-use borrow.Author.Rules.{rules}
-use Rattle.names.proofs.Laws.{worth, worth_three, decimal_low, decimal_high, decimal_passed, decimal_ended}
+-- `names::read_digits`: the value so far and the digits that are left give what all give, and the value is below 10 ^ i.
+use Rattle.std.proofs.Common.{arith, rules, sym, ◌∙◌}
+use Rattle.std.proofs.lemmas.List.{at_drop_more, at_drop_all}
+use Rattle.std.proofs.lemmas.Bool.Decides.{nat_tests}
+use Rattle.names.specs.Names.{read_digits}
+use Rattle.names.proofs.Laws.{worth}
 use Rattle.names.proofs.read_digits.Goals as goal
 
-pub loop-i-init : goal.loop-i-init
-loop-i-init c = (search rules, search rules, refl)
+pub returns-then-not-is_ascii_digit : goal.returns-then-not-is_ascii_digit
+unfolding read_digits
+returns-then-not-is_ascii_digit c =
+    let e = at_drop_more (read_digits c.loop-b.value) c.args.digits.now c.loop-b.b-index 0 (omega arith) in
+    search rules
 
-pub returns-then-b-lt48 : goal.returns-then-b-lt48
-returns-then-b-lt48 c =
-    sym (decimal_low c.args.digits.now c.loop-i.i c.loop-i.value (omega arith) c.wide-b.ensures c.if-b-lt48.true) ∙ c.loop-i.invariant.2
-
-pub returns-then-b-gt57 : goal.returns-then-b-gt57
-returns-then-b-gt57 c =
-    sym (decimal_high c.args.digits.now c.loop-i.i c.loop-i.value (omega arith) c.wide-b.ensures c.if-b-gt57.true) ∙ c.loop-i.invariant.2
-
-pub overflow_mul-value : goal.overflow_mul-value
-overflow_mul-value c =
-    let l = c.loop-i in
-    omega (arith, worth_three l.i l.value (omega arith) l.invariant.1)
-
-pub overflow_add-value : goal.overflow_add-value
-overflow_add-value c =
-    let l = c.loop-i in
-    omega (arith, worth_three l.i l.value (omega arith) l.invariant.1)
-
-pub loop-i-preserved : goal.loop-i-preserved
-loop-i-preserved c =
-    (omega arith, worth c.loop-i.i c.loop-i.value _ c.loop-i.invariant.1 (omega arith), sym (decimal_passed c.args.digits.now c.loop-i.i c.loop-i.value (omega arith) c.wide-b.ensures c.if-b-lt48.false c.if-b-gt57.false) ∙ c.loop-i.invariant.2)
+pub loop-b-preserved : goal.loop-b-preserved
+unfolding read_digits
+loop-b-preserved c =
+    let e = at_drop_more (read_digits c.loop-b.value) c.args.digits.now c.loop-b.b-index 0 (omega arith) in
+    let d = c.is_ascii_digit.ensures.bound in
+    (worth c.loop-b.b-index c.loop-b.value c.from.result c.loop-b.invariant.0 (grind (arith, nat_tests)), grind arith)
 
 pub returns : goal.returns
-returns c =
-    sym (decimal_ended c.args.digits.now c.loop-i.i c.loop-i.value (omega arith)) ∙ c.loop-i.invariant.2
+unfolding read_digits
+returns c = sym (at_drop_all (read_digits c.loop-b.value) c.args.digits.now c.loop-b.b-index (omega arith)) ∙ c.loop-b.invariant.1

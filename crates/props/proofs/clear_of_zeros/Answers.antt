@@ -1,31 +1,22 @@
--- `props::clear_of_zeros`: a block without a zero is passed whole.
+-- `props::clear_of_zeros`: the blocks before the first that has a zero are passed whole.
+use Prim.Native.Nat.{◌/◌}
 use native.Mathlib.Omega.{arith}
-use mathlib.Core.Path.{◌≡◌, sym, ap, ◌∙◌}
-use mathlib.Core.Bool.{false}
-use Prim.Native.Nat.{◌+◌, ◌-◌}
-use lib.Dec.{leb}
-use lib.ListN.{length, take, drop, length-drop}
-use lib.Seq.{drop-drop}
-use Rattle.props.specs.Step.{to_zero}
-use Rattle.props.proofs.Laws.{block_clear}
+use mathlib.Core.Path.{◌≡◌, ap, ◌∙◌}
+use lib.ListN.{length}
+use Rattle.std.proofs.Common.{rules, tests}
+use Rattle.std.specs.List.{position_or_len}
+use Rattle.std.proofs.lemmas.Iterator.{YieldsList-from_slice}
+use Rattle.std.proofs.lemmas.Iterator.Search.{position_from_yields_List}
+use Rattle.props.proofs.Laws.{has_zero, place_or_len, blocks_clear}
 use Rattle.props.proofs.clear_of_zeros.Goals as goal
 
-pub loop-i-init : goal.loop-i-init
-loop-i-init c = (omega arith, omega arith)
-
-pub returns-then-has_zero : goal.returns-then-has_zero
-returns-then-has_zero c = c.loop-i.invariant
-
-pub loop-i-preserved : goal.loop-i-preserved
-loop-i-preserved c =
-    let s = c.args.bytes.now in
-    let i = c.loop-i.i in
-    let size : 64 ≡ i + 64 - i = omega arith in
-    let none : leb (to_zero (take 64 (drop i s))) (length (take 64 (drop i s))) ≡ false
-    = ap (λ n. leb (to_zero (take n (drop i s))) (length (take n (drop i s)))) size ∙ sym c.has_zero.ensures ∙ c.if-has_zero.false in
-    let passed : to_zero (drop i s) ≡ 64 + to_zero (drop (i + 64) s)
-    = block_clear 64 (drop i s) (omega (arith, length-drop i s)) none ∙ ap (λ r. 64 + to_zero r) (drop-drop 64 i s) in
-    (omega arith, omega (arith, passed, c.loop-i.invariant.1))
-
 pub returns : goal.returns
-returns c = c.loop-i.invariant
+returns c =
+    let s = c.args.bytes.now in
+    let blocks = c.as_chunks.result.0.now in
+    let place : c.unwrap_or.result ≡ position_or_len has_zero blocks
+    = c.unwrap_or.ensures
+    ∙ place_or_len has_zero blocks
+    (position_from_yields_List has_zero _ _ c.position.result c.position.ensures.ran (YieldsList-from_slice blocks cc) (λ x b q k. search (rules, tests))) in
+    let all = blocks_clear (length s / 64) s (omega arith) (place ∙ ap (position_or_len has_zero) c.as_chunks.ensures.front) in
+    (omega (arith, all.0), all.1)

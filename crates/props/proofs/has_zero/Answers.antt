@@ -1,18 +1,13 @@
--- `props::has_zero`: what was met, or what the rest has.
-use native.Mathlib.Omega.{arith}
-use mathlib.Core.Path.{refl, sym, ◌∙◌}
-use Rattle.props.proofs.Laws.{any_next, any_end}
+-- `props::has_zero`: any by any, from the first to the last.
+use mathlib.Core.Path.{◌∙◌}
+use mathlib.Core.Bool.{false, ◌||◌}
+use Rattle.std.proofs.Common.{rules, tests}
+use Rattle.std.proofs.lemmas.Iterator.{YieldsList-from_slice}
+use Rattle.std.proofs.lemmas.Iterator.Consumers.{fold_from_yields_List}
+use Rattle.props.proofs.Laws.{is_zero, any_from}
 use Rattle.props.proofs.has_zero.Goals as goal
-
-pub loop-i-init : goal.loop-i-init
-loop-i-init c = (omega arith, refl)
-
-pub loop-i-preserved : goal.loop-i-preserved
-loop-i-preserved c =
-    let a = c.args in
-    (omega arith, sym (any_next c.loop-i.any a.block.now c.loop-i.i (omega arith)) ∙ c.loop-i.invariant.1)
 
 pub returns : goal.returns
 returns c =
-    let a = c.args in
-    sym (any_end c.loop-i.any a.block.now c.loop-i.i (omega arith)) ∙ c.loop-i.invariant.1
+    fold_from_yields_List _ (λ any b. any || is_zero b) false c.fold.result c.fold.ensures.ran (YieldsList-from_slice c.args.block.now cc) (λ a x b q k. search (rules, tests))
+    ∙ any_from false c.args.block.now

@@ -5,4 +5,4 @@ use Rattle.props.proofs.header_of.Goals as goal
 
 pub returns : goal.returns
 returns c =
-    header_number c.args.bytes.now (λ i. omega (arith, c.type_inv.bytes i)) c.u64_at-number.ensures
+    header_number c.args.bytes.now (λ i. omega (arith, c.type_inv.bytes i)) c.read-number.ensures

@@ -5,4 +5,4 @@ use Rattle.reader.proofs.all_rules.Goals as goal
 
 pub rules_beside-requires : goal.rules_beside-requires
 rules_beside-requires c =
-    (c.requires.0, c.requires.1, none_counted _ (sym c.has_kind.ensures ∙ c.if-has_kind.false) refl)
+    none_counted _ (sym c.has_kind.ensures ∙ c.if-has_kind.false) refl

@@ -1,19 +1,21 @@
--- `reader::has_kind`: what the rest says is what the whole says.
-use native.Mathlib.Omega.{arith}
-use mathlib.Core.Path.{sym, ◌∙◌}
-use Rattle.reader.proofs.Passing.{kind_begun, kind_here, kind_later, kind_nowhere}
+-- `reader::has_kind`: of the rows by their numbers, as of the list of them.
+use Rattle.std.proofs.Common.{rules, tests, ◌≡◌, ℕ, zero, suc, List, eqb, refl, ◌∙◌, add-one, arith}
+use Rattle.std.specs.List.{list_any, range_with_len}
+use Rattle.std.proofs.lemmas.Iterator.{YieldsList-from_range}
+use Rattle.std.proofs.lemmas.Iterator.Search.{any_from_yields_List}
+use Rattle.table.specs.Table.{row_at, rows_at}
+use Rattle.reader.specs.Private.{has_kind}
 use Rattle.reader.proofs.has_kind.Goals as goal
 
-pub loop-i-init : goal.loop-i-init
-loop-i-init c = (omega arith, kind_begun _ _ _)
-
-pub returns-then-row_at-kind : goal.returns-then-row_at-kind
-returns-then-row_at-kind c =
-    sym (kind_here _ _ _ _ c.loop-i-test.true c.row_at.ensures c.if-row_at-kind.true) ∙ c.loop-i.invariant.1
-
-pub loop-i-preserved : goal.loop-i-preserved
-loop-i-preserved c =
-    (omega (arith, c.loop-i-test.true), sym (kind_later _ _ _ _ c.loop-i-test.true c.row_at.ensures c.if-row_at-kind.false) ∙ c.loop-i.invariant.1)
+any_kind : (t : List ℕ) (kind k n : ℕ) → list_any (λ i. eqb (row_at t i).kind kind) (range_with_len k n) ≡ has_kind kind (rows_at t k n)
+unfolding has_kind rows_at
+any_kind t kind k zero = refl
+any_kind t kind k (suc n) = rw (add-one k, any_kind t kind (suc k) n)
 
 pub returns : goal.returns
-returns c = sym (kind_nowhere _ _ _ _ c.loop-i-test.false) ∙ c.loop-i.invariant.1
+returns c =
+    let t = c.args.table.now in
+    let kind = c.args.kind in
+    let n = c.args.nodes in
+    any_from_yields_List (λ i. eqb (row_at t i).kind kind) _ _ _ c.any.ensures.ran (YieldsList-from_range 0 n n (cc) (omega arith)) (λ x b q k. search (rules, tests))
+    ∙ any_kind t kind 0 n

@@ -6,5 +6,5 @@ use Rattle.reader.proofs.rules_with_bones.Goals as goal
 
 pub rules_beside-requires : goal.rules_beside-requires
 rules_beside-requires c =
-    let a = c.args in
-    (c.requires.0, c.requires.1, bones_counted a.file.now a.table.now a.nodes c.requires.0 c.requires.1 _ (length-replicate {A = ℕ} 1024 0) c.count_under.ensures)
+    let a = c.args.walked in
+    bones_counted a.file.now a.table.now a.nodes a.few a.rows _ (length-replicate {A = ℕ} 1024 0) c.count_under.ensures

@@ -1,14 +1,11 @@
--- `rules::has_name`: as it stands, or with a number.
+-- `rules::has_name`: another first letter, or the name as it stands, or with a number.
 use mathlib.Core.Path.{sym, ◌∙◌}
-use Rattle.rules.proofs.Names.{lists_numbered, lists_plain}
+use Rattle.std.proofs.Common.{rules}
+use Rattle.rules.specs.Packing.{line_of}
+use Rattle.rules.proofs.Names.{lists_other}
 use Rattle.rules.proofs.has_name.Goals as goal
 
-pub returns-then-e-eq-NUMBERED : goal.returns-then-e-eq-NUMBERED
-returns-then-e-eq-NUMBERED c =
+pub returns-then-own-letter : goal.returns-then-own-letter
+returns-then-own-letter c =
     let a = c.args in
-    c.is_numbered.ensures ∙ sym (lists_numbered a.name.now a.e c.if-e-eq-NUMBERED.true)
-
-pub returns : goal.returns
-returns c =
-    let a = c.args in
-    c.is_plain.ensures ∙ sym (lists_plain a.name.now a.e c.if-e-eq-NUMBERED.false)
+    sym (lists_other a.name.now (line_of a.line.now) (search rules) (λ e. c.if-own-letter.true (e ∙ sym c.requires)))

@@ -1,20 +1,17 @@
--- `table::row_at`: both sides of the definition's test.
-use mathlib.Core.Path.{sym, ◌∙◌}
-use Rattle.table.specs.Table.{row_at}
-use Rattle.table.proofs.Rows.{has_row_fits}
+-- `table::row_at`: the chunk of the row, where there is one.
+use native.Mathlib.Omega.{arith}
+use mathlib.Core.Path.{ap, ◌∙◌}
+use mathlib.Core.List.{[]}
+use lib.ListN.{get_or}
+use Rattle.table.proofs.Rows.{row_at_chunk, row_at_none}
 use Rattle.table.proofs.row_at.Goals as goal
 
-pub returns-then-not-has_row : goal.returns-then-not-has_row
-unfolding row_at
-returns-then-not-has_row c =
-    let h = c.has_row in
-    rw (← h.ensures, c.if-not-has_row.true) c.blank.ensures
+pub returns-in-Some : goal.returns-in-Some
+returns-in-Some c =
+    let a = c.args in
+    let there = c.in-Some.ensures.lookup.3 in
+    row_at_chunk a.table.now a.row (omega (arith, there.0, c.as_chunks.ensures.front_len)) (there.1 [] ∙ ap (λ l. get_or l a.row []) c.as_chunks.ensures.front)
 
-pub read_row-requires : goal.read_row-requires
-read_row-requires c = has_row_fits _ _ (sym c.has_row.ensures ∙ c.if-not-has_row.false)
-
-pub returns : goal.returns
-unfolding row_at
-returns c =
-    let h = c.has_row in
-    rw (← h.ensures, c.if-not-has_row.false) c.read_row.ensures
+pub returns-in-None : goal.returns-in-None
+returns-in-None c =
+    c.blank.ensures ∙ row_at_none c.args.table.now c.args.row (omega (arith, c.in-None.ensures.lookup.3, c.as_chunks.ensures.front_len))

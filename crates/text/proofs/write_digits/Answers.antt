@@ -1,32 +1,15 @@
--- `text::write_digits`: the digits from `left` on are written, and `rest` has those before them.
-use native.Mathlib.Omega.{arith}
-use native.Mathlib.Nat.{mod-lt}
-use mathlib.Core.Path.{refl}
-use lib.ListN.{length-set}
+-- `text::write_digits`: the digits from `i` on are written, and `rest` has those before them.
 use Rattle.text.specs.Text.{digits}
-use Rattle.text.proofs.Laws.{stored_none, stored_one, stored_all}
+use Rattle.text.proofs.Laws.{stored_none, stored_one}
 use Rattle.text.proofs.write_digits.Goals as goal
 
-pub loop-left-init : goal.loop-left-init
-loop-left-init c =
+pub loop-i-init : goal.loop-i-init
+loop-i-init c =
     let a = c.args in
-    (omega arith, refl, stored_none a.out.now a.at a.base a.k a.n)
+    stored_none a.out.now a.at a.base a.k a.n
 
-pub glyph-requires : goal.glyph-requires
-glyph-requires c = omega (arith, mod-lt c.loop-left.rest {m = c.args.base} (omega arith))
-
-pub loop-left-preserved : goal.loop-left-preserved
-loop-left-preserved c =
-    let l = c.loop-left in
+pub loop-i-preserved : goal.loop-i-preserved
+loop-i-preserved c =
+    let l = c.loop-i in
     let a = c.args in
-    let one = stored_one a.out.now a.at a.base (digits a.base a.k a.n) l.out l.left l.rest c.loop-left-test.true l.invariant.2 in (
-      omega arith,
-      simp length-set l.invariant.1,
-      rw c.glyph.ensures one,
-    )
-
-pub returns : goal.returns
-returns c =
-    let l = c.loop-left in
-    let a = c.args in
-    stored_all a.out.now a.at a.base (digits a.base a.k a.n) l.out l.left l.rest c.loop-left-test.false l.invariant.2
+    rw c.glyph.ensures (stored_one a.out.now a.at a.base (digits a.base a.k a.n) l.out l.i l.rest c.loop-i-test.true l.invariant)

@@ -10,9 +10,6 @@ decreases-walk_children l = 2 * (length l.bytes.now - l.start) + 1
 abbrev pub decreases-walk_node : goal.decreases-walk_node
 decreases-walk_node l = 2 * (length l.bytes.now - l.at)
 
-abbrev pub invariant-walk_children-loop-left : goal.invariant-walk_children-loop-left
-invariant-walk_children-loop-left l =
-    Going l.parent l.above l.depth l.count l.start l.row l.bytes l.fn.table l.table l.at l.rows l.left
-
-abbrev pub decreases-walk_children-loop-left : goal.decreases-walk_children-loop-left
-decreases-walk_children-loop-left l = l.left
+abbrev pub invariant-walk_children-loop : goal.invariant-walk_children-loop
+invariant-walk_children-loop l =
+    Going l.around.kind l.around.row l.around.depth l.count l.start l.row l.bytes l.fn.table l.table l.at l.rows (l.count - l.counter)

@@ -6,10 +6,10 @@ pub returns : goal.returns
 unfolding header_at
 returns c =
     rw (
-      c.u32_at-kind.ensures,
-      c.u32_at-size.ensures,
-      c.u32_at-low.ensures,
-      c.u32_at-high.ensures,
-      c.u32_at-properties.ensures,
-      c.u32_at-children.ensures,
+      c.read.ensures,
+      c.read-2.ensures,
+      c.read-3.ensures,
+      c.read-4.ensures,
+      c.read-5.ensures,
+      c.read-6.ensures,
     )

@@ -6,4 +6,4 @@ use Rattle.walk.proofs.put_node.Goals as goal
 
 pub returns : goal.returns
 returns c =
-    c.put_row.ensures ∙ ap (with_row _ _) (row_is _ c.requires.0 _ _ _ c.u32_at-low.ensures c.u32_at-high.ensures)
+    c.put_row.ensures ∙ ap (with_row _ _) (row_is _ c.requires.0 _ _ _ c.read.ensures c.read-2.ensures)

@@ -6,13 +6,13 @@ use Rattle.judge.proofs.missing.mesh_unpartnered.Goals as goal
 
 pub returns-then-wb-wv : goal.returns-then-wb-wv
 returns-then-wb-wv c =
-    let ns = c.args.numbers.now in
+    let ns = c.args.properties.now.numbers.now in
     without_weights (has_number ns wb_line) (has_number ns wv_line) (has_number ns mi_line)
-    (ap (λ x. not x && not (has_number ns wv_line)) (sym c.has_number-wb.ensures) ∙ ap (λ x. not c.has_number-wb.result && not x) (sym c.has_number-wv.ensures) ∙ c.if-wb-wv.true)
+    (ap (λ x. not x && not (has_number ns wv_line)) (sym c.has-wb.ensures) ∙ ap (λ x. not c.has-wb.result && not x) (sym c.has-wv.ensures) ∙ c.if-wb-wv.true)
 
 pub returns : goal.returns
 returns c =
-    let ns = c.args.numbers.now in
-    rw (c.has_number-wb.ensures, c.has_number-wv.ensures, c.has_number-mi.ensures)
+    let ns = c.args.properties.now.numbers.now in
+    rw (c.has-wb.ensures, c.has-wv.ensures, c.has-mi.ensures)
     (with_weights (has_number ns wb_line) (has_number ns wv_line) (has_number ns mi_line)
-    (ap (λ x. not x && not (has_number ns wv_line)) (sym c.has_number-wb.ensures) ∙ ap (λ x. not c.has_number-wb.result && not x) (sym c.has_number-wv.ensures) ∙ c.if-wb-wv.false))
+    (ap (λ x. not x && not (has_number ns wv_line)) (sym c.has-wb.ensures) ∙ ap (λ x. not c.has-wb.result && not x) (sym c.has-wv.ensures) ∙ c.if-wb-wv.false))

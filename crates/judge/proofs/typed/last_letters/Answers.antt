@@ -10,7 +10,7 @@ pub returns-then-n-eq0 : goal.returns-then-n-eq0
 returns-then-n-eq0 c = no_letters c.args.name.now c.if-n-eq0.true
 
 pub returns-then-n-gt8 : goal.returns-then-n-gt8
-returns-then-n-gt8 c = some_letters c.args.name.now c.u64_at.ensures
+returns-then-n-gt8 c = some_letters c.args.name.now c.read.ensures
 
 -- a name that has letters lies in the body
 inside : (c : Else-n-gt8) → let a = c.args in a.at + length a.name.now + 8 ≤ length a.body.now
@@ -24,28 +24,18 @@ overflow_add-from c = omega (arith, inside (goal.at.overflow_add-from c).Else-n-
 pub overflow_add-end : goal.overflow_add-end
 overflow_add-end c = omega (arith, inside (goal.at.overflow_add-end c).Else-n-gt8)
 
-pub slice_bounds-u64_at-count : goal.slice_bounds-u64_at-count
-slice_bounds-u64_at-count c = omega (arith, inside (goal.at.slice_bounds-u64_at-count c).Else-n-gt8)
+pub slice_bounds-read-count : goal.slice_bounds-read-count
+slice_bounds-read-count c = omega (arith, inside (goal.at.slice_bounds-read-count c).Else-n-gt8)
 
-pub slice_bounds-u64_at-start : goal.slice_bounds-u64_at-start
-slice_bounds-u64_at-start c = omega (arith, inside (goal.at.slice_bounds-u64_at-start c).Else-n-gt8)
+pub slice_bounds-read-start : goal.slice_bounds-read-start
+slice_bounds-read-start c = omega (arith, inside (goal.at.slice_bounds-read-start c).Else-n-gt8)
 
-pub slice_bounds-u64_at-end : goal.slice_bounds-u64_at-end
-slice_bounds-u64_at-end c = omega (arith, inside (goal.at.slice_bounds-u64_at-end c).Else-n-gt8)
-
-pub overflow_mul-result : goal.overflow_mul-result
-overflow_mul-result c = omega (arith, c.if-n-gt8.false)
-
-pub overflow_sub-result : goal.overflow_sub-result
-overflow_sub-result c = omega (arith, c.if-n-gt8.false)
-
-pub overflow_shr-result : goal.overflow_shr-result
-overflow_shr-result c =
-    omega (arith, c.if-n-eq0.false)
+pub slice_bounds-read-end : goal.slice_bounds-read-end
+slice_bounds-read-end c = omega (arith, inside (goal.at.slice_bounds-read-end c).Else-n-gt8)
 
 pub returns : goal.returns
 returns c =
     let a = c.args in
     let from = a.at + length a.name.now in
     short_letters a.body.now a.at c.requires (λ i. omega (arith, c.type_inv.body i)) (omega (arith, c.if-n-gt8.false))
-    (c.u64_at-2.ensures ∙ number_at_part 8 (from + 8 - from) a.body.now from 0 (omega arith) ∙ ap (number_at 8 a.body.now) (omega arith))
+    (c.read-2.ensures ∙ number_at_part 8 (from + 8 - from) a.body.now from 0 (omega arith) ∙ ap (number_at 8 a.body.now) (omega arith))

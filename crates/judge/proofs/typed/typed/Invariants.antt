@@ -1,5 +1,4 @@
 -- `judge::typed::typed`: what the properties from i on say, after those before, is what all say.
-use Rattle.std.proofs.Common.{◌-◌}
 use Rattle.body.specs.Body.{skim}
 use Rattle.rules.specs.Packing.{lines_from}
 use Rattle.judge.proofs.Typing.{Noting}
@@ -8,7 +7,4 @@ use Rattle.judge.proofs.typed.typed.Given as goal
 
 abbrev pub invariant-loop-i : goal.invariant-loop-i
 invariant-loop-i l =
-    Noting (lines_from l.lines) l.body l.mark l.count l.initial.starts l.initial.numbers l.initial.keys l.initial.marks l.starts l.numbers l.keys l.marks l.at l.i × Counted l.lines l.body (skim l.body l.count 0) l.i l.required
-
-abbrev pub decreases-loop-i : goal.decreases-loop-i
-decreases-loop-i l = l.count - l.i
+    Noting (lines_from l.lines) l.body l.mark l.count l.initial.starts l.initial.numbers l.initial.keys l.initial.marks l.starts l.numbers l.keys l.marks l.at l.i × Counted (lines_from l.lines) l.body (skim l.body l.count 0) l.i l.required

@@ -4,4 +4,4 @@ use Rattle.judge.proofs.valued.blend_shape_measures.Goals as goal
 
 pub returns : goal.returns
 unfolding beside_by_line
-returns c = rw c.read_by-indices.ensures.length
+returns c = rw (c.none.ensures, c.read.ensures.length)

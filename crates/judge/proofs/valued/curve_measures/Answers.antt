@@ -4,4 +4,4 @@ use Rattle.judge.proofs.valued.curve_measures.Goals as goal
 
 pub returns : goal.returns
 unfolding beside_by_line
-returns c = rw (c.read_by-keys.ensures.length, c.types_of-types.ensures)
+returns c = rw (c.none.ensures, c.read.ensures.length, c.types_of.ensures)

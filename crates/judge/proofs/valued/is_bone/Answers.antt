@@ -8,4 +8,4 @@ pub returns : goal.returns
 returns c =
     let a = c.args in
     c.is_parent.ensures
-    ∙ ap (λ p. parent_ok (signed p) a.bones) (c.u32_at.ensures ∙ ap (λ d. number_at 4 d 0) c.rest_at.ensures)
+    ∙ ap (λ p. parent_ok (signed p) a.bones) (c.read.ensures ∙ ap (λ d. number_at 4 d 0) c.rest_at.ensures)

@@ -15,4 +15,4 @@ returns-then-kind-eq-CURVE c = rw c.if-kind-eq-CURVE.true c.curve_measures.ensur
 pub returns : goal.returns
 unfolding beside_by_line
 returns c =
-    rw (ne_eqb _ _ c.if-kind-eq-MESH.false, ne_eqb _ _ c.if-kind-eq-BLEND_SHAPE.false, ne_eqb _ _ c.if-kind-eq-CURVE.false)
+    rw (c.none.ensures, ne_eqb _ _ c.if-kind-eq-MESH.false, ne_eqb _ _ c.if-kind-eq-BLEND_SHAPE.false, ne_eqb _ _ c.if-kind-eq-CURVE.false)

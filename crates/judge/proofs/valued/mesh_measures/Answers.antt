@@ -10,4 +10,4 @@ overflow_mul-weights c = product_fits (search rules) (search rules)
 pub returns : goal.returns
 unfolding beside_by_line
 returns c =
-    rw (c.read_by-vertices.ensures.length, c.read_by.ensures.value)
+    rw (c.none.ensures, c.read-vertices.ensures.length, c.read.ensures.value)

@@ -1,22 +1,29 @@
--- `judge::valued::types_of`: the string at the place that the search gives, or none.
-use Rattle.std.proofs.Common.{◌≡◌, sym, ap, le-ltb, lt-ltb}
+-- `judge::valued::types_of`: the string at the place that is found, or none.
+use Rattle.std.proofs.Common.{◌≡◌, None, Some, rules, sym, ap, ◌∙◌}
 use Rattle.base.specs.Letters.{letters}
 use Rattle.judge.specs.Properties.{wanted_types}
-use Rattle.judge.specs.ByLine.{types_by_line}
+use Rattle.judge.specs.ByLine.{kp_line, types_by_line}
+use Rattle.judge.proofs.Named.{not_found, found_at}
 use Rattle.judge.proofs.valued.types_of.Goals as goal
 use Rattle.judge.proofs.valued.types_of.Goals.{After-rest_at-string}
 
-pub returns-then-numbers-i : goal.returns-then-numbers-i
-unfolding types_by_line letters
-returns-then-numbers-i c = rw (← c.first_number-i.ensures, le-ltb _ _ c.if-numbers-i.true)
+pub returns-in_default : goal.returns-in_default
+unfolding types_by_line
+returns-in_default c =
+    let p = c.args.properties.now in
+    let none : c.place.result ≡ None = search rules in
+    rw (not_found kp_line p.starts.now p.numbers.now (sym none ∙ c.place.ensures))
 
 -- what the string at that place wants is what is sought
 wanted : (c : After-rest_at-string) →
-    let a = c.args in
-    types_by_line a.body.now a.starts.now a.numbers.now ≡ wanted_types c.rest_at-string.result.now
+    let p = c.args.properties.now in
+    types_by_line p.body.now p.starts.now p.numbers.now ≡ wanted_types c.rest_at-string.result.now
 unfolding types_by_line letters
 wanted c =
-    rw (← c.first_number-i.ensures, lt-ltb _ _ c.if-numbers-i.false) (ap wanted_types (sym c.rest_at-string.ensures))
+    let p = c.args.properties.now in
+    let some : c.place.result ≡ Some c.in-Some.at = search rules in
+    let at = found_at kp_line p.starts.now p.numbers.now (sym some ∙ c.place.ensures) in
+    rw (at.0, ← at.1) (ap wanted_types (sym c.rest_at-string.ensures))
 
 pub returns-then-is_text : goal.returns-then-is_text
 unfolding letters

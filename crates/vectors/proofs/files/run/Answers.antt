@@ -1,9 +1,7 @@
 -- `vectors::files::run`: a table that is too long is not lent.
-use mathlib.Core.Path.{ap, sym, ◌∙◌}
+use mathlib.Core.Path.{ap, ◌∙◌}
 use lib.ListN.{take}
-use lib.Seq.{length-take-le}
 use borrow.Author.Tests.{lt-ltb, le-ltb}
-use borrow.Author.Rules.{rules}
 use Rattle.vectors.specs.Answers.{answered}
 use Rattle.vectors.specs.Files.{into_table, file_line}
 use Rattle.vectors.proofs.Lent.{taken_space}
@@ -12,10 +10,6 @@ use Rattle.vectors.proofs.files.run.Goals as goal
 pub returns-then-n-gt8300 : goal.returns-then-n-gt8300
 unfolding file_line
 returns-then-n-gt8300 c = rw (lt-ltb _ _ c.if-n-gt8300.true) c.none.ensures
-
-pub slice_bounds-lent-end : goal.slice_bounds-lent-end
-slice_bounds-lent-end c =
-    sym (length-take-le c.args.f.y c.space-space.result (search rules))
 
 pub returns : goal.returns
 unfolding file_line

@@ -6,14 +6,14 @@ use Rattle.vectors.proofs.leaves.store.Goals as goal
 pub returns-then-function-eq4 : goal.returns-then-function-eq4
 unfolding stored
 returns-then-function-eq4 c =
-    rw (eq-eqb _ _ c.if-function-eq4.true) c.put_u16.ensures
+    rw (eq-eqb _ _ c.if-function-eq4.true) c.write.ensures
 
 pub returns-then-function-eq5 : goal.returns-then-function-eq5
 unfolding stored
 returns-then-function-eq5 c =
-    rw (ne_eqb _ _ c.if-function-eq4.false, eq-eqb _ _ c.if-function-eq5.true) c.put_u32.ensures
+    rw (ne_eqb _ _ c.if-function-eq4.false, eq-eqb _ _ c.if-function-eq5.true) c.write-then-function-eq5.ensures
 
 pub returns : goal.returns
 unfolding stored
 returns c =
-    rw (ne_eqb _ _ c.if-function-eq4.false, ne_eqb _ _ c.if-function-eq5.false) c.put_u64.ensures
+    rw (ne_eqb _ _ c.if-function-eq4.false, ne_eqb _ _ c.if-function-eq5.false) c.write-2.ensures

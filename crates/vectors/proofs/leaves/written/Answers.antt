@@ -1,5 +1,5 @@
 -- `vectors::leaves::written`: an output that is too long is not lent.
-use mathlib.Core.Path.{ap, sym, ◌∙◌}
+use mathlib.Core.Path.{ap, ◌∙◌}
 use mathlib.Core.List.{[], ◌∷◌}
 use lib.Seq.{length-take-le}
 use borrow.Author.Tests.{lt-ltb, le-ltb}
@@ -12,9 +12,6 @@ use Rattle.vectors.proofs.leaves.written.Goals as goal
 pub returns-then-len-gt4096 : goal.returns-then-len-gt4096
 unfolding written_line
 returns-then-len-gt4096 c = rw (lt-ltb _ _ c.if-len-gt4096.true) c.none.ensures
-
-pub slice_bounds-lent-end : goal.slice_bounds-lent-end
-slice_bounds-lent-end c = sym (length-take-le c.args.len c.buffer-space.result (search rules))
 
 pub returns : goal.returns
 unfolding written_line

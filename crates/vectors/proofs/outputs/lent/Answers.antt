@@ -6,6 +6,7 @@ use Rattle.vectors.specs.Answers.{answered, extended}
 use Rattle.vectors.specs.Buffers.{filling, checksum}
 use Rattle.vectors.specs.Outputs.{put_numbers, put_output, into_output}
 use Rattle.vectors.proofs.Answers.{joined}
+use Rattle.vectors.proofs.Lent.{plain}
 use Rattle.vectors.proofs.outputs.lent.Goals as goal
 
 pub returns : goal.returns
@@ -17,5 +18,5 @@ returns c =
     joined (put_numbers a.f a.first.now a.second.now out) (checksum (put_output a.f a.first.now a.second.now out) ∷ [])
     (c.push.ensures
     ∙ ap (λ n. extended c.put-answer.result (n ∷ []))
-    (c.checksum.ensures ∙ ap checksum (c.put-answer.ensures.output ∙ ap (put_output a.f a.first.now a.second.now) filled)))
+    ((c.checksum.ensures ∙ plain _) ∙ ap checksum (c.put-answer.ensures.output ∙ ap (put_output a.f a.first.now a.second.now) filled)))
     (c.put-answer.ensures.result ∙ ap (λ o. answered (put_numbers a.f a.first.now a.second.now o)) filled)

@@ -1,5 +1,5 @@
 -- `vectors::outputs::run`: an output that is too long is not lent.
-use mathlib.Core.Path.{ap, sym, ◌∙◌}
+use mathlib.Core.Path.{ap, ◌∙◌}
 use lib.Seq.{length-take-le}
 use borrow.Author.Tests.{lt-ltb, le-ltb}
 use borrow.Author.Rules.{rules}
@@ -11,10 +11,6 @@ use Rattle.vectors.proofs.outputs.run.Goals as goal
 pub returns-then-n-gt98304 : goal.returns-then-n-gt98304
 unfolding output_line
 returns-then-n-gt98304 c = rw (lt-ltb _ _ c.if-n-gt98304.true) c.none.ensures
-
-pub slice_bounds-lent-end : goal.slice_bounds-lent-end
-slice_bounds-lent-end c =
-    let a = c.args in sym (length-take-le a.f.y c.space-space.result (search rules))
 
 pub returns : goal.returns
 unfolding output_line

@@ -1,14 +1,13 @@
 -- `vectors::parts::numbered`: each case of a numeral.
-use mathlib.Core.Path.{ap, sym, ◌∙◌}
+use mathlib.Core.Path.{ap, ◌∙◌}
 use Rattle.vectors.specs.Answers.{answered}
 use Rattle.vectors.specs.Parts.{numeral_line}
 use Rattle.vectors.proofs.parts.numbered.Goals as goal
 
-pub returns-in-Is : goal.returns-in-Is
+pub returns-in-Some : goal.returns-in-Some
 unfolding numeral_line
-returns-in-Is c =
-    c.two.ensures ∙ ap (λ s. answered (numeral_line s)) (sym c.in-Is.is ∙ c.number_after.ensures.result)
+returns-in-Some c = c.of.ensures ∙ ap (λ n. answered (numeral_line n)) c.in-Some.ensures.result
 
-pub returns-in-Not : goal.returns-in-Not
+pub returns-in-None : goal.returns-in-None
 unfolding numeral_line
-returns-in-Not c = c.two-in-Not.ensures ∙ ap (λ s. answered (numeral_line s)) (sym c.in-Not.is ∙ c.number_after.ensures.result)
+returns-in-None c = c.of-in-None.ensures ∙ ap (λ n. answered (numeral_line n)) c.in-None.ensures.result

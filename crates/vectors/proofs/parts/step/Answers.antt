@@ -1,15 +1,17 @@
--- `vectors::parts::step`: each case of a step.
-use mathlib.Core.Path.{ap, sym, ◌∙◌}
+-- `vectors::parts::step`: past a property, or refused.
+use mathlib.Core.Path.{ap, ◌∙◌}
+use mathlib.Core.List.{[], ◌∷◌}
 use Rattle.vectors.specs.Answers.{answered}
 use Rattle.vectors.specs.Parts.{step_line}
 use Rattle.vectors.proofs.parts.step.Goals as goal
 
-pub returns-in-Past : goal.returns-in-Past
+pub returns-in-Ok : goal.returns-in-Ok
 unfolding step_line
-returns-in-Past c =
-    c.four.ensures ∙ ap (λ s. answered (step_line s)) (sym c.in-Past.is ∙ c.step.ensures.result)
+returns-in-Ok c = c.of.ensures ∙ ap (λ s. answered (step_line s)) c.in-Ok.ensures.result
 
-pub returns-in-Refused : goal.returns-in-Refused
+pub returns-in-Err : goal.returns-in-Err
 unfolding step_line
-returns-in-Refused c =
-    c.four-in-Refused.ensures ∙ ap (λ s. answered (step_line s)) (sym c.in-Refused.is ∙ c.step.ensures.result)
+returns-in-Err c =
+    c.of-in-Err.ensures
+    ∙ ap (λ n. answered (n ∷ 0 ∷ 0 ∷ 0 ∷ [])) c.number.ensures
+    ∙ ap (λ s. answered (step_line s)) c.in-Err.ensures.result

@@ -9,4 +9,4 @@ unfolding reading_numbers
 returns c =
     let a = c.args.a in
     put_after (a.links ∷ []) c.push.ensures
-    (put_after (a.known.0 ∷ a.unknown.0 ∷ a.faces.0 ∷ a.degenerate ∷ []) c.push_four.ensures c.four.ensures)
+    (put_after (a.known.0 ∷ a.unknown.0 ∷ a.faces.0 ∷ a.degenerate ∷ []) c.extend.ensures c.of.ensures)

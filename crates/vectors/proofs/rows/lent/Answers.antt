@@ -7,6 +7,7 @@ use Rattle.vectors.specs.Answers.{answered, extended}
 use Rattle.vectors.specs.Buffers.{numbers_in, checksum}
 use Rattle.vectors.specs.Rows.{row_in, seen_numbers, row_table}
 use Rattle.vectors.proofs.Answers.{joined}
+use Rattle.vectors.proofs.Lent.{plain}
 use Rattle.vectors.proofs.rows.lent.Goals as goal
 
 pub returns : goal.returns
@@ -20,7 +21,7 @@ returns c =
     let put = c.put_row.ensures ∙ ap (λ t. with_row t k c.parsed.result) read ∙ ap (with_row t k) c.parsed.ensures in
     let seen = c.seen-seen.result in
     joined (seen_numbers t k) (checksum new ∷ checksum (cleared new) ∷ [])
-    (c.push_two.ensures
-    ∙ ap (λ n. extended seen (n ∷ c.numbers_checksum.result ∷ [])) (c.numbers_checksum-put.ensures ∙ ap checksum put)
-    ∙ ap (λ n. extended seen (checksum new ∷ n ∷ [])) (c.numbers_checksum.ensures ∙ ap checksum (c.clear.ensures ∙ ap cleared put)))
+    (c.extend.ensures
+    ∙ ap (λ n. extended seen (n ∷ c.checksum.result ∷ [])) ((c.checksum-put.ensures ∙ plain _) ∙ ap checksum put)
+    ∙ ap (λ n. extended seen (checksum new ∷ n ∷ [])) ((c.checksum.ensures ∙ plain _) ∙ ap checksum (c.clear.ensures ∙ ap cleared put)))
     (c.seen-seen.ensures ∙ ap (λ t. answered (seen_numbers t k)) read)

@@ -1,23 +1,18 @@
 -- `vectors::rows::place`: where the data lies, or zeros.
 use mathlib.Core.Path.{ap, sym, ◌∙◌}
 use mathlib.Core.List.{[], ◌∷◌}
-use Rattle.lookup.specs.Lookup.{number_of}
+use Rattle.lookup.specs.Lookup.{found_told}
 use Rattle.vectors.specs.Answers.{answered}
-use Rattle.vectors.specs.Rows.{places_of}
+use Rattle.vectors.specs.Rows.{places_of, found_numbers}
 use Rattle.vectors.proofs.rows.place.Goals as goal
 
-pub returns-in-At : goal.returns-in-At
+pub returns-in-Ok : goal.returns-in-Ok
 unfolding places_of
-returns-in-At c =
-    let found = c.args.found in
-    c.four.ensures
-    ∙ ap (λ n. answered (n ∷ 0 ∷ c.in-At.start ∷ c.in-At.end ∷ [])) c.number-number.ensures
-    ∙ ap (λ p. answered (number_of found ∷ 0 ∷ places_of p)) (sym c.in-At.is)
+returns-in-Ok c = c.of.ensures ∙ ap (λ f. answered (found_numbers (found_told f))) (sym c.in-Ok.is)
 
-pub returns-in-Refused : goal.returns-in-Refused
+pub returns-in-Err : goal.returns-in-Err
 unfolding places_of
-returns-in-Refused c =
-    let found = c.args.found in
-    c.four-in-Refused.ensures
-    ∙ ap (λ n. answered (n ∷ 0 ∷ 0 ∷ 0 ∷ [])) c.number-number.ensures
-    ∙ ap (λ p. answered (number_of found ∷ 0 ∷ places_of p)) (sym c.in-Refused.is)
+returns-in-Err c =
+    c.of-in-Err.ensures
+    ∙ ap (λ n. answered (n ∷ 0 ∷ 0 ∷ 0 ∷ [])) c.number.ensures
+    ∙ ap (λ f. answered (found_numbers (found_told f))) (sym c.in-Err.is)

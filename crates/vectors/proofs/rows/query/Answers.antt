@@ -1,5 +1,4 @@
 -- `vectors::rows::query`: a table that is too long is not lent, nor one that the block does not have.
-use mathlib.Core.Path.{sym}
 use lib.Seq.{length-take-le}
 use borrow.Author.Tests.{lt-ltb, le-ltb}
 use borrow.Author.Rules.{rules}
@@ -15,10 +14,6 @@ returns-then-n-gt8300 c = rw (lt-ltb _ _ c.if-n-gt8300.true) c.none.ensures
 pub returns-then-second-end : goal.returns-then-second-end
 unfolding query_line
 returns-then-second-end c = rw (le-ltb _ _ c.if-n-gt8300.false, lt-ltb _ _ c.if-second-end.true) c.none-then-second-end.ensures
-
-pub slice_bounds-lookup-end : goal.slice_bounds-lookup-end
-slice_bounds-lookup-end c =
-    sym (length-take-le c.args.n c.space-space.result (search rules))
 
 pub returns : goal.returns
 unfolding query_line

@@ -15,8 +15,8 @@ returns c =
     let r = c.row_at-r.result in
     let b = c.bit.result in
     put_after (b ∷ []) c.push.ensures
-    (put_after (r.start ∷ r.end ∷ r.properties ∷ r.children ∷ []) c.push_four-2.ensures
-    (put_after (r.kind ∷ r.low ∷ r.high ∷ r.parent ∷ []) c.push_four.ensures c.truth-there.ensures))
+    (put_after (r.start ∷ r.end ∷ r.properties ∷ r.children ∷ []) c.extend-2.ensures
+    (put_after (r.kind ∷ r.low ∷ r.high ∷ r.parent ∷ []) c.extend.ensures c.truth-there.ensures))
     ∙ ap (λ h. answered (bit h ∷ (fields r ++ (b ∷ [])))) c.has_row.ensures
     ∙ ap (λ r. answered (bit (has_row t k) ∷ (fields r ++ (b ∷ [])))) c.row_at-r.ensures
     ∙ ap (λ b. answered (bit (has_row t k) ∷ (fields (row_at t k) ++ (b ∷ [])))) (c.bit.ensures ∙ ap bit c.has_room.ensures)

@@ -1,5 +1,5 @@
 -- `vectors::rows::table`: a table that is too long is not lent.
-use mathlib.Core.Path.{ap, sym, ◌∙◌}
+use mathlib.Core.Path.{ap, ◌∙◌}
 use lib.ListN.{length}
 use lib.Seq.{length-take-le}
 use borrow.Author.Tests.{lt-ltb, le-ltb}
@@ -13,10 +13,6 @@ use Rattle.vectors.proofs.rows.table.Goals as goal
 pub returns-then-n-gt8300 : goal.returns-then-n-gt8300
 unfolding table_line
 returns-then-n-gt8300 c = rw (lt-ltb _ _ c.if-n-gt8300.true) c.none.ensures
-
-pub slice_bounds-lent-end : goal.slice_bounds-lent-end
-slice_bounds-lent-end c =
-    sym (length-take-le (length c.args.numbers.now / 4) c.space-space.result (search rules))
 
 pub returns : goal.returns
 unfolding table_line

@@ -9,7 +9,7 @@ pub returns-then-not-has_room-clause-result : goal.returns-then-not-has_room-cla
 unfolding walk_numbers
 returns-then-not-has_room-clause-result c =
     let room : has_room c.args.table.now ≡ false = sym c.has_room.ensures ∙ c.if-not-has_room.true in
-    rw room c.four.ensures
+    rw room c.of.ensures
 
 pub returns-then-not-has_room-clause-table : goal.returns-then-not-has_room-clause-table
 unfolding walk_table

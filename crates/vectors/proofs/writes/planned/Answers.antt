@@ -1,6 +1,7 @@
 -- `vectors::writes::planned`: the writer, or its parts.
 use mathlib.Core.Path.{ap, ◌∙◌}
 use borrow.Author.Tests.{eq-eqb, ne_eqb}
+use Rattle.emit.specs.Emission.{written_told}
 use Rattle.vectors.specs.Answers.{answered}
 use Rattle.vectors.specs.Writes.{written_numbers, plan_numbers, plan_output}
 use Rattle.vectors.proofs.Answers.{put_after}
@@ -10,7 +11,7 @@ pub returns-then-f-eq34-clause-result : goal.returns-then-f-eq34-clause-result
 unfolding plan_numbers
 returns-then-f-eq34-clause-result c =
     rw (eq-eqb _ _ c.if-f-eq34.true)
-    (put_after (written_numbers c.write.result) c.with_written.ensures c.none.ensures
+    (put_after (written_numbers (written_told c.write.result)) c.with_written.ensures c.none.ensures
     ∙ ap (λ w. answered (written_numbers w)) c.write.ensures.result)
 
 pub returns-then-f-eq34-clause-output : goal.returns-then-f-eq34-clause-output

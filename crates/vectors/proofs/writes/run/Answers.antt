@@ -1,5 +1,5 @@
 -- `vectors::writes::run`: a plan that is too long is not lent.
-use mathlib.Core.Path.{ap, sym, ◌∙◌}
+use mathlib.Core.Path.{ap, ◌∙◌}
 use lib.ListN.{length}
 use lib.Seq.{length-take-le}
 use borrow.Author.Tests.{lt-ltb, le-ltb}
@@ -17,10 +17,6 @@ returns-then-n-gt8300-clause-result c = rw (lt-ltb _ _ c.if-n-gt8300.true) c.non
 pub returns-then-n-gt8300-clause-output : goal.returns-then-n-gt8300-clause-output
 unfolding write_output
 returns-then-n-gt8300-clause-output c = rw (lt-ltb _ _ c.if-n-gt8300.true)
-
-pub slice_bounds-lent-end : goal.slice_bounds-lent-end
-slice_bounds-lent-end c =
-    sym (length-take-le (length c.args.numbers.now / 4) c.space-space.result (search rules))
 
 pub returns-clause-result : goal.returns-clause-result
 unfolding write_numbers

@@ -1,0 +1,9 @@
+-- `faces::tally::grouped`: the faces passed are tallied.
+use Prim.Native.Nat.{◌*◌}
+use mathlib.Core.Path.{◌≡◌}
+use Rattle.faces.specs.Private.{tally_of}
+use Rattle.faces.specs.Faces.{faces_in}
+use Rattle.faces.proofs.tally.grouped.Given as goal
+
+abbrev pub invariant-loop-i : goal.invariant-loop-i
+invariant-loop-i g l = l.t ≡ tally_of l.vertices (faces_in g.V.Value.WIDTH (16 * l.i) l.bytes)
