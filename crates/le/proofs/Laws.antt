@@ -106,22 +106,24 @@ pub number_at_byte : (l : List ℕ) (at : ℕ) → number_at 1 l at ≡ get_or l
 unfolding number_at
 number_at_byte l at = val_one (drop at l) ∙ get_or-drop at l 0 0 ∙ ap (λ k. get_or l k 0) (add-zero at)
 
--- zeros after bytes count for nothing
-val_none : (w : ℕ) (l : List ℕ) → ((i : ℕ) → get_or l i 0 ≡ 0) → val (take w l) ≡ 0
+-- bytes that are the same place by place, a byte past the end being zero, are the same number
+val_none : (w : ℕ) (l : List ℕ) → ((i : ℕ) → i < w → get_or l i 0 ≡ 0) → val (take w l) ≡ 0
 unfolding val
 val_none zero l h = refl
 val_none (suc w) [] h = refl
-val_none (suc w) (b ∷ l) h = omega (arith, h 0, val_none w l (λ i. h (suc i)))
+val_none (suc w) (b ∷ l) h = omega (arith, h 0 (omega arith), val_none w l (λ i k. h (suc i) (omega (arith, k))))
 
-val_padded : (w : ℕ) (l zs : List ℕ) → ((i : ℕ) → get_or zs i 0 ≡ 0) → val (take w (l ++ zs)) ≡ val (take w l)
+val_same : (w : ℕ) (l m : List ℕ) → ((i : ℕ) → i < w → get_or l i 0 ≡ get_or m i 0) → val (take w l) ≡ val (take w m)
 unfolding val
-val_padded w [] zs h = val_none w zs h ∙ sym (ap val (take-nil w))
-val_padded zero (b ∷ l) zs h = refl
-val_padded (suc w) (b ∷ l) zs h = ap (λ n. b + 256 * n) (val_padded w l zs h)
+val_same zero l m h = refl
+val_same (suc w) [] m h = sym (val_none (suc w) m (λ i k. sym (h i k)))
+val_same (suc w) (b ∷ l) [] h = val_none (suc w) (b ∷ l) h
+val_same (suc w) (b ∷ l) (e ∷ m) h =
+    omega (arith, h 0 (omega arith), val_same w l m (λ i k. h (suc i) (omega (arith, k))))
 
-pub number_at_padded : (w k n : ℕ) (l : List ℕ) → number_at w (l ++ drop k (replicate n 0)) 0 ≡ number_at w l 0
+pub number_at_same : (w : ℕ) (l m : List ℕ) → ((i : ℕ) → i < w → get_or l i 0 ≡ get_or m i 0) → number_at w l 0 ≡ number_at w m 0
 unfolding number_at
-number_at_padded w k n l = val_padded w l (drop k (replicate n 0)) (λ i. get_or-drop k (replicate n 0) i 0 ∙ zeros n (k + i))
+number_at_same w l m h = val_same w l m h
 
 -- the library's number of bytes, and its bytes of a number
 pub from_bytes : (k : ℕ) (l : List ℕ) → sum_through (λ i. byte_worth i (slice_index l i)) k ≡ number_at (suc k) l 0

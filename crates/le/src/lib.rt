@@ -1,7 +1,7 @@
 // Little-endian numbers, and bytes, at any place of any bytes. A byte past the end reads as zero, and is not written.
 #![tactic(auto)]
 
-ghost use Rattle.std.specs.Prelude.{◌≡◌, ℕ, ◌<◌, min, length};
+ghost use Rattle.std.specs.Prelude.{◌≡◌, ℕ, ◌≤◌, ◌<◌, min, length, take};
 ghost use Rattle.std.proofs.lemmas.List.Edits.{sets};
 ghost use Rattle.le.specs.Le.{number_at, le};
 
@@ -31,12 +31,16 @@ fn first_bytes<const N: usize>(bytes: &[u8]) -> [u8; N]
 }
 
 // The bytes, of which there are fewer than N, and zeros after them.
+#[cold]
+#[inline(never)]
 fn padded<const N: usize>(bytes: &[u8]) -> [u8; N]
     requires { length bytes.now < N }
     ensures { number_at N result 0 ≡ number_at N bytes.now 0 }
 {
     let mut all = [0; N];
-    all[..bytes.len()].copy_from_slice(bytes);
+    for i in 0..N {
+        all[i] = bytes.get(i).copied().unwrap_or(0);
+    }
     all
 }
 
@@ -49,9 +53,19 @@ fn store_bytes<const N: usize>(out: &mut [u8], bytes: &[u8; N])
         Some(first) => *first = *bytes,
         None => {
             let all = *bytes;
-            put_bytes(out, 0, &all);
+            put_some(out, &all);
         }
     }
+}
+
+// Writes bytes of which some have no room. On its own, as the compiler would make a call of the C library of it where it knows that
+// what is read is no part of what is written.
+#[cold]
+#[inline(never)]
+fn put_some(out: &mut [u8], bytes: &[u8])
+    ensures { out.new ≡ sets out.old 0 bytes.now }
+{
+    put_bytes(out, 0, bytes);
 }
 
 impl Number for u16 {
@@ -130,12 +144,38 @@ pub fn number_at(bytes: &[u8], at: usize, width: u32) -> u32
     }
 }
 
+// Copies the first n bytes. By a loop, as the library's copy is compiled to a call of a function that the static library would need
+// from outside.
+fn copy(out: &mut [u8], bytes: &[u8], n: usize)
+    requires { (n ≤ length bytes.now) × (n ≤ length out.old) }
+    ensures { out.new ≡ sets out.old 0 (take n bytes.now) }
+{
+    for i in 0..n {
+        out[i] = bytes[i];
+    }
+}
+
+// The same, of bytes that go to a place of an output. Many are stored from the next place on that is a multiple of 16: as memory is mostly
+// lent from such an address on, no store of 16 bytes then lies in two lines of the cache.
+fn copy_to(out: &mut [u8], bytes: &[u8], n: usize, at: usize)
+    requires { (n ≤ length bytes.now) × (n ≤ length out.old) }
+    ensures { out.new ≡ sets out.old 0 (take n bytes.now) }
+{
+    if n < 256 {
+        copy(out, bytes, n);
+        return;
+    }
+    let head = 16 - at % 16;
+    copy(out, bytes, head);
+    copy(&mut out[head..], &bytes[head..], n - head);
+}
+
 // Writes bytes at a place.
 pub fn put_bytes(out: &mut [u8], at: usize, bytes: &[u8])
     ensures { out.new ≡ sets out.old at bytes.now }
 {
     if at < out.len() {
         let n = bytes.len().min(out.len() - at);
-        out[at..at + n].copy_from_slice(&bytes[..n]);
+        copy_to(&mut out[at..], bytes, n, at);
     }
 }

@@ -4,7 +4,7 @@
 use Rattle.std.specs.Prelude.{ℕ, ◌+◌, ◌-◌, ◌≤◌, cond, not, List, [], eqb, length, take, drop, get_or, Result, Ok, Err}
 use Rattle.base.specs.declared.Reason.{Reason}
 use Rattle.base.specs.Refusals.{reason_number}
-use Rattle.std.specs.declared.ops.Range.{Range}
+use Rattle.lookup.specs.declared.Found.{Found as CodeFound}
 use Rattle.props.specs.Step.{data_at}
 use Rattle.body.specs.Body.{properties, exactly, places, first_named}
 use Rattle.table.specs.Table.{has_row, row_at}
@@ -16,7 +16,7 @@ pub data Found : Type 0 where
   Refused : (number : ℕ) → Found
 
 -- as the code has it
-abbrev pub found_told : Result (Range ℕ) Reason → Found
+abbrev pub found_told : Result CodeFound Reason → Found
 found_told (Ok r) = At r.start r.end
 found_told (Err r) = Refused (reason_number r)
 

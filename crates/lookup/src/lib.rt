@@ -6,11 +6,17 @@ ghost use Rattle.lookup.specs.Lookup.{in_body, lookup_of, found_told, FoundWithi
 
 use base::Reason;
 use body::Sought;
-use std::ops::Range;
+
+// Where a property's data lies.
+#[derive(Clone, Copy, Debug, PartialEq, Eq)]
+pub struct Found {
+    pub start: usize,
+    pub end: usize,
+}
 
 // The property in a body that should be a given number of properties: 42 and 43. One pass: the names are compared up to the
 // first that is the same, and what follows that property is judged without.
-fn in_body(body: &[u8], count: u32, name: &[u8]) -> Result<Range<usize>, Reason>
+fn in_body(body: &[u8], count: u32, name: &[u8]) -> Result<Found, Reason>
     ensures { found_told result ≡ in_body body.now count name.now }
 {
     if base::MOST_PROPERTIES < count {
@@ -21,7 +27,7 @@ fn in_body(body: &[u8], count: u32, name: &[u8]) -> Result<Range<usize>, Reason>
             if !body::exact(&body[end..], left) {
                 return Err(Reason::BodyInexact);
             }
-            Ok(start..end)
+            Ok(Found { start, end })
         }
         Ok(Sought::Nowhere(at)) => {
             if at != body.len() {
@@ -34,7 +40,7 @@ fn in_body(body: &[u8], count: u32, name: &[u8]) -> Result<Range<usize>, Reason>
 }
 
 // Finds the property of a row, and answers where its data lies: 40 to 43.
-pub fn find(bytes: &[u8], table: &[u32], row: usize, name: &[u8]) -> Result<Range<usize>, Reason>
+pub fn find(bytes: &[u8], table: &[u32], row: usize, name: &[u8]) -> Result<Found, Reason>
     ensures result { found_told result ≡ lookup_of bytes.now table.now row name.now }
     ensures within { FoundWithin (length bytes.now) (found_told result) }
     ensures number { number_of (found_told result) ≡ number_of (lookup_of bytes.now table.now row name.now) }
@@ -50,9 +56,9 @@ pub fn find(bytes: &[u8], table: &[u32], row: usize, name: &[u8]) -> Result<Rang
     }
     let from = r.start as usize;
     let found = in_body(format::body_of(bytes, r), r.properties, name)?;
-    let first = from + found.start;
-    let last = from + found.end;
-    Ok(first..last)
+    let start = from + found.start;
+    let end = from + found.end;
+    Ok(Found { start, end })
 }
 
 // The property's data, a part of the bytes; an empty part on refusal.

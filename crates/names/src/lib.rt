@@ -32,7 +32,8 @@ fn ends_ok(name: &[u8], k: usize) -> bool
     ensures { result ≡ bytes_ok name.now }
 {
     let last = name.len() - k;
-    block_ok(&name[..k]) & block_ok(&name[last..])
+    let end_ok = block_ok(&name[last..]);
+    block_ok(&name[..k]) & end_ok
 }
 
 // The same of any bytes, one at a time.

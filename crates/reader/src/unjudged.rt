@@ -42,17 +42,21 @@ pub(crate) fn skip(table: &[u32], nodes: usize, from: usize, before: u64) -> Nex
     requires { (from ≤ nodes) × (nodes ≤ most_rows) × (before ≤ from * 2 ^ 33) }
     ensures { Skips table.now nodes from before result.row result.unknown }
 {
-    let mut unknown = before;
+    // A sum of its own, which stays in a register.
+    let mut unknown = 0;
     for i in from..nodes {
         let row = table::row_at(table, i);
         let known = kinds::known(row.kind);
         if is_judged(row, known) {
-            return Next { row: i, unknown };
+            return Next {
+                row: i,
+                unknown: before + unknown,
+            };
         }
         unknown += unknown_bytes(row, known);
     }
     Next {
         row: nodes,
-        unknown,
+        unknown: before + unknown,
     }
 }

@@ -82,9 +82,23 @@ pub fn misfits(line: Line, code: u16, elements: u32) -> bool
     !takes(line.types, code) | (!line.array & (elements != 1))
 }
 
-// Whether a line has a name that starts with this letter, or with zero where it is empty. Most lines of a kind differ in the first
-// letter, so that nothing else of them is read.
+// Whether a line has a name. On its own, and out of the way, so that the search for a line is a loop that reads little else than first
+// letters.
+#[cold]
+#[inline(never)]
 #[tactic(auto, unfolding(crate::specs::Rules::lists))]
+fn has_whole_name(line: &Line, name: &[u8]) -> bool
+    ensures { result ≡ lists (line_of line.now) name.now }
+{
+    if line.numbered {
+        names::number_after(name, line.name).is_some()
+    } else {
+        names::same(name, line.name)
+    }
+}
+
+// The same of a name that starts with this letter, or with zero where it is empty. Most lines of a kind differ in the first letter, so
+// that nothing else of them is read.
 fn has_name(line: &Line, name: &[u8], letter: u8) -> bool
     requires { letter ≡ get_or name.now 0 0 }
     ensures { result ≡ lists (line_of line.now) name.now }
@@ -93,11 +107,7 @@ fn has_name(line: &Line, name: &[u8], letter: u8) -> bool
     if !own.is_empty() && own[0] != letter {
         return false;
     }
-    if line.numbered {
-        names::number_after(name, own).is_some()
-    } else {
-        names::same(name, own)
-    }
+    has_whole_name(line, name)
 }
 
 // The place of the first of some lines that has a name.

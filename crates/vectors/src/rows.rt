@@ -8,7 +8,6 @@ ghost use Rattle.vectors.specs.Rows.{row_in, seen_numbers, row_table, table_line
 use crate::answer::Answer;
 use crate::frame::Frame;
 use crate::{answer, buffers};
-use std::ops::Range;
 
 // 19: the table in the first block; row x read, then put from the second block, then all rows cleared.
 // 20: bytes in the first block; y numbers of a table and then a name in the second; row x.
@@ -109,7 +108,7 @@ fn found(bytes: &[u8], table: &[u32], row: usize, name: &[u8]) -> Answer
 }
 
 // The refusal's number, a place of 0, and where the data lies.
-fn place(found: Result<Range<usize>, base::Reason>) -> Answer
+fn place(found: Result<lookup::Found, base::Reason>) -> Answer
     ensures { result ≡ answered (found_numbers (found_told found)) }
 {
     match found {

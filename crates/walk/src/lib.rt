@@ -151,6 +151,10 @@ fn walk_node(
     let start = at + 24;
     let head = &bytes[at..start];
     let h = header_at(head);
+    // Told before the kind is looked at, so that what that tells is tested at once.
+    if ill_sized(h.size, room) {
+        return Err(Reason::NodeSize.at(at));
+    }
     let standing = kinds::standing_of(around.kind, h.kind);
     check_header(h.size, room, standing, row, around.depth).map_err(|why| why.at(at))?;
     let size = h.size as usize;

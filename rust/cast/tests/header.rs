@@ -92,3 +92,15 @@ fn the_header_stands_alone_in_c_and_cpp() {
             .arg(header));
     }
 }
+
+/// The library needs one name from outside, which a program without a C library can give it.
+#[test]
+fn needs_memset_alone() {
+    let library = project("target/staticlib/libcast.a");
+    let told = run(Command::new("nm").arg("-u").arg(library));
+    let needed: Vec<&str> = told
+        .lines()
+        .filter_map(|line| line.trim().strip_prefix("U "))
+        .collect();
+    assert_eq!(needed, ["memset"]);
+}

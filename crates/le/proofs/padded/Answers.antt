@@ -1,13 +1,7 @@
--- `le::padded`: zeros after the bytes.
-use mathlib.Core.Path.{ap, ◌∙◌}
-use mathlib.Core.List.{◌++◌}
-use lib.ListN.{length, drop, replicate}
-use Rattle.le.specs.Le.{number_at}
-use Rattle.le.proofs.Laws.{number_at_padded}
+-- `le::padded`: the same bytes, place by place.
+use native.Mathlib.Omega.{arith}
+use Rattle.le.proofs.Laws.{number_at_same}
 use Rattle.le.proofs.padded.Goals as goal
 
 pub returns : goal.returns
-returns g c =
-    let l = c.args.bytes.now in
-    ap (λ k. number_at g.row.N (k ++ drop (length l) (replicate g.row.N 0)) 0) c.copy_from_slice.ensures.after
-    ∙ number_at_padded g.row.N (length l) g.row.N l
+returns g c = number_at_same g.row.N c.loop-i.all c.args.bytes.now (λ k h. c.loop-i.invariant.1 k (omega (arith, h)))

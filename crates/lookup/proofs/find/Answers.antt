@@ -69,11 +69,11 @@ returns-in_err-found c =
     (ap (λ f. shifted (r at).start (found_told f)) (sym c.in_err-found.was) ∙ finish at) in
     rw (p.1, p.2) (record { result = all.0; within = all.1.0; number = all.1.1.0; part = all.1.1.1 })
 
-pub overflow_add-first : goal.overflow_add-first
-overflow_add-first c = omega (arith, taken (goal.at.overflow_add-first c).In_ok-found)
+pub overflow_add-start : goal.overflow_add-start
+overflow_add-start c = omega (arith, taken (goal.at.overflow_add-start c).In_ok-found)
 
-pub overflow_add-last : goal.overflow_add-last
-overflow_add-last c = omega (arith, taken (goal.at.overflow_add-last c).In_ok-found)
+pub overflow_add-end : goal.overflow_add-end
+overflow_add-end c = omega (arith, taken (goal.at.overflow_add-end c).In_ok-found)
 
 pub returns : goal.returns
 returns c =

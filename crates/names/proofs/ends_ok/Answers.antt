@@ -8,13 +8,9 @@ use Rattle.names.specs.Names.{bytes_ok}
 use Rattle.names.proofs.Laws.{ends_are}
 use Rattle.names.proofs.ends_ok.Goals as goal
 
-pub slice_bounds-block_ok-end : goal.slice_bounds-block_ok-end
-slice_bounds-block_ok-end c =
-    sym (length-take-le c.args.k c.args.name.now c.requires.0)
-
 pub returns : goal.returns
 returns c =
     let k = c.args.k in
     let name = c.args.name.now in
-    rw (c.block_ok.ensures, c.block_ok-2.ensures ∙ ap bytes_ok (take_rest name (length name - k)))
+    rw (c.block_ok.ensures, c.block_ok-end_ok.ensures ∙ ap bytes_ok (take_rest name (length name - k)))
     (ends_are k name c.requires.0 c.requires.1)

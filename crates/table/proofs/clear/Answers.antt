@@ -7,7 +7,7 @@ use Rattle.table.proofs.Clearing.{has_room_fits, zeroed_filled, cleared_in, clea
 use Rattle.table.proofs.clear.Goals as goal
 
 pub slice_bounds-fill-end : goal.slice_bounds-fill-end
-slice_bounds-fill-end c = has_room_fits c.args.table.now (sym c.has_room.ensures ∙ c.if-has_room.true)
+slice_bounds-fill-end c = omega (arith, has_room_fits c.args.table.now (sym c.has_room.ensures ∙ c.if-has_room.true))
 
 pub slice_bounds-fill-end-then-has_room : goal.slice_bounds-fill-end-then-has_room
 slice_bounds-fill-end-then-has_room c = omega (arith, length-take {A = ℕ}, has_room_fits c.args.table.now (sym c.has_room.ensures ∙ c.if-has_room.true))

@@ -9,13 +9,14 @@ use lib.ListN.{length, take, drop, length-drop}
 use lib.Seq.{length-take-le}
 use Rattle.std.proofs.Common.{rules}
 use Rattle.std.proofs.lemmas.Result.{err_from_is_err_and}
+use Rattle.base.specs.declared.Reason.TheVariants.{NodeSize}
 use Rattle.base.specs.Refusals.{refused_or, number_in}
 use Rattle.base.proofs.Refusals.{goes_on, is_refused}
-use Rattle.kinds.specs.Kinds.{is_known}
+use Rattle.kinds.specs.Kinds.{is_known, standing_of}
 use Rattle.body.specs.Body.{passed_told}
-use Rattle.walk.specs.Walk.{header_at, node_refusal, too_many, inside}
+use Rattle.walk.specs.Walk.{header_at, ill_sized, node_refusal, too_many, inside}
 use Rattle.walk.specs.Private.{refusal_there, passed_at}
-use Rattle.walk.proofs.Cases.{Right, refusal_is, unknown_told, no_number, number_at_place, passes_there, not_deep}
+use Rattle.walk.proofs.Cases.{Right, ill, refusal_is, unknown_told, no_number, number_at_place, passes_there, not_deep}
 use Rattle.base.proofs.Refusals.{numbered}
 use Rattle.walk.proofs.Steps.{lost, came_to, going, turn, turn_refused, all_walked}
 use Rattle.walk.proofs.Nodes.{inside_is, children_are, header_front, over, full, no_room_lem, header_refused, passed_over, body_bad, ends, with_children, childless}
@@ -133,6 +134,17 @@ pub walk_node-returns-then-room-lt24 : goal.walk_node-returns-then-room-lt24
 walk_node-returns-then-room-lt24 t c =
     rw c.at.ensures (lost (no_room_lem _ _ _ _ _ _ _ (omega (arith, length-drop c.args.at c.args.bytes.now, c.if-room-lt24.true)) (omega arith)))
 
+pub walk_node-returns-then-ill_sized : goal.walk_node-returns-then-ill_sized
+walk_node-returns-then-ill_sized t c =
+    let a = c.args in
+    let h = c.header_at-h.result in
+    let all = length (drop a.at a.bytes.now) in
+    let sized : ill_sized h.size all ≡ true = ap (ill_sized h.size) (length-drop a.at a.bytes.now) ∙ sym c.ill_sized.ensures ∙ c.if-ill_sized.true in
+    let number : node_refusal h all a.around.kind a.row a.around.depth ≡ 5 =
+    refusal_is h all a.around.kind a.row a.around.depth refl (ill h.size all (standing_of a.around.kind h.kind) a.row a.around.depth sized) ∙ is_refused 5 5 (cond (too_many h.kind h.properties) 9 0) (numbered NodeSize) in
+    rw c.at-then-ill_sized.ensures
+    (lost (header_refused _ _ _ _ _ _ _ (header_is t (goal.at.walk_node-returns-then-ill_sized t c).After-header_at-h) (sym number) (numbered NodeSize) (omega arith)))
+
 pub walk_node-returns-in_err-map_err : goal.walk_node-returns-in_err-map_err
 walk_node-returns-in_err-map_err t c =
     let at = goal.at.walk_node-returns-in_err-map_err t c in
@@ -193,7 +205,7 @@ walk_node-returns-then-end-past t c =
     (lost
     (childless _ _ _ _ _ _ _ (header_is t at.After-header_at-h) (found t e) (judged t e)
     (known t at.Else-eq) (passed t at.In_ok-end) refl
-    c.if-h-eq0.true c.put_node-2.ensures (over _ _ c.if-end-past.true)))
+    c.if-h-eq0.true c.put_node-2.ensures (over _ _ (omega (arith, c.if-end-past.true)))))
 
 pub walk_node-returns-then-h-eq0 : goal.walk_node-returns-then-h-eq0
 walk_node-returns-then-h-eq0 t c =
@@ -201,7 +213,7 @@ walk_node-returns-then-h-eq0 t c =
     let e = at.In_ok-map_err in
     childless _ _ _ _ _ _ _ (header_is t at.After-header_at-h) (found t e) (judged t e)
     (known t at.Else-eq) (passed t at.In_ok-end) refl
-    c.if-h-eq0.true c.put_node-2.ensures (full _ _ c.if-end-past.false)
+    c.if-h-eq0.true c.put_node-2.ensures (full _ _ (omega (arith, c.if-end-past.false)))
 
 pub walk_node-invariant_of-inner : goal.walk_node-invariant_of-inner
 walk_node-invariant_of-inner t c = record { shallow = omega (arith, shallow t (goal.at.walk_node-invariant_of-inner t c).In_ok-map_err) }

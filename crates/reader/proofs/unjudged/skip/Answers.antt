@@ -15,6 +15,6 @@ loop-i-preserved c =
     let not : is_judged (row_at t i) ≡ false = ap is_judged (sym row) ∙ sym c.is_judged.ensures ∙ c.if-is_judged.false in
     record {
       unjudged = one_more (λ k. is_judged (row_at t k) ≡ false) c.args.from i l.unjudged not;
-      bytes = unknown_passed t c.args.nodes i c.loop-i-test.true row c.loop-i.unknown x.0 ∙ l.bytes;
+      bytes = omega (arith, unknown_passed t c.args.nodes i c.loop-i-test.true row c.loop-i.unknown x.0, l.bytes);
       small = omega (arith, l.small, x.1);
     }

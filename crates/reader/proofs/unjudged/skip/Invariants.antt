@@ -9,6 +9,6 @@ use Rattle.reader.proofs.unjudged.skip.Given as goal
 abbrev pub invariant-loop-i : goal.invariant-loop-i
 invariant-loop-i l = record {
   unjudged : (j : ℕ) → l.from ≤ j → j < l.i → is_judged (row_at l.table j) ≡ false;
-  bytes : l.unknown + own_unknown (rest l.table l.nodes l.i) ≡ l.before + own_unknown (rest l.table l.nodes l.from);
-  small : l.unknown ≤ l.i * 2 ^ 33;
+  bytes : l.before + l.unknown + own_unknown (rest l.table l.nodes l.i) ≡ l.before + own_unknown (rest l.table l.nodes l.from);
+  small : l.before + l.unknown ≤ l.i * 2 ^ 33;
 }
