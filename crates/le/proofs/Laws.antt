@@ -5,12 +5,11 @@ use native.Mathlib.Numerals.{add-one}
 use native.Mathlib.Nat.{zero-add, add-zero, suc-add, mul_assoc, mul_comm, pow-succ', div-one, div-div-eq-div-mul, mod-add-div, one-le-pow, mod-eq_of_lt, add-mul-mod_self_left, div-eq_of_lt, add-mul-div_left}
 use mathlib.Core.Path.{◌≡◌, refl, ap, sym, ◌∙◌}
 use mathlib.Core.List.{List, [], ◌∷◌, ◌++◌}
-use lib.ListN.{length, take, drop, get_or, replicate, drop_of_length-le, length-drop, take-append-drop}
+use lib.ListN.{length, take, drop, get_or, drop_of_length-le, length-drop, take-append-drop}
 use lib.Seq.{take-nil, take_all, take-take, get_or-drop, drop-drop}
 use Rattle.std.proofs.Math.Nat.{pow-suc}
 use Rattle.std.specs.Prelude.{slice_index}
 use Rattle.std.specs.Int.{byte_worth, sum_through, bytes_low_first}
-use Rattle.base.proofs.Stores.{zeros}
 use Rattle.le.specs.Le.{val, number_at, le, AreBytes}
 
 times_next : (n k : ℕ) → 256 ^ suc n * k ≡ 256 * (256 ^ n * k)

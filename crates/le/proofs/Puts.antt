@@ -4,10 +4,10 @@ use native.Mathlib.Omega.{arith}
 use native.Mathlib.Nat.{zero-add, add-zero}
 use mathlib.Core.Path.{◌≡◌, ap, sym, ◌∙◌}
 use mathlib.Core.Logic.{◌⊎◌, inl, inr}
-use mathlib.Core.List.{List, [], ◌++◌, append-nil, append_assoc}
+use mathlib.Core.List.{List, [], ◌++◌, append-nil}
 use lib.ListN.{length, take, drop, length-drop, drop_of_length-le}
 use lib.Dec.{ltb}
-use lib.Seq.{sets, sets-eq, take-length, take-add, length-take-le, drop-drop}
+use lib.Seq.{sets, sets-eq, take-length, take-add, length-take-le}
 use borrow.Rule.Slice.PartMut.{put_mid}
 use borrow.Author.Tests.{ltb-true, ltb-false}
 use Rattle.base.proofs.Tests.{by_test}
@@ -25,21 +25,6 @@ put_rest l at bytes {both} e =
     let stored : both ≡ sets (drop at l) 0 bytes = e ∙ ap (λ d. sets d 0 bytes) (rest_drop l at) in
     let none : drop (length l - at) (drop at l) ≡ [] = drop_of_length-le (drop at l) {i = length l - at} (simp length-drop (omega arith)) in
     rw (stored, none, append-nil) (sets_rest at bytes l 0 ∙ ap (λ k. sets l k bytes) (add-zero at))
-
--- as many bytes as have room
-pub put_fitting : (l : List ℕ) (at : ℕ) (bytes : List ℕ) (n : ℕ) → at ≤ length l → n ≡ min (length bytes) (length l - at) → {both : List ℕ} → both ≡ take n bytes
-    → put_mid at (at + n - at) l both ≡ sets l at bytes
-put_fitting l at bytes n h e {both} f =
-    let many : at + n - at ≡ n = omega arith in
-    let long : length (take n bytes) ≡ n = length-take-le n bytes (omega (arith, e)) in
-    let fits : at + length (take n bytes) ≤ length l = omega (arith, long, e, h) in
-    let whole : take at l ++ take n bytes ++ drop (at + length (take n bytes)) l ≡ put_mid at n l (take n bytes) =
-    rw (long, drop-drop n at l) (append_assoc (take at l) (take n bytes) (drop (at + n) l)) in
-    let all : sets l at (take n bytes) ≡ sets l at bytes =
-    by_test (ltb (length bytes) (length l - at))
-    (λ t. let k : n ≡ length bytes = omega (arith, e, ltb-true (length bytes) (length l - at) t) in ap (λ i. sets l at (take i bytes)) k ∙ ap (sets l at) (take-length bytes))
-    (λ t. sets_cut l at n bytes (omega (arith, e, h, ltb-false (length bytes) (length l - at) t))) in
-    rw (many, f) (sym whole ∙ sym (sets-eq (take n bytes) l at fits) ∙ all)
 
 -- bytes stored at the start, all there
 pub put_first : (l bytes : List ℕ) (n : ℕ) → length bytes ≡ n → n ≤ length l → bytes ++ drop n l ≡ sets l 0 bytes

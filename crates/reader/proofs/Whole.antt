@@ -42,6 +42,8 @@ use Rattle.reader.specs.Reading.{Accepted, Refused}
 use Rattle.reader.specs.Reading.{bones_under, ruled, own_known, own_unknown, checked, verdict, reading_of, table_left, table_after}
 use Rattle.reader.specs.Private.{Passed, RowOk, RowsOk, BonesCounted, JudgedAll, AllTo, left_after}
 use Rattle.reader.proofs.Bounds.{links_lie, resolved_lies}
+use Rattle.reader.proofs.Judging.{links_counted}
+use Rattle.reader.proofs.Charges.{resolved_counts}
 use Rattle.reader.proofs.Exactly.{short, checked_right}
 use Rattle.reader.proofs.Passing.{file_passed}
 use Rattle.reader.proofs.Linking.{links_refused, links_accepted}
@@ -155,6 +157,11 @@ module _ (s : List ℕ) (rs : List Row) {rules : Ruled} {unknown : ℕ} {l : Res
 pub links_full : (s : List ℕ) (rs : List Row) {rules : Ruled} {unknown : ℕ} {l : Result ℕ Refusal} {n : ℕ} → l ≡ Ok n → JudgedAll s rs rules (linked_told l) unknown
     → rules.number ≡ 0 → accepted_links n ≡ linked s rs
 links_full s rs {rules} {unknown} f j z = links_accepted (subst (λ x. JudgedAll s rs rules (linked_told x) unknown) f j) z refl
+
+-- of rows that pass with links that resolve, the rules have counted the links
+pub links_number : (s : List ℕ) (rs : List Row) → (ruled s rs rs).number ≡ 0 → (linked s rs).number ≡ 0 → (ruled s rs rs).links ≡ (linked s rs).links
+unfolding linked
+links_number s rs r l = links_counted s rs 0 rs r ∙ omega (arith, (resolved_counts 0 (links_of s rs) l).0)
 
 pub table_ok : (s t : List ℕ) (n : ℕ) → RowsOk s t n → Each (RowOk s n) (rows_at t 0 n)
 table_ok s t n h = each_rows (RowOk s n) t 0 n (λ i b. (let z : i ≡ 0 + i = omega arith in subst (λ j. RowOk s n (row_at t j)) z (h i b)))

@@ -42,11 +42,12 @@ pub struct Account {
 
 // ---- 13 to 15
 
-// What a row gives: the judgement of its node, and the links so far, of which the first that fails is kept.
+// What a row gives: the judgement of its node, and the links so far, of which the first that fails is kept. Their number is as wide as a
+// refusal's place: one stands where the other does, so that both are moved as one word.
 #[derive(Clone, Copy, Debug, PartialEq, Eq)]
 struct OfRow {
     judged: judge::Judged,
-    linked: Result<u32, Refusal>,
+    linked: Result<usize, Refusal>,
 }
 
 // The rules of the node in a row, which is known, by all lines, by the Bones under each row, and with buffers for what is noted of its
@@ -61,7 +62,7 @@ fn judge_row(
     keys: &mut [u64; 64],
     marks: &mut [u16; 1024],
     mark: u16,
-    linked: Result<u32, Refusal>,
+    linked: Result<usize, Refusal>,
     targets: Targets,
 ) -> Result<OfRow, Refusal>
     requires row { (lines_from lines.now ≡ allLines) × Passed file.now row × (is_known row.kind ≡ true) }
@@ -89,21 +90,23 @@ fn judge_row(
         marks,
         mark,
     )?;
-    let Ok(before) = linked else {
-        return Ok(OfRow { judged, linked });
-    };
     if judged.links == 0 {
         return Ok(OfRow { judged, linked });
     }
-    let n = row.properties as usize;
-    let properties = Properties {
-        lines: own,
-        start: row.start as usize,
-        body,
-        starts: &starts[..n],
-        numbers: &numbers[..n],
+    let linked = match linked {
+        Ok(before) => {
+            let n = row.properties as usize;
+            let properties = Properties {
+                lines: own,
+                start: row.start as usize,
+                body,
+                starts: &starts[..n],
+                numbers: &numbers[..n],
+            };
+            properties.links(targets, before)
+        }
+        failed => failed,
     };
-    let linked = properties.links(targets, before);
     Ok(OfRow { judged, linked })
 }
 
@@ -114,7 +117,7 @@ struct Judgement {
     faces: u64,
     degenerate: u64,
     links: u32,
-    linked: Result<u32, Refusal>,
+    linked: Result<usize, Refusal>,
     unknown: u64,
 }
 
@@ -255,7 +258,8 @@ fn all_rules(walked: Walked) -> Result<Judgement, Refusal>
 
 // ---- the answer
 
-// 13 to 17 of a file that was walked, its rows being the first of the table. The own bytes of its nodes and 16 are its length.
+// 13 to 17 of a file that was walked, its rows being the first of the table. The own bytes of its nodes and 16 are its length, and its links,
+// where they resolve, are those that the rules counted.
 fn checked(file: &[u8], table: &[u32], nodes: u32, flags: u32) -> Result<Account, Refusal>
     requires nodes_le_most_rows { (nodes ≤ most_rows) × RowsOk file.now table.now nodes × (length file.now ≤ most_bytes) × (flags ≡ flags_of file.now) }
     requires own { 16 + all_own_bytes (rows_at table.now 0 nodes) ≡ length file.now }
@@ -268,7 +272,7 @@ fn checked(file: &[u8], table: &[u32], nodes: u32, flags: u32) -> Result<Account
         nodes: nodes as usize,
     };
     let judged = all_rules(walked)?;
-    let links = judged.linked?;
+    judged.linked?;
     let unknown = judged.unknown;
     let known = file.len() as u64 - 16 - unknown;
     Ok(Account {
@@ -278,7 +282,7 @@ fn checked(file: &[u8], table: &[u32], nodes: u32, flags: u32) -> Result<Account
         unknown: format::OwnBytes(unknown),
         faces: faces::Faces(judged.faces),
         degenerate: judged.degenerate,
-        links,
+        links: judged.links,
     })
 }
 
@@ -287,10 +291,11 @@ fn leave(r: Result<Account, Refusal>, table: &mut [u32], nodes: usize) -> Result
     ensures result { result ≡ r }
     ensures table { table.new ≡ left_after (reading_told r) nodes table.old }
 {
-    match r {
-        Ok(_) => table::clear_from(table, nodes),
-        Err(_) => table::clear(table),
-    }
+    let kept = match r {
+        Ok(_) => nodes,
+        Err(_) => 0,
+    };
+    table::clear_from(table, kept);
     r
 }
 

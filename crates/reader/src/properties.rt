@@ -27,7 +27,7 @@ impl<'a> Properties<'a> {
     ghost use Rattle.reader.specs.Private.{target_count};
 
     // The links among them, after a given number of links before the node.
-    pub(crate) fn links(self, targets: Targets, before: u32) -> Result<u32, Refusal>
+    pub(crate) fn links(self, targets: Targets, before: usize) -> Result<usize, Refusal>
         requires { before + length self.starts.now < 2 ^ 32 }
         ensures result { linked_told result ≡ node_linked (target_count targets.entry)
             (lines_from self.entry.lines.now) self.entry.start self.entry.body.now before self.entry.starts.now }

@@ -8,7 +8,7 @@ use mathlib.Core.List.{List, [], ◌∷◌, ◌++◌, append-nil}
 use lib.ListN.{length, get_or}
 use Rattle.base.proofs.Tests.{by_test}
 use Rattle.names.specs.Names.{same, number_after}
-use Rattle.names.proofs.Laws.{same_eq, numbered_sound}
+use Rattle.names.proofs.Laws.{same_refl, same_eq, numbered_sound}
 use Rattle.rules.specs.Table.{Line}
 use Rattle.rules.specs.Rules.{is_number, lists}
 
@@ -31,3 +31,16 @@ lists_other name l h m =
     by_test l.numbered
     (λ t. rw t (is_no_number (number_after name l.name) (λ k q. other _ (numbered_sound name l.name k q).0)))
     (λ t. rw t (by_test (same name l.name) (λ s. absurd (other [] (same_eq name l.name s ∙ sym (append-nil l.name)))) (λ s. s)))
+
+-- a name of one letter, and a line that has the same letter alone
+one_letter : (xs : List ℕ) → length xs ≡ 1 → xs ≡ get_or xs 0 0 ∷ []
+one_letter [] e = absurd (omega (arith, e))
+one_letter (x ∷ []) e = refl
+one_letter (x ∷ y ∷ xs) e = absurd (omega (arith, e))
+
+pub lists_letter : (name : List ℕ) (l : Line) → length l.name ≡ 1 → length name ≡ 1 → l.numbered ≡ false → get_or l.name 0 0 ≡ get_or name 0 0
+    → lists l name ≡ true
+unfolding lists
+lists_letter name l e f n m =
+    let is : name ≡ l.name = one_letter name f ∙ ap (λ x. x ∷ []) (sym m) ∙ sym (one_letter l.name e) in
+    rw n (ap (λ x. same x l.name) is ∙ same_refl l.name)

@@ -98,7 +98,7 @@ fn has_whole_name(line: &Line, name: &[u8]) -> bool
 }
 
 // The same of a name that starts with this letter, or with zero where it is empty. Most lines of a kind differ in the first letter, so
-// that nothing else of them is read.
+// that nothing else of them is read; and of a name of one letter, as many listed ones are, there is nothing else.
 fn has_name(line: &Line, name: &[u8], letter: u8) -> bool
     requires { letter ≡ get_or name.now 0 0 }
     ensures { result ≡ lists (line_of line.now) name.now }
@@ -106,6 +106,9 @@ fn has_name(line: &Line, name: &[u8], letter: u8) -> bool
     let own = line.name;
     if !own.is_empty() && own[0] != letter {
         return false;
+    }
+    if own.len() == 1 && name.len() == 1 && !line.numbered {
+        return true;
     }
     has_whole_name(line, name)
 }

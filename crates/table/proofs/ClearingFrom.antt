@@ -1,7 +1,7 @@
 -- Laws of a table that is cleared from a row on.
 use Prim.Native.Nat.{ℕ, ◌+◌, ◌-◌, ◌*◌, ◌≤◌}
 use native.Mathlib.Omega.{arith}
-use mathlib.Core.Path.{◌≡◌, ap, sym, ◌∙◌}
+use mathlib.Core.Path.{◌≡◌, refl, ap, sym, ◌∙◌}
 use mathlib.Core.Bool.{Bool, true, false, ◌&&◌, and-eq-true_iff}
 use mathlib.Core.List.{List, append_assoc}
 use lib.ListN.{length, take, drop, replicate, length-drop}
@@ -10,7 +10,7 @@ use lib.Seq.{sets-eq, length-take-le, take_at, drop-drop}
 use borrow.Rule.Slice.PartMut.{put_mid}
 use borrow.Author.Tests.{leb-true, le-leb}
 use Rattle.table.specs.declared.Row.{Row}
-use Rattle.table.specs.Table.{put_rows, flat, has_room, cleared_from, filled}
+use Rattle.table.specs.Table.{put_rows, flat, has_room, zeroed, cleared, cleared_from, filled}
 use Rattle.base.proofs.Stores.{drop_sets}
 use Rattle.table.proofs.Rows.{put_rows_sets, length_put_rows, length_flat}
 use Rattle.table.proofs.Clearing.{has_room_fits, has_room_length}
@@ -35,6 +35,11 @@ module _ (k : ℕ) (t : List ℕ) {room : Bool} (e : room ≡ has_room t) where
   pub cleared_from_out : (leb k 1024 && room) ≡ false → t ≡ cleared_from k t
   unfolding cleared_from
   cleared_from_out b = rw (← e, b)
+
+-- from the first row on, that is all
+pub cleared_from_none : (t : List ℕ) → cleared_from 0 t ≡ cleared t
+unfolding cleared_from cleared zeroed
+cleared_from_none t = refl
 
 module _ (t : List ℕ) (rs : List Row) (h : has_room t ≡ true) (few : length rs ≤ 1024) where
   -- the rows put are kept, and so is what is after 8,192 numbers

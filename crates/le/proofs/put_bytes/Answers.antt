@@ -1,5 +1,4 @@
 -- `le::put_bytes`: as many as have room; nothing past the end.
-use native.Mathlib.Omega.{arith}
 use mathlib.Core.Path.{sym}
 use Rattle.le.proofs.Puts.{put_most}
 use Rattle.base.proofs.Stores.{sets_past}

@@ -1,8 +1,7 @@
 -- `names::ends_ok`: the two ends, which have every byte.
 use Prim.Native.Nat.{◌-◌}
-use mathlib.Core.Path.{sym, ap, ◌∙◌}
+use mathlib.Core.Path.{ap, ◌∙◌}
 use lib.ListN.{length}
-use lib.Seq.{length-take-le}
 use Rattle.std.proofs.lemmas.List.{take_rest}
 use Rattle.names.specs.Names.{bytes_ok}
 use Rattle.names.proofs.Laws.{ends_are}

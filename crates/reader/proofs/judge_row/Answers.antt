@@ -110,9 +110,9 @@ shared_ref_as_front-properties c =
     let j = (goal.at.shared_ref_as_front-properties c).After-judge in
     omega (arith, few j, (sizes j).0)
 
-pub shared_ref_as_front-properties-2 : goal.shared_ref_as_front-properties-2
-shared_ref_as_front-properties-2 c =
-    let j = (goal.at.shared_ref_as_front-properties-2 c).After-judge in
+pub shared_ref_as_front-properties-in-Ok : goal.shared_ref_as_front-properties-in-Ok
+shared_ref_as_front-properties-in-Ok c =
+    let j = (goal.at.shared_ref_as_front-properties-in-Ok c).After-judge in
     omega (arith, few j, (sizes j).1)
 
 pub invariant_of-properties-clause-within : goal.invariant_of-properties-clause-within
@@ -138,12 +138,12 @@ links-linked-requires c =
     let j = (goal.at.links-linked-requires c).After-judge in
     omega (arith, few j, length-take-le (count j) (starts j) (omega (arith, few j, (sizes j).0)), c.requires.before, ap (λ l. l.links) (before_told c.in-Ok.is))
 
-pub returns-clause-judged : goal.returns-clause-judged
-returns-clause-judged c = ap judged_told (sym c.in_ok-judged.was) ∙ judges (goal.at.returns-clause-judged c).After-judge
+pub returns-in-Ok-clause-judged : goal.returns-in-Ok-clause-judged
+returns-in-Ok-clause-judged c = ap judged_told (sym c.in_ok-judged.was) ∙ judges (goal.at.returns-in-Ok-clause-judged c).After-judge
 
-pub returns-clause-linked : goal.returns-clause-linked
-returns-clause-linked c =
-    let j = (goal.at.returns-clause-linked c).After-judge in
+pub returns-in-Ok-clause-linked : goal.returns-in-Ok-clause-linked
+returns-in-Ok-clause-linked c =
+    let j = (goal.at.returns-in-Ok-clause-linked c).After-judge in
     let a = c.args in
     let is = before_told c.in-Ok.is in
     let on = noted j (ap (λ r. (judged_told r).number) c.in_ok-judged.was) in
@@ -155,9 +155,9 @@ returns-clause-linked c =
           ∙ ap (λ l. row_linked counted a.file.now l.links a.row) (sym is),
     )
 
-pub returns-clause-links : goal.returns-clause-links
-returns-clause-links c =
-    let j = (goal.at.returns-clause-links c).After-judge in
+pub returns-in-Ok-clause-links : goal.returns-in-Ok-clause-links
+returns-in-Ok-clause-links c =
+    let j = (goal.at.returns-in-Ok-clause-links c).After-judge in
     omega (
       arith,
       c.links-linked.ensures.links,

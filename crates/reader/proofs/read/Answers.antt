@@ -105,7 +105,7 @@ returns-in-Ok c =
     record {
       result = gives;
       numbers = ap numbers_of gives;
-      table = x.table ∙ ap (λ n. left_after r n (left w)) (is w e).1 ∙ read.1;
+      table = x.table ∙ ap (λ n. left_after r n (left w)) (omega (arith, (is w e).1)) ∙ read.1;
       small = subst (λ a. Small (reading_told a)) (sym x.result) (small (file w) bytes r read.2);
       place = omega (arith, ap (λ a. (refusal_in a).place) x.result, c.checked-r.ensures.place);
     }

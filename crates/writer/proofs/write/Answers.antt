@@ -23,7 +23,7 @@ returns-in_err-judged c =
     let r = c.in_err-judged.field-0.0 in
     let p = err_from_is_err_and c.from_residual.result c.from_residual.ensures.1 in
     let all =
-    bad_row a.plan.now a.source.now a.flags a.out.now (sym c.is_plan.ensures ∙ c.if-not-is_plan.false) c.row_count-rows.ensures (ap refusal_in (sym c.in_err-judged.was) ∙ c.check-judged.ensures.result)
+    bad_row a.plan.now a.source.now a.flags a.out.now (sym c.is_plan.ensures ∙ c.if-not-is_plan.false) (omega (arith, c.row_count-rows.ensures)) (ap refusal_in (sym c.in_err-judged.was) ∙ c.check-judged.ensures.result)
     (numbered r.reason) refl in
     record { result = rw (p.1, p.2) all.0; output = all.1; place = rw (p.1, p.2) (rw c.in_err-judged.was at c.check-judged.ensures.bound) }
 
@@ -31,6 +31,6 @@ pub returns : goal.returns
 returns c =
     let a = c.args in
     let all =
-    emitted a.plan.now a.source.now a.flags a.out.now (sym c.is_plan.ensures ∙ c.if-not-is_plan.false) c.row_count-rows.ensures (ap refusal_in (sym c.in_ok-judged.was) ∙ c.check-judged.ensures.result)
-    refl c.emit.ensures.result c.emit.ensures.output in
+    emitted a.plan.now a.source.now a.flags a.out.now (sym c.is_plan.ensures ∙ c.if-not-is_plan.false) (omega (arith, c.row_count-rows.ensures)) (ap refusal_in (sym c.in_ok-judged.was) ∙ c.check-judged.ensures.result)
+    refl c.row_count-rows.ensures c.emit.ensures.result c.emit.ensures.output in
     record { result = all.0; output = all.1; place = omega (arith, c.emit.ensures.place) }

@@ -8,7 +8,7 @@ use Rattle.judge.specs.Judge.{Judged, judged_told}
 use Rattle.judge.specs.Private.{beside_from, kept_told, valued_to}
 use Rattle.judge.proofs.Values.{line_found, on_top, on_none, ended, faces_counted, faces_wrong, link_counted, other_counted, other_wrong, told_right, told_wrong, kept_wrong}
 use Rattle.judge.proofs.valued.valued.Goals as goal
-use Rattle.judge.proofs.valued.valued.Goals.{After-at-broken, After-faces_at, in-Faces+in_ok-counted-in-Faces, in-Link, in_default+in_ok-map_err-in_default}
+use Rattle.judge.proofs.valued.valued.Goals.{After-at-broken, in-Faces+in_ok-counted-in-Faces, in-Link, in_default+in_ok-map_err-in_default}
 
 pub loop-i-init : goal.loop-i-init
 loop-i-init c =
