@@ -1,4 +1,4 @@
--- A name with another first letter than a line's is not the line's.
+-- What the first letter of a name tells of a line: another one, that the name is not the line's; the same, of names of one letter, that it is.
 use Rattle.std.specs.Prelude.{Option, Some, None}
 use Prim.Native.Nat.{ℕ, ◌<◌}
 use native.Mathlib.Omega.{arith}
@@ -32,12 +32,12 @@ lists_other name l h m =
     (λ t. rw t (is_no_number (number_after name l.name) (λ k q. other _ (numbered_sound name l.name k q).0)))
     (λ t. rw t (by_test (same name l.name) (λ s. absurd (other [] (same_eq name l.name s ∙ sym (append-nil l.name)))) (λ s. s)))
 
--- a name of one letter, and a line that has the same letter alone
 one_letter : (xs : List ℕ) → length xs ≡ 1 → xs ≡ get_or xs 0 0 ∷ []
 one_letter [] e = absurd (omega (arith, e))
 one_letter (x ∷ []) e = refl
 one_letter (x ∷ y ∷ xs) e = absurd (omega (arith, e))
 
+-- a name of one letter, and a line that has the same letter alone
 pub lists_letter : (name : List ℕ) (l : Line) → length l.name ≡ 1 → length name ≡ 1 → l.numbered ≡ false → get_or l.name 0 0 ≡ get_or name 0 0
     → lists l name ≡ true
 unfolding lists

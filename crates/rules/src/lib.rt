@@ -98,7 +98,7 @@ fn has_whole_name(line: &Line, name: &[u8]) -> bool
 }
 
 // The same of a name that starts with this letter, or with zero where it is empty. Most lines of a kind differ in the first letter, so
-// that nothing else of them is read; and of a name of one letter, as many listed ones are, there is nothing else.
+// that nothing else of them is read; and the first letter of a name of one is all of it.
 fn has_name(line: &Line, name: &[u8], letter: u8) -> bool
     requires { letter ≡ get_or name.now 0 0 }
     ensures { result ≡ lists (line_of line.now) name.now }

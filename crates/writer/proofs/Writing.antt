@@ -66,8 +66,8 @@ module _ (plan s : List ℕ) (flags : ℕ) (out : List ℕ) where
 
       pub emitted : j.number ≡ 0 → {m : ℕ} → m ≡ row_count plan → {w : Written} {last : List ℕ} → w ≡ emission flags s (rows_at plan 0 (min m 1024)) (length out)
           → last ≡ output_of flags s (rows_at plan 0 (min m 1024)) out → Answers w last
-      emitted h all g k =
+      emitted h c g k =
           let same = goes_on plan s flags (length out) t (ap (λ (i : Refusal). i.number) (sym is_judged_lem) ∙ h) in (
-            g ∙ ap (λ rs. emission flags s rs (length out)) (all_rows all) ∙ sym same,
-            k ∙ ap (λ rs. output_of flags s rs out) (all_rows all) ∙ put_by same,
+            g ∙ ap (λ rs. emission flags s rs (length out)) (all_rows c) ∙ sym same,
+            k ∙ ap (λ rs. output_of flags s rs out) (all_rows c) ∙ put_by same,
           )

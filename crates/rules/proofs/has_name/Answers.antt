@@ -1,4 +1,4 @@
--- `rules::has_name`: another first letter, or the name as it stands, or with a number.
+-- `rules::has_name`: another first letter, the same letter alone, or the name as it stands, or with a number.
 use native.Mathlib.Omega.{arith}
 use mathlib.Core.Path.{sym, ◌∙◌}
 use borrow.Author.Tests.{eqb-true}
